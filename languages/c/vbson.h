@@ -290,19 +290,21 @@ static inline uint32_t vbson_first_rejected_line(uint32_t mode, const vbson_opti
     return vbson_first_rejected_line_nonnull(mode, vbson_options_or_init(options), block, len, number);
 }
 
-uint32_t vbson_same_nonnull(const vbson_options *options, const uint8_t *a, size_t a_len, const uint8_t *b, size_t b_len);
+uint32_t vbson_same_nonnull(const vbson_options *options, const uint8_t *left_input, size_t left_len,
+    const uint8_t *right_input, size_t right_len);
 
 /* Compares the values of two inputs. Arrays are compared element by element; documents are the same if they have the same
  * keys with the same values, in any order. VBSON_OK if the values are the same, VBSON_DIFFERENT if not; otherwise the error
- * of a, or that of b if a has none. VBSON_DOUBLES_FINITE: finite doubles are accepted, as by vbson_convert.
+ * of the left one, or that of the right one if the left one has none.
+ * VBSON_DOUBLES_FINITE: finite doubles are accepted, as by vbson_convert.
  * VBSON_DUPLICATE_KEYS_REJECT: an input is VBSON_NOT_EXTENDED_JSON if one of its objects has a duplicate key, at any depth.
  * VBSON_V1_ACCEPT: the objects {"$binary": .., "$type": ..} and {"$regex": .., "$options": ..}, and a $date with an offset
  * such as +0100, have their value of Extended JSON v1. VBSON_INVALID_ARGUMENT for VBSON_KEYS_AS_GIVEN, since the order of
  * keys changes nothing here.
  * VBSON_INVALID_ARGUMENT, VBSON_NOT_JSON, VBSON_BAD_OBJECT_ID, VBSON_NOT_EXTENDED_JSON, VBSON_OUT_OF_MEMORY. */
-static inline uint32_t vbson_same(const vbson_options *options, const uint8_t *a, size_t a_len, const uint8_t *b,
-        size_t b_len) {
-    return vbson_same_nonnull(vbson_options_or_init(options), a, a_len, b, b_len);
+static inline uint32_t vbson_same(const vbson_options *options, const uint8_t *left_input, size_t left_len,
+        const uint8_t *right_input, size_t right_len) {
+    return vbson_same_nonnull(vbson_options_or_init(options), left_input, left_len, right_input, right_len);
 }
 
 uint32_t vbson_hash_nonnull(const vbson_options *options, const uint8_t *text, size_t len, uint64_t *out);
@@ -342,16 +344,16 @@ static inline uint32_t vbson_explain_document(const vbson_options *options, cons
     return vbson_explain_document_nonnull(vbson_options_or_init(options), bytes, len, out);
 }
 
-uint32_t vbson_same_documents_nonnull(const vbson_options *options, const uint8_t *a, size_t a_len, const uint8_t *b,
-    size_t b_len);
+uint32_t vbson_same_documents_nonnull(const vbson_options *options, const uint8_t *left_input, size_t left_len,
+    const uint8_t *right_input, size_t right_len);
 
 /* Compares two documents, as vbson_same compares values, with the same options. BSON bytes have their doubles and no v1, so
  * VBSON_DOUBLES_FINITE and VBSON_V1_ACCEPT change nothing here. VBSON_DUPLICATE_KEYS_REJECT: bytes with a duplicate key in a
  * document, at any depth, are VBSON_NOT_A_DOCUMENT. VBSON_DIFFERENT if they are not the same.
  * VBSON_INVALID_ARGUMENT, VBSON_NOT_A_DOCUMENT, VBSON_OUT_OF_MEMORY. */
-static inline uint32_t vbson_same_documents(const vbson_options *options, const uint8_t *a, size_t a_len,
-        const uint8_t *b, size_t b_len) {
-    return vbson_same_documents_nonnull(vbson_options_or_init(options), a, a_len, b, b_len);
+static inline uint32_t vbson_same_documents(const vbson_options *options, const uint8_t *left_input, size_t left_len,
+        const uint8_t *right_input, size_t right_len) {
+    return vbson_same_documents_nonnull(vbson_options_or_init(options), left_input, left_len, right_input, right_len);
 }
 
 uint32_t vbson_hash_document_nonnull(const vbson_options *options, const uint8_t *bytes, size_t len, uint64_t *out);
@@ -522,9 +524,9 @@ uint32_t vbson_raw_binary(const vbson_raw_value *value, uint32_t *subtype, vbson
  *
  * A builder appends elements to documents in the caller's memory. The calls allocate nothing. If the memory is too small, a
  * call changes nothing but builder->needed, and returns VBSON_BUFFER_TOO_SMALL; vbson_builder_reserve makes it larger.
- * Documents nest: keep the start that each begin call sets, and pass it to vbson_document_end. A finished document is the
- * bytes from its start up to builder->len, and the next one can follow it. The bytes are canonical if the keys of each array
- * are "0", "1", "2" .. in this order, and no key of a document is appended twice. */
+ * Documents nest: keep the start offset that each begin call sets, and pass it to vbson_document_end. A finished document
+ * is the bytes from its start up to builder->len, and the next one can follow it. The bytes are canonical if the keys of each
+ * array are "0", "1", "2" .. in this order, and no key of a document is appended twice. */
 typedef struct vbson_builder {
     uint8_t *bytes; /* the memory of the caller */
     size_t size;    /* the size of the memory */
@@ -556,20 +558,20 @@ static inline void vbson_builder_free(vbson_builder *builder) {
     builder->size = builder->len = builder->needed = 0;
 }
 
-/* Begins a document, and sets *start to its position. VBSON_BUFFER_TOO_SMALL. */
-uint32_t vbson_document_begin(vbson_builder *builder, size_t *start);
+/* Begins a document, and sets *start_offset to its position. VBSON_BUFFER_TOO_SMALL. */
+uint32_t vbson_document_begin(vbson_builder *builder, size_t *start_offset);
 
 /* Ends the document or the array that begins at the start: writes its length. VBSON_INVALID_ARGUMENT if the builder has
  * fewer than four bytes from the start on. VBSON_TOO_LONG, VBSON_BUFFER_TOO_SMALL. */
-uint32_t vbson_document_end(vbson_builder *builder, size_t start);
+uint32_t vbson_document_end(vbson_builder *builder, size_t start_offset);
 
-/* Appends a key, and begins a document as its value. *start is set for vbson_document_end.
+/* Appends a key, and begins a document as its value. *start_offset is set for vbson_document_end.
  * VBSON_INVALID_STRING if the key is not UTF-8. VBSON_ZERO_IN_KEY, VBSON_BUFFER_TOO_SMALL. */
-uint32_t vbson_append_document_begin(vbson_builder *builder, const uint8_t *key, size_t key_len, size_t *start);
+uint32_t vbson_append_document_begin(vbson_builder *builder, const uint8_t *key, size_t key_len, size_t *start_offset);
 
-/* Appends a key, and begins an array as its value. *start is set for vbson_document_end.
+/* Appends a key, and begins an array as its value. *start_offset is set for vbson_document_end.
  * VBSON_INVALID_STRING if the key is not UTF-8. VBSON_ZERO_IN_KEY, VBSON_BUFFER_TOO_SMALL. */
-uint32_t vbson_append_array_begin(vbson_builder *builder, const uint8_t *key, size_t key_len, size_t *start);
+uint32_t vbson_append_array_begin(vbson_builder *builder, const uint8_t *key, size_t key_len, size_t *start_offset);
 
 /* Appends a key and a value of the caller's bytes, for example of another document. Its first len bytes are copied, and not
  * checked. VBSON_INVALID_ARGUMENT if its type is not one of vbson_type, or its len is greater than its size.

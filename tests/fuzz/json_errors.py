@@ -90,7 +90,7 @@ class Reader:
             raise Broken(at, string_rule(self.text, at))
         if is_key or first in "'`":
             raise Broken(at, 'Quotes')
-        raise Broken(at, 'Number' if first in '0123456789-+.' else 'NoValue')
+        raise Broken(at, 'Number' if first in '0123456789-+.' else 'ExpectedValue')
 
     def word_end(self, at):
         """The place after the literal or the number that begins here, or None if there is none."""

@@ -3,6 +3,9 @@ that they need.
 
 A step that looks at every key so far for each key would need 64 times as long for a text that is eight times as large.
 """
+import math
+import time
+
 from many_keys import encoded
 
 # The commands of bson_program that read texts, and those that read BSON, from standard input, which is a file.
@@ -25,6 +28,9 @@ PARTS = 8
 BOUND = 8.5
 ALLOWED = 0.1
 RUNS = 3
+ATTEMPTS = 5
+# The seconds between two attempts.
+PAUSE = 2
 MEMBER = len('"000000":0,')
 # As many keys make an object whose members are put in order at its end.
 CYCLE = 40
@@ -129,8 +135,14 @@ def documents(size):
 def fault(seconds_of, part, whole):
     """What is wrong with the time of the whole text compared with that of the part; None if it is within the bound.
 
-    `seconds_of` returns the processor seconds of one run over a text. The least of several runs counts.
+    `seconds_of` returns the processor seconds of one run over a text. The least of several runs counts. If that is over the
+    bound, both texts are run again after a pause, since other work on the machine slows down some runs, and not all.
     """
-    limit = BOUND * min(seconds_of(part) for _ in range(RUNS)) + ALLOWED
-    found = min(seconds_of(whole) for _ in range(RUNS))
-    return f"{found:.2f} s for {len(whole)} bytes, and not {limit:.2f} s" if found > limit else None
+    least, found = math.inf, math.inf
+    for attempt in range(ATTEMPTS):
+        time.sleep(PAUSE if attempt else 0)
+        least = min(least, *(seconds_of(part) for _ in range(RUNS)))
+        found = min(found, *(seconds_of(whole) for _ in range(RUNS)))
+        if found <= BOUND * least + ALLOWED:
+            return None
+    return f"{found:.2f} s for {len(whole)} bytes, and not {BOUND * least + ALLOWED:.2f} s"

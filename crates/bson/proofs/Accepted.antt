@@ -5,7 +5,7 @@ use Rattle.serde_json.specs.Data.{Data}
 use Rattle.serde_json.specs.Read.{read}
 use Rattle.bson_scalar.specs.declared.form.Doubles.{Doubles}
 use Rattle.bson_model.specs.Means.{MeansIn}
-use Rattle.bson_model.specs.Normal.{InRange}
+use Rattle.bson_model.specs.Normal.{NumbersInRange}
 use Rattle.bson_model.specs.Texts.{ValueRoundTripsIn}
 use Rattle.bson_model.specs.Value.{Value}
 use Rattle.bson_model.proofs.Offered.{in_range_in, read_comes_back_in, read_tree}
@@ -37,6 +37,6 @@ module _ (D : Doubles) where
   came_back see bytes (Err e) h = tt
 
   pub is_ranged : {X E : Type 0} (see : X → Value) (bytes : List ℕ) (r : Result X E)
-      → IfOk r (λ x. HasTextMeaningIn D bytes (see x)) → IfOk r (λ x. InRange (see x))
+      → IfOk r (λ x. HasTextMeaningIn D bytes (see x)) → IfOk r (λ x. NumbersInRange (see x))
   is_ranged see bytes (Ok x) h = in_range_in D h.meaning.means (read_tree bytes h.tree h.text.tree_read)
   is_ranged see bytes (Err e) h = tt

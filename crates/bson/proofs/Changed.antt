@@ -26,7 +26,7 @@ module _ {V : Type 0} where
   drop-after (p ∷ ps) zero w = refl
   drop-after (p ∷ ps) (suc i) w = drop-after ps i w
 
-  -- what is behind the written pair stays
+  -- what is after the written pair stays
   pub drop-with : (ps : List (List ℕ × V)) (i : ℕ) (w : V) → drop (i + 1) (with_value ps i w) ≡ drop (i + 1) ps
   drop-with ps i w = ap (λ n. drop n (with_value ps i w)) (add-one i) ∙ drop-after ps i w
       ∙ ap (λ n. drop n ps) (sym (add-one i))

@@ -1,9 +1,9 @@
--- Copies of pairs, seen by their values, and pairs put in turn.
+-- Copies of pairs, seen by their values, and pairs inserted in turn.
 use Rattle.std.proofs.Common.{◌≡◌, ℕ, suc, ◌+◌, cond, List, [], ◌∷◌, ◌++◌, map, take, None, Some, option_map, slice_get}
 use Rattle.std.proofs.Common.{String, Global, string_bytes, refl, sym, ap, ◌∙◌}
 use Rattle.std.specs.Str.{bytes_eq}
 use Rattle.bson_store.specs.Pairs.{position_of, insert_pair, keys, values, HasDistinctKeys}
-use Rattle.bson.specs.InsertedPairs.{put_all}
+use Rattle.bson.specs.InsertedPairs.{insert_all_pairs}
 use Rattle.bson_store.proofs.Offered.{absent-before, take-next}
 use Rattle.bson_model.specs.Value.{Value}
 use Rattle.bson.specs.View.{bson_view}
@@ -39,6 +39,6 @@ module _ (copies ps : List (List ℕ × Bson)) (i : ℕ) (key k : List ℕ) (v :
       ∙ ap viewed (sym (take-next ps i (k, v) (pair_from ps i k v at_k at_v)))
 
 pub put_all-push : {V : Type 0} (xs : List (String Global × V)) (x : String Global × V) (ps : List (List ℕ × V))
-    → put_all (xs ++ x ∷ []) ps ≡ insert_pair (string_bytes x.0) x.1 (put_all xs ps)
+    → insert_all_pairs (xs ++ x ∷ []) ps ≡ insert_pair (string_bytes x.0) x.1 (insert_all_pairs xs ps)
 put_all-push [] x ps = refl
 put_all-push (y ∷ xs) x ps = put_all-push xs x (insert_pair (string_bytes y.0) y.1 ps)

@@ -1,4 +1,4 @@
--- Texts of scalars that are written token by token, and the room that they take.
+-- Texts of scalars that are written token by token, and the memory that they need.
 use Rattle.std.proofs.Common.{◌≡◌, ℕ, ◌<◌, ◌^◌, ◌==◌, codes, List, [], ◌∷◌, ◌++◌, Bool, true, false, cond, Option, Some, None, Result, Ok, Err}
 use Rattle.std.proofs.Common.{from_bits, to_bits, refl, sym, subst, inr, arith, ◌+◌}
 use Rattle.std.specs.Float.{Float, binary64}
@@ -12,23 +12,23 @@ use Rattle.serde_json.specs.Data.{Data}
 use Rattle.bson_scalar.specs.Doubles.{double_text, double_tree, normal_double, is_nan, is_minus_nan}
 use Rattle.bson_scalar.specs.Scalar.{double}
 use Rattle.bson_scalar.specs.TreeText.{IsDouble, float_text}
-use Rattle.bson_scalar.specs.Tokens.{Puts}
+use Rattle.bson_scalar.specs.Tokens.{AppendsTreeTokens}
 use Rattle.bson_scalar.specs.Written.{double_writes_in, WriteFault, WrittenDoubleIn}
 use Rattle.bson_scalar.specs.declared.form.Doubles.TheVariants.{Finite}
 use Rattle.bson_scalar.specs.declared.form.Form.TheVariants.{Canonical}
 use Rattle.bson_scalar.specs.declared.write_error.WriteError.{WriteError}
 use Rattle.bson_scalar.specs.declared.write_error.WriteError.TheVariants.{OutOfMemory}
-use Rattle.bson.specs.OutputCapacity.{Spends, SpendsOrStops}
-use Rattle.bson.specs.Texts.{Prints}
+use Rattle.bson.specs.OutputCapacity.{StaysWithinCapacity, StaysWithinCapacityOrStops}
+use Rattle.bson.specs.Texts.{AppendsPrintedTokens}
 use Rattle.bson_scalar.proofs.Offered.{in_turn, pattern_is_double, written_to}
 
 -- one more token
 pub then : (old ts mid new : List Token) (t : Token) → mid ≡ old ++ ts → new ≡ mid ++ t ∷ [] → new ≡ old ++ (ts ++ t ∷ [])
 then old ts mid new t p q = in_turn old ts mid (t ∷ []) new p q
 
--- what is put is printed
-pub prints_put : (r : Result (Unit {0}) WriteError) (w : Result Data WriteFault) (old new : List Token) → Puts r w old new
-    → Prints (λ t. t) r w old new
+-- what is written is printed
+pub prints_put : (r : Result (Unit {0}) WriteError) (w : Result Data WriteFault) (old new : List Token) → AppendsTreeTokens r w old new
+    → AppendsPrintedTokens (λ t. t) r w old new
 prints_put (Ok done) (Ok t) old new h = (t, refl, h)
 prints_put (Ok done) (Err e) old new h = absurd h
 prints_put (Err e) w old new h = h
@@ -39,13 +39,13 @@ holds_on_ok (Err e) h = tt
 
 -- ---- the room
 
-pub one_token : {E : Type 0} (r : Result (Unit {0}) E) (old new n : ℕ) → UsesSpare r old new n → Spends r old new (n + 0)
+pub one_token : {E : Type 0} (r : Result (Unit {0}) E) (old new n : ℕ) → UsesSpare r old new n → StaysWithinCapacity r old new (n + 0)
 one_token (Ok done) old new n h = omega arith
 one_token (Err e) old new n h = omega (arith, h.0)
 
 -- memory was wanting
 pub wanting : (r : Result (Unit {0}) WriteError) (old new n : ℕ)
-    → ((e : WriteError) × (r ≡ Err e) × (e ≡ OutOfMemory)) → old < n → SpendsOrStops r old new n
+    → ((e : WriteError) × (r ≡ Err e) × (e ≡ OutOfMemory)) → old < n → StaysWithinCapacityOrStops r old new n
 wanting r old new n p h = rw (p.1, p.2) h
 
 -- ---- doubles

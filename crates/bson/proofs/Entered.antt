@@ -1,4 +1,4 @@
--- Entries put in turn are the pairs that they stand for, put in turn.
+-- Entries inserted in turn are the pairs that they represent, inserted in turn.
 use Rattle.std.proofs.Common.{◌≡◌, ℕ, List, [], ◌∷◌, string_bytes, refl}
 use Rattle.bson_store.specs.Pairs.{insert_pair, insert_pairs}
 use Rattle.bson_store.specs.KeyIndex.{stored_pairs}

@@ -15,7 +15,7 @@ module _ {X : Type 0} where
   join_by-map f sep [] = refl
   join_by-map f sep (x ∷ xs) = ap (λ l. f x ++ l) (flat_map-map (λ t. sep ++ t) f xs)
 
-  -- what stands before the text that follows these
+  -- what precedes the text that follows these
   between : List ℕ → List X → List ℕ
   between sep [] = []
   between sep (x ∷ xs) = sep

@@ -6,38 +6,38 @@ use Rattle.bson_scalar.specs.declared.form.Doubles.{Doubles}
 use Rattle.bson_scalar.specs.declared.form.Form.{Form}
 use Rattle.bson_model.specs.Value.{Value, scalar, code_scope, Values, no_values, value, Pairs, no_pairs, pair}
 use Rattle.bson_model.specs.Value as model
-use Rattle.bson_model.specs.Writing.{writes_in, writes_items_in, writes_pairs_in, with_scope}
-use Rattle.bson_model.specs.OrderedWriting.{writes_in_order, values_in_order, pairs_in_order}
-use Rattle.bson.specs.KeyOrders.{writes_by, writes_items_by, writes_pairs_by}
+use Rattle.bson_model.specs.Writing.{writes_value_in, writes_items_in, writes_pairs_in, with_scope}
+use Rattle.bson_model.specs.OrderedWriting.{writes_value_in_order, writes_items_in_order, writes_pairs_in_order}
+use Rattle.bson.specs.KeyOrders.{writes_in_key_order, writes_items_in_key_order, writes_pairs_in_key_order}
 use Rattle.bson.specs.declared.extjson.key_order.KeyOrder.TheVariants.{Ascending, AsGiven}
 
 module _ (D : Doubles) (f : Form) where
   mutual
-    pub ascending_is : (v : Value) → writes_by Ascending D f v ≡ writes_in D f v
+    pub ascending_is : (v : Value) → writes_in_key_order Ascending D f v ≡ writes_value_in D f v
     ascending_is (scalar x) = refl
     ascending_is (code_scope s ps) = ap (λ r. r >>= λ ms. Ok (with_scope s ms)) (ascending_pairs ps)
     ascending_is (model.array vs) = ap (λ r. r >>= λ ds. Ok (array ds)) (ascending_items vs)
     ascending_is (model.document ps) = ap (λ r. r >>= λ ms. Ok (object ms)) (ascending_pairs ps)
 
-    ascending_items : (vs : Values) → writes_items_by Ascending D f vs ≡ writes_items_in D f vs
+    ascending_items : (vs : Values) → writes_items_in_key_order Ascending D f vs ≡ writes_items_in D f vs
     ascending_items no_values = refl
     ascending_items (value v vs) = rw (ascending_is v, ascending_items vs) refl
 
-    ascending_pairs : (ps : Pairs) → writes_pairs_by Ascending D f ps ≡ writes_pairs_in D f ps
+    ascending_pairs : (ps : Pairs) → writes_pairs_in_key_order Ascending D f ps ≡ writes_pairs_in D f ps
     ascending_pairs no_pairs = refl
     ascending_pairs (pair k v ps) = rw (ascending_is v, ascending_pairs ps) refl
 
   mutual
-    pub as_given_is : (v : Value) → writes_by AsGiven D f v ≡ writes_in_order D f v
+    pub as_given_is : (v : Value) → writes_in_key_order AsGiven D f v ≡ writes_value_in_order D f v
     as_given_is (scalar x) = refl
     as_given_is (code_scope s ps) = ap (λ r. r >>= λ ms. Ok (with_scope s ms)) (as_given_pairs ps)
     as_given_is (model.array vs) = ap (λ r. r >>= λ ds. Ok (array ds)) (as_given_items vs)
     as_given_is (model.document ps) = ap (λ r. r >>= λ ms. Ok (object ms)) (as_given_pairs ps)
 
-    as_given_items : (vs : Values) → writes_items_by AsGiven D f vs ≡ values_in_order D f vs
+    as_given_items : (vs : Values) → writes_items_in_key_order AsGiven D f vs ≡ writes_items_in_order D f vs
     as_given_items no_values = refl
     as_given_items (value v vs) = rw (as_given_is v, as_given_items vs) refl
 
-    as_given_pairs : (ps : Pairs) → writes_pairs_by AsGiven D f ps ≡ pairs_in_order D f ps
+    as_given_pairs : (ps : Pairs) → writes_pairs_in_key_order AsGiven D f ps ≡ writes_pairs_in_order D f ps
     as_given_pairs no_pairs = refl
     as_given_pairs (pair k v ps) = rw (as_given_is v, as_given_pairs ps) refl

@@ -3,7 +3,7 @@ use Rattle.std.proofs.Common.{◌≡◌, ℕ, List, Result, Ok, Err, Some, IfOk,
 use Rattle.std.specs.Prelude.{IsUtf8}
 use Rattle.serde_json.specs.Data.{Data}
 use Rattle.bson_scalar.specs.declared.form.Doubles.{Doubles}
-use Rattle.bson_model.specs.Normal.{InRange}
+use Rattle.bson_model.specs.Normal.{NumbersInRange}
 use Rattle.bson_model.specs.Sorted.{sorted}
 use Rattle.bson_model.specs.Value.{Value}
 use Rattle.bson_model.specs.OrderedTrees.{tree_sorted_by_key}
@@ -11,7 +11,7 @@ use Rattle.bson_model.proofs.OfferedInOrder.{forgets, read_forgotten, comes_back
 use Rattle.bson_tokens.specs.Normalized.{IsNormalizedText}
 use Rattle.bson_tokens.specs.declared.arrangement.Arrangement.TheVariants as normalized
 use Rattle.bson_tokens.proofs.Offered.{text_read, meant_in_order}
-use Rattle.bson.specs.TextMeaning.{IsTextOf, HasTextMeaningIn, HasTextMeaningBy, IsTextFaultIn, TextMeansBy, ComesBackBy}
+use Rattle.bson.specs.TextMeaning.{IsTextOf, HasTextMeaningIn, HasTextMeaningInKeyOrder, IsTextFaultIn, TextMeansInKeyOrder, RoundTripsInKeyOrder}
 use Rattle.bson.specs.declared.extjson.key_order.KeyOrder.{KeyOrder}
 use Rattle.bson.specs.declared.extjson.key_order.KeyOrder.TheVariants.{Ascending, AsGiven}
 use Rattle.bson.specs.declared.extjson.text_error.TextError.{TextError}
@@ -32,27 +32,27 @@ module _ (D : Doubles) (text : List ℕ) (utf8 : IsUtf8 text) where
   }
 
   pub meant_by_first_places : (written : List ℕ) (v : Value) → IsNormalizedText normalized.FirstPositions text written
-      → HasTextMeaningBy AsGiven D written v → HasTextMeaningBy AsGiven D text v
+      → HasTextMeaningInKeyOrder AsGiven D written v → HasTextMeaningInKeyOrder AsGiven D text v
   meant_by_first_places written v is means = (utf8, (meant_in_order D text written v is).0 means.1)
 
 -- ---- what was read in either order
 
 module _ (D : Doubles) {X : Type 0} (see : X → Value) (bytes : List ℕ) where
-  pub ranged_by : (o : KeyOrder) (r : Result X TextError) → IfOk r (λ x. HasTextMeaningBy o D bytes (see x))
-      → IfOk r (λ x. InRange (see x))
+  pub ranged_by : (o : KeyOrder) (r : Result X TextError) → IfOk r (λ x. HasTextMeaningInKeyOrder o D bytes (see x))
+      → IfOk r (λ x. NumbersInRange (see x))
   ranged_by Ascending r h = is_ranged D see bytes r h
-  ranged_by AsGiven (Ok x) h = h.1.ranged
+  ranged_by AsGiven (Ok x) h = h.1.within_type_range
   ranged_by AsGiven (Err e) h = tt
 
-  pub back_by : (o : KeyOrder) (r : Result X TextError) → IfOk r (λ x. HasTextMeaningBy o D bytes (see x))
-      → IfOk r (λ x. ComesBackBy o D (see x))
+  pub back_by : (o : KeyOrder) (r : Result X TextError) → IfOk r (λ x. HasTextMeaningInKeyOrder o D bytes (see x))
+      → IfOk r (λ x. RoundTripsInKeyOrder o D (see x))
   back_by Ascending r h = came_back D see bytes r h
   back_by AsGiven (Ok x) h = comes_back D (see x) bytes h.1
   back_by AsGiven (Err e) h = tt
 
   -- a text that has a meaning in the order is not refused
   pub accepted_by : (o : KeyOrder) (r : Result X TextError) → IfErr r (λ e. IsTextFaultIn D bytes e) → (v : Value)
-      → TextMeansBy o D bytes v → IfErr r (λ e. e ≡ OutOfMemory)
+      → TextMeansInKeyOrder o D bytes v → IfErr r (λ e. e ≡ OutOfMemory)
   accepted_by Ascending r fault v means = accepted D bytes r fault means.0 v means.1 means.2
   accepted_by AsGiven r fault v means =
       let by_default : IsTextOf bytes (tree_sorted_by_key means.0) =

@@ -14,7 +14,7 @@ use Rattle.bson.specs.SortedMembers.{Member, member, pairs_of_members, IsKeyAt, 
 abbrev pub key_at : List Member → ℕ → Member → List ℕ
 key_at ms i d = string_bytes (get_or ms i d).key
 
--- the keys behind a place are above the one there
+-- the keys after a place are above the one there
 above_first : (k : List ℕ) (ms : List Member) (i : ℕ) (d : Member) → IsBelowKeys k (pairs_of_members ms) → i < length ms
     → slice_cmp nat_cmp k (key_at ms i d) ≡ Less
 above_first k [] i d a l = absurd (omega arith)
@@ -89,7 +89,7 @@ fits_within k [] (suc i) h = absurd h
 fits_within k (m ∷ ms) zero h = omega arith
 fits_within k (m ∷ ms) (suc i) h = omega (arith, fits_within k ms i h.1)
 
--- how many are left behind the next
+-- how many are left after the next
 pub one_left : {X : Type 0} (xs ys : List X) (x : X) (n m : ℕ) → n ≡ length xs → xs ≡ x ∷ ys → m + 1 ≡ n
     → m ≡ length ys
 one_left xs ys x n m all steps gone = let short = ap length steps in omega arith

@@ -1,4 +1,4 @@
--- Members put by ascending key, and a store whose keys ascend.
+-- Members inserted by ascending key, and a store whose keys ascend.
 use Rattle.std.proofs.Common.{◌≡◌, ℕ, List, [], ◌∷◌, Less, string_bytes, refl, sym, ap, ◌∙◌, subst}
 use Rattle.std.specs.List.{AllByRecursion}
 use Rattle.std.specs.List.Sorted.{IsStrictlySortedBy}
@@ -22,7 +22,7 @@ as_collected : (ms : List Member) → pairs_of member_key member_value ms ≡ pa
 as_collected [] = refl
 as_collected (m ∷ ms) = ap (pair (member_key m) (member_value m)) (as_collected ms)
 
--- members that ascend are put as they stand
+-- members that ascend are inserted unchanged
 pub put_collected : (ms : List Member) → KeysAscend (pairs_of_members ms) → insert_members ms no_pairs ≡ pairs_of_members ms
 put_collected ms up =
     put_ascending member_key member_value ms (subst KeysAscend (sym (as_collected ms)) up) ∙ as_collected ms

@@ -5,8 +5,8 @@ use Rattle.json.specs.Token.{Token}
 use Rattle.serde_json.specs.Data.{Data}
 use Rattle.bson_scalar.specs.Normal.{writable_scalar_in}
 use Rattle.bson_scalar.specs.Scalar.{Scalar}
-use Rattle.bson_scalar.specs.Tokens.{Puts}
-use Rattle.bson_scalar.specs.Written.{Stops, Writes, writes_scalar_in}
+use Rattle.bson_scalar.specs.Tokens.{AppendsTreeTokens}
+use Rattle.bson_scalar.specs.Written.{IsWriteFailureOf, IsWriteResult, writes_scalar_in}
 use Rattle.bson_scalar.specs.declared.form.Doubles.{Doubles}
 use Rattle.bson_scalar.specs.declared.form.Doubles.TheVariants.{Special, Finite}
 use Rattle.bson_scalar.specs.declared.form.Form.{Form}
@@ -17,18 +17,18 @@ use Rattle.bson.specs.Texts.{IsWriteErrorIn}
 
 -- a scalar that has a text where finite doubles are written stops no writer there
 stopped : (D : Doubles) (f : Form) (x : Scalar) (e : WriteError) → writable_scalar_in Finite x ≡ true
-    → Stops e (writes_scalar_in D f x) → IsWriteErrorIn D e
+    → IsWriteFailureOf e (writes_scalar_in D f x) → IsWriteErrorIn D e
 stopped D f x OutOfMemory some h = tt
 stopped Special f x FiniteDouble some h = tt
 stopped Finite f x FiniteDouble some h =
     let is = sym (ap is_ok h) ∙ writable_is Finite f x ∙ some in cc
 
 pub written_stopped : (D : Doubles) (f : Form) (x : Scalar) {X : Type 0} (see : X → Data) (r : Result X WriteError)
-    → writable_scalar_in Finite x ≡ true → Writes see r (writes_scalar_in D f x) → IfErr r (IsWriteErrorIn D)
+    → writable_scalar_in Finite x ≡ true → IsWriteResult see r (writes_scalar_in D f x) → IfErr r (IsWriteErrorIn D)
 written_stopped D f x see (Ok t) some h = tt
 written_stopped D f x see (Err e) some h = stopped D f x e some h
 
 pub put_stopped : (D : Doubles) (f : Form) (x : Scalar) (old new : List Token) (r : Result (Unit {0}) WriteError)
-    → writable_scalar_in Finite x ≡ true → Puts r (writes_scalar_in D f x) old new → IfErr r (IsWriteErrorIn D)
+    → writable_scalar_in Finite x ≡ true → AppendsTreeTokens r (writes_scalar_in D f x) old new → IfErr r (IsWriteErrorIn D)
 put_stopped D f x old new (Ok done) some h = tt
 put_stopped D f x old new (Err e) some h = stopped D f x e some h

@@ -4,8 +4,8 @@ use Rattle.std.proofs.Common.{take}
 use Rattle.std.proofs.Common.{codes, refl, ap}
 use Rattle.std.specs.List.{join_by}
 use Rattle.bson_model.specs.Value.{array, document}
-use Rattle.bson_model.specs.Displayed.{display_text, item_texts, entry_texts, entry}
-use Rattle.bson_model.specs.Pretty.{pretty, item_lines, entry_lines, closing}
+use Rattle.bson_model.specs.Displayed.{display_text, item_texts, entry_texts, displayed_entry}
+use Rattle.bson_model.specs.Pretty.{pretty_text, item_lines, entry_lines, closing_line}
 use Rattle.bson.specs.PrettyLines.{item_line, entry_line}
 use Rattle.bson.specs.View.{bson_view, values_view, pairs_view}
 use Rattle.bson.specs.declared.bson.Bson.{Bson}
@@ -16,7 +16,7 @@ abbrev pub item_text : Bson → List ℕ
 item_text v = display_text (bson_view v)
 
 abbrev pub entry_text : Entry → List ℕ
-entry_text p = entry p.0 (display_text (bson_view p.1))
+entry_text p = displayed_entry p.0 (display_text (bson_view p.1))
 
 items : (vs : List Bson) → item_texts (values_view vs) ≡ map item_text vs
 items [] = refl
@@ -45,13 +45,13 @@ document_displayed ps i = enclosed_all entry_text (codes "{}") (codes "{ ") (cod
     ps i _ (entries ps)
 
 pub array_pretty : (n : ℕ) (vs : List Bson) (i : ℕ) → 0 < length vs → length vs ≤ i
-    → codes "[" ++ (join_by (item_line n) (codes ", ") (take i vs) ++ closing n (codes "]"))
-    ≡ pretty n (array (values_view vs))
-array_pretty n vs i = enclosed_all (item_line n) (codes "[]") (codes "[") (codes ", ") (closing n (codes "]"))
+    → codes "[" ++ (join_by (item_line n) (codes ", ") (take i vs) ++ closing_line n (codes "]"))
+    ≡ pretty_text n (array (values_view vs))
+array_pretty n vs i = enclosed_all (item_line n) (codes "[]") (codes "[") (codes ", ") (closing_line n (codes "]"))
     vs i _ (lines n vs)
 
 pub document_pretty : (n : ℕ) (ps : List Entry) (i : ℕ) → 0 < length ps → length ps ≤ i
-    → codes "{\n" ++ (join_by (entry_line n) (codes ",\n") (take i ps) ++ closing n (codes "}"))
-    ≡ pretty n (document (pairs_view ps))
-document_pretty n ps i = enclosed_all (entry_line n) (codes "{}") (codes "{\n") (codes ",\n") (closing n (codes "}"))
+    → codes "{\n" ++ (join_by (entry_line n) (codes ",\n") (take i ps) ++ closing_line n (codes "}"))
+    ≡ pretty_text n (document (pairs_view ps))
+document_pretty n ps i = enclosed_all (entry_line n) (codes "{}") (codes "{\n") (codes ",\n") (closing_line n (codes "}"))
     ps i _ (pair_lines n ps)

@@ -13,14 +13,14 @@ use Rattle.bson_scalar.specs.Tokens.{tokens_of}
 use Rattle.bson_scalar.specs.declared.form.Doubles.{Doubles}
 use Rattle.bson_scalar.specs.declared.form.Form.{Form}
 use Rattle.bson_scalar.proofs.Offered.{float_is_number, text_is}
-use Rattle.bson_model.specs.Normal.{InRange, ItemsInRange, PairsInRange}
+use Rattle.bson_model.specs.Normal.{NumbersInRange, ItemsInRange, PairsInRange}
 use Rattle.bson_model.specs.Texts.{IsTree, ItemsAreTrees, MembersAreTrees, NumberFits}
 use Rattle.bson_model.specs.Value.{Value, scalar, code_scope, array, document, Values, no_values, value, Pairs}
 use Rattle.bson_model.specs.Value.{no_pairs, pair}
 use Rattle.bson_model.proofs.Offered.{bind_ok, un_ok, has_text_in}
-use Rattle.bson_model.specs.OrderedWriting.{writes_in_order, values_in_order, pairs_in_order}
+use Rattle.bson_model.specs.OrderedWriting.{writes_value_in_order, writes_items_in_order, writes_pairs_in_order}
 use Rattle.bson_model.proofs.OfferedInOrder.{has_no_float, written_to}
-use Rattle.bson.specs.OutputCapacity.{value_room, values_room, pairs_room, written_room, tree_room}
+use Rattle.bson.specs.OutputCapacity.{value_capacity, values_capacity, pairs_capacity, written_tree_capacity, tree_capacity}
 use Rattle.bson.specs.Texts.{IsTextInOrder}
 
 -- ---- tokens: each has a byte
@@ -95,10 +95,10 @@ mutual
 
 module _ (D : Doubles) (f : Form) where
   mutual
-    value_full : (v : Value) (t : Data) → writes_in_order D f v ≡ Ok t → InRange v → AreFull (tokens_of t)
+    value_full : (v : Value) (t : Data) → writes_value_in_order D f v ≡ Ok t → NumbersInRange v → AreFull (tokens_of t)
     value_full (scalar x) t h r = tree_full t (has_text_in D f (scalar x) t h refl r).is_tree
     value_full (code_scope s ps) t h r =
-        let b = bind_ok (pairs_in_order D f ps) _ t h in
+        let b = bind_ok (writes_pairs_in_order D f ps) _ t h in
         rw (un_ok _ _ b.2) (
           omega arith,
           (
@@ -116,25 +116,25 @@ module _ (D : Doubles) (f : Form) where
           ),
         )
     value_full (array vs) t h r =
-        let b = bind_ok (values_in_order D f vs) _ t h in rw (un_ok _ _ b.2) (omega arith, values_full vs b.0 b.1 r)
+        let b = bind_ok (writes_items_in_order D f vs) _ t h in rw (un_ok _ _ b.2) (omega arith, values_full vs b.0 b.1 r)
     value_full (document ps) t h r =
-        let b = bind_ok (pairs_in_order D f ps) _ t h in rw (un_ok _ _ b.2) (omega arith, pairs_full ps b.0 b.1 r)
+        let b = bind_ok (writes_pairs_in_order D f ps) _ t h in rw (un_ok _ _ b.2) (omega arith, pairs_full ps b.0 b.1 r)
 
-    values_full : (vs : Values) (ds : Items) → values_in_order D f vs ≡ Ok ds → ItemsInRange vs
+    values_full : (vs : Values) (ds : Items) → writes_items_in_order D f vs ≡ Ok ds → ItemsInRange vs
         → AreFull (items_tokens (json_of_items ds))
     values_full no_values ds h r = rw (un_ok _ _ h) (omega arith, tt)
     values_full (value v vs) ds h r =
-        let b = bind_ok (writes_in_order D f v) _ ds h in
-        let c = bind_ok (values_in_order D f vs) _ ds b.2 in
+        let b = bind_ok (writes_value_in_order D f v) _ ds h in
+        let c = bind_ok (writes_items_in_order D f vs) _ ds b.2 in
         rw (un_ok _ _ c.2) (full_append (tokens_of b.0) (items_tokens (json_of_items c.0)) (value_full v b.0 b.1 r.0)
         (values_full vs c.0 c.1 r.1))
 
-    pairs_full : (ps : Pairs) (ms : Members) → pairs_in_order D f ps ≡ Ok ms → PairsInRange ps
+    pairs_full : (ps : Pairs) (ms : Members) → writes_pairs_in_order D f ps ≡ Ok ms → PairsInRange ps
         → AreFull (members_tokens (json_of_members ms))
     pairs_full no_pairs ms h r = rw (un_ok _ _ h) (omega arith, tt)
     pairs_full (pair k v ps) ms h r =
-        let b = bind_ok (writes_in_order D f v) _ ms h in
-        let c = bind_ok (pairs_in_order D f ps) _ ms b.2 in
+        let b = bind_ok (writes_value_in_order D f v) _ ms h in
+        let c = bind_ok (writes_pairs_in_order D f ps) _ ms b.2 in
         rw (un_ok _ _ c.2) (
           key_full k,
           full_append (tokens_of b.0) (members_tokens (json_of_members c.0))
@@ -143,45 +143,45 @@ module _ (D : Doubles) (f : Form) where
 
   -- the room for a value is that for the tokens of its tree
   mutual
-    value_room_is : (v : Value) (t : Data) → writes_in_order D f v ≡ Ok t → value_room D f v ≡ tree_room t
-    value_room_is (scalar x) t h = ap written_room h
+    value_room_is : (v : Value) (t : Data) → writes_value_in_order D f v ≡ Ok t → value_capacity D f v ≡ tree_capacity t
+    value_room_is (scalar x) t h = ap written_tree_capacity h
     value_room_is (code_scope s ps) t h =
-        let b = bind_ok (pairs_in_order D f ps) _ t h in
+        let b = bind_ok (writes_pairs_in_order D f ps) _ t h in
         let rest = pairs_room_is ps b.0 b.1 in
         let end = room_append (members_tokens (json_of_members b.0)) (end_object ∷ []) in
         rw (un_ok _ _ b.2) (omega (arith, rest, end))
     value_room_is (array vs) t h =
-        let b = bind_ok (values_in_order D f vs) _ t h in
+        let b = bind_ok (writes_items_in_order D f vs) _ t h in
         let rest = values_room_is vs b.0 b.1 in
         rw (un_ok _ _ b.2) (omega (arith, rest))
     value_room_is (document ps) t h =
-        let b = bind_ok (pairs_in_order D f ps) _ t h in
+        let b = bind_ok (writes_pairs_in_order D f ps) _ t h in
         let rest = pairs_room_is ps b.0 b.1 in
         rw (un_ok _ _ b.2) (omega (arith, rest))
 
-    values_room_is : (vs : Values) (ds : Items) → values_in_order D f vs ≡ Ok ds
-        → values_room D f vs ≡ room (items_tokens (json_of_items ds))
+    values_room_is : (vs : Values) (ds : Items) → writes_items_in_order D f vs ≡ Ok ds
+        → values_capacity D f vs ≡ room (items_tokens (json_of_items ds))
     values_room_is no_values ds h = rw (un_ok _ _ h) refl
     values_room_is (value v vs) ds h =
-        let b = bind_ok (writes_in_order D f v) _ ds h in
-        let c = bind_ok (values_in_order D f vs) _ ds b.2 in
+        let b = bind_ok (writes_value_in_order D f v) _ ds h in
+        let c = bind_ok (writes_items_in_order D f vs) _ ds b.2 in
         let one = value_room_is v b.0 b.1 in
         let rest = values_room_is vs c.0 c.1 in
         let both = room_append (tokens_of b.0) (items_tokens (json_of_items c.0)) in
         rw (un_ok _ _ c.2) (omega (arith, one, rest, both))
 
-    pairs_room_is : (ps : Pairs) (ms : Members) → pairs_in_order D f ps ≡ Ok ms
-        → pairs_room D f ps ≡ room (members_tokens (json_of_members ms))
+    pairs_room_is : (ps : Pairs) (ms : Members) → writes_pairs_in_order D f ps ≡ Ok ms
+        → pairs_capacity D f ps ≡ room (members_tokens (json_of_members ms))
     pairs_room_is no_pairs ms h = rw (un_ok _ _ h) refl
     pairs_room_is (pair k v ps) ms h =
-        let b = bind_ok (writes_in_order D f v) _ ms h in
-        let c = bind_ok (pairs_in_order D f ps) _ ms b.2 in
+        let b = bind_ok (writes_value_in_order D f v) _ ms h in
+        let c = bind_ok (writes_pairs_in_order D f ps) _ ms b.2 in
         let one = value_room_is v b.0 b.1 in
         let rest = pairs_room_is ps c.0 c.1 in
         let both = room_append (tokens_of b.0) (members_tokens (json_of_members c.0)) in
         rw (un_ok _ _ c.2) (omega (arith, one, rest, both))
 
-  pub room_twice : (v : Value) (s : List ℕ) → IsTextInOrder D f v s → InRange v → value_room D f v ≤ 2 * length s
+  pub room_twice : (v : Value) (s : List ℕ) → IsTextInOrder D f v s → NumbersInRange v → value_capacity D f v ≤ 2 * length s
   room_twice v s h r =
       let is = written_to D f v h.tree h.written in
       let room_is = value_room_is v h.tree is in

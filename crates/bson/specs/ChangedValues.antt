@@ -6,22 +6,26 @@ use Rattle.std.specs.declared.alloc.Global.{Global}
 use Rattle.bson.specs.declared.bson.Bson.{Bson}
 
 module _ {F : Type 0}
-    (g : Mut F (Bor (String Global) × (MutBor Bson × Unit {0})) (Unit {0} × (MutBor Bson × Unit {0}))) where
-  -- a call of f at the key k and at a `&mut` to v may leave f', and w behind the reference
-  pub record ChangesValue (f : F) (k : List ℕ) (v : Bson) (f' : F) (w : Bson) : Type 0 where
-    pub key : Bor (String Global)
-    pub value : MutBor Bson
-    pub left : MutBor Bson
-    pub names : string_bytes key.now ≡ k
-    pub shows : value.now ≡ v
-    pub called : Called g f (key, (value, tt)) (tt, (left, tt)) f'
-    pub leaves : left.now ≡ w
+    (fn_mut : Mut F (Bor (String Global) × (MutBor Bson × Unit {0})) (Unit {0} × (MutBor Bson × Unit {0}))) where
+  -- a call of the closure at the key and at a `&mut` to the value before may leave the closure after, and the value after
+  pub record ChangesValue (closure_before : F) (key_bytes : List ℕ) (value_before : Bson) (closure_after : F)
+      (value_after : Bson) : Type 0 where
+    pub key_reference : Bor (String Global)
+    pub value_reference : MutBor Bson
+    pub final_reference : MutBor Bson
+    pub key_matches : string_bytes key_reference.now ≡ key_bytes
+    pub value_matches : value_reference.now ≡ value_before
+    pub closure_called : Called fn_mut closure_before (key_reference, (value_reference, tt))
+        (tt, (final_reference, tt)) closure_after
+    pub leaves_value : final_reference.now ≡ value_after
 
-  -- calls at the pairs ps in turn, from f on, may leave f', and the pairs qs: the same keys, each with what its call
-  -- left
-  abbrev pub ChangesEach : F → List (List ℕ × Bson) → F → List (List ℕ × Bson) → Type 0
-  ChangesEach f [] f' qs = (f' ≡ f) × (qs ≡ [])
-  ChangesEach f (p ∷ ps) f' qs =
-      (w : Bson) × (between : F) × (rest : List (List ℕ × Bson)) × ChangesValue f p.0 p.1 between w
-      × ChangesEach between ps f' rest
-      × (qs ≡ (p.0, w) ∷ rest)
+  -- calls at the pairs before in turn may leave the closure after, and the pairs after: the same keys, each with what
+  -- its call made of the value
+  abbrev pub ChangesEach : (closure_before : F) → (pairs_before : List (List ℕ × Bson)) → (closure_after : F)
+      → (pairs_after : List (List ℕ × Bson)) → Type 0
+  ChangesEach closure_before [] closure_after pairs_after = (closure_after ≡ closure_before) × (pairs_after ≡ [])
+  ChangesEach closure_before (pair_before ∷ pairs_before) closure_after pairs_after =
+      (value_after : Bson) × (next_closure : F) × (rest_after : List (List ℕ × Bson))
+      × ChangesValue closure_before pair_before.0 pair_before.1 next_closure value_after
+      × ChangesEach next_closure pairs_before closure_after rest_after
+      × (pairs_after ≡ (pair_before.0, value_after) ∷ rest_after)

@@ -7,10 +7,10 @@ use Rattle.bson.specs.View.{bson_view}
 use Rattle.bson.specs.declared.bson.Bson.{Bson}
 
 abbrev pub value_type : Value → ElementType
-value_type (scalar x) = scalar_type x
-value_type (code_scope s ps) = element.JavaScriptCodeWithScope
-value_type (array vs) = element.Array
-value_type (document ps) = element.EmbeddedDocument
+value_type (scalar scalar_value) = scalar_type scalar_value
+value_type (code_scope code pairs) = element.JavaScriptCodeWithScope
+value_type (array items) = element.Array
+value_type (document pairs) = element.EmbeddedDocument
 
 abbrev pub element_type_of : Bson → ElementType
-element_type_of v = value_type (bson_view v)
+element_type_of bson_value = value_type (bson_view bson_value)

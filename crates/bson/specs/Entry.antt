@@ -7,7 +7,7 @@ use Rattle.bson.specs.declared.bson.Bson.{Bson}
 use Rattle.bson.specs.declared.document.Document.{Document}
 use Rattle.bson.specs.declared.document.entry.Entry.{Entry}
 use Rattle.bson.specs.declared.document.entry.OccupiedEntry.{OccupiedEntry}
-use Rattle.bson.specs.LoanTypes.{bson_row, document_row}
+use Rattle.bson.specs.LoanTypes.{bson_rust_type, document_rust_type}
 use Rattle.bson.specs.View.{contents, document_of_pairs}
 
 -- the reference to the document
@@ -24,19 +24,23 @@ entry_key (Vacant entry) = string_bytes entry.key
 abbrev pub entry_value : Entry → Option Bson
 entry_value entry = get (entry_key entry) (contents (entry_document entry).now)
 
--- the document with w at the entry's key
-abbrev pub document_with : Entry → Bson → Document
-document_with entry w = document_of_pairs (insert_pair (entry_key entry) w (contents (entry_document entry).now))
+-- the document with the new value at the entry's key
+abbrev pub with_new_value : (entry : Entry) → (new_value : Bson) → Document
+with_new_value entry new_value =
+    document_of_pairs (insert_pair (entry_key entry) new_value (contents (entry_document entry).now))
 
 -- the entry is occupied exactly if there is a value
-abbrev pub MatchesValue : Entry → Option Bson → Type 0
-MatchesValue (Occupied entry) v = IsTrue (is_some v)
-MatchesValue (Vacant entry) v = v ≡ None
+abbrev pub EntryMatchesValue : (entry : Entry) → (found_value : Option Bson) → Type 0
+EntryMatchesValue (Occupied entry) found_value = IsTrue (is_some found_value)
+EntryMatchesValue (Vacant entry) found_value = found_value ≡ None
 
--- once the loan r ends, the document has the last value written through r at e's key; without r it stays
-abbrev pub entry_loan : {E : Type 0} → Entry → Result (MutBor Bson) E → Fml
-entry_loan entry r = follows_if document_row bson_row (entry_document entry).ghost_name
-    (name_if_ok (λ x. x.ghost_name) r) (document_with entry) (entry_document entry).now
+-- once the loan of the reference ends, the document has the last value written through it at the entry's key; without a loan it stays
+abbrev pub writes_back_at_entry : {E : Type 0} → (entry : Entry) → (value_reference : Result (MutBor Bson) E) → Fml
+writes_back_at_entry entry value_reference =
+    follows_if document_rust_type bson_rust_type (entry_document entry).ghost_name
+    (name_if_ok (λ reference. reference.ghost_name) value_reference) (with_new_value entry) (entry_document entry).now
 
-abbrev pub occupied_loan : OccupiedEntry → MutBor Bson → Fml
-occupied_loan entry r = follows document_row bson_row entry.document.ghost_name r.ghost_name (document_with (Occupied entry))
+abbrev pub writes_back_at_occupied : (entry : OccupiedEntry) → (value_reference : MutBor Bson) → Fml
+writes_back_at_occupied entry value_reference =
+    follows document_rust_type bson_rust_type entry.document.ghost_name value_reference.ghost_name
+    (with_new_value (Occupied entry))

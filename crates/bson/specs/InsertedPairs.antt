@@ -5,11 +5,15 @@ use Rattle.bson_store.specs.Pairs.{insert_pair}
 use Rattle.bson_store.specs.declared.small.Pair.{Pair}
 
 -- the list after each item is inserted, from the first on
-abbrev pub put_all : {V : Type 0} → List (String Global × V) → List (List ℕ × V) → List (List ℕ × V)
-put_all [] ps = ps
-put_all (x ∷ xs) ps = put_all xs (insert_pair (string_bytes x.0) x.1 ps)
+abbrev pub insert_all_pairs : {V : Type 0} → (added_pairs : List (String Global × V)) → (pair_list : List (List ℕ × V))
+    → List (List ℕ × V)
+insert_all_pairs [] pair_list = pair_list
+insert_all_pairs (added_pair ∷ added_pairs) pair_list =
+    insert_all_pairs added_pairs (insert_pair (string_bytes added_pair.0) added_pair.1 pair_list)
 
 -- the same for stored pairs
-abbrev pub insert_entries : {V : Type 0} → List (Pair V) → List (List ℕ × V) → List (List ℕ × V)
-insert_entries [] ps = ps
-insert_entries (e ∷ es) ps = insert_entries es (insert_pair (string_bytes e.key) e.value ps)
+abbrev pub insert_entries : {V : Type 0} → (entries : List (Pair V)) → (pair_list : List (List ℕ × V))
+    → List (List ℕ × V)
+insert_entries [] pair_list = pair_list
+insert_entries (entry ∷ entries) pair_list =
+    insert_entries entries (insert_pair (string_bytes entry.key) entry.value pair_list)

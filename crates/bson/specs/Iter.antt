@@ -1,4 +1,4 @@
--- What a walk over a document has left.
+-- The pairs that an iterator over a document has not returned yet.
 use Rattle.std.specs.Prelude.{ℕ, List}
 use Rattle.bson_store.specs.Pairs.{keys, values}
 use Rattle.bson.specs.declared.bson.Bson.{Bson}
@@ -7,15 +7,15 @@ use Rattle.bson.specs.declared.document.iter.Iter.{Iter}
 use Rattle.bson.specs.declared.document.iter.Keys.{Keys}
 use Rattle.bson.specs.declared.document.iter.Values.{Values}
 
-abbrev pub pairs_left : Iter → List (List ℕ × Bson)
-pairs_left it = it.pairs
+abbrev pub remaining_entries : Iter → List (List ℕ × Bson)
+remaining_entries iterator = iterator.pairs
 
-abbrev pub keys_left : Keys → List (List ℕ)
-keys_left it = keys (pairs_left it.pairs)
+abbrev pub remaining_keys : Keys → List (List ℕ)
+remaining_keys iterator = keys (remaining_entries iterator.pairs)
 
-abbrev pub values_left : Values → List Bson
-values_left it = values (pairs_left it.pairs)
+abbrev pub remaining_values : Values → List Bson
+remaining_values iterator = values (remaining_entries iterator.pairs)
 
 -- the same of a walk by value
-abbrev pub pairs_to_come : IntoIter → List (List ℕ × Bson)
-pairs_to_come it = it.pairs
+abbrev pub remaining_owned_pairs : IntoIter → List (List ℕ × Bson)
+remaining_owned_pairs iterator = iterator.pairs

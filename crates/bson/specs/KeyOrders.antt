@@ -1,5 +1,5 @@
--- What a value is written as in either order of keys, as functions for private clauses: `writes_in` where keys ascend,
--- and `writes_in_order` of `bson_model` where they are as given.
+-- What a value is written as in either order of keys, as functions for private clauses: `writes_value_in` where keys ascend,
+-- and `writes_value_in_order` of `bson_model` where they are as given.
 use Rattle.std.specs.Prelude.{ℕ, List, Result, Ok}
 use Rattle.serde_json.specs.Data.{Data, Items, no_items, item, Members, no_members, member, put}
 use Rattle.serde_json.specs.Data as tree
@@ -14,32 +14,43 @@ use Rattle.bson.specs.declared.extjson.key_order.KeyOrder.{KeyOrder}
 use Rattle.bson.specs.declared.extjson.key_order.KeyOrder.TheVariants.{Ascending, AsGiven}
 
 -- the pairs in the order
-abbrev pub ordered : {X : Type 0} → KeyOrder → List (List ℕ × X) → List (List ℕ × X)
-ordered Ascending ps = sorted_by_key ps
-ordered AsGiven ps = ps
+abbrev pub pairs_of_order : {X : Type 0} → (key_order : KeyOrder) → (pair_list : List (List ℕ × X)) → List (List ℕ × X)
+pairs_of_order Ascending pair_list = sorted_by_key pair_list
+pairs_of_order AsGiven pair_list = pair_list
 
 -- where a member goes among those of the pairs after it: only here the orders differ
-abbrev pub insert_by_order : KeyOrder → List ℕ → Data → Members → Members
-insert_by_order Ascending k d ms = put k d ms
-insert_by_order AsGiven k d ms = member k d ms
+abbrev pub insert_member_in_order : (key_order : KeyOrder) → (key_bytes : List ℕ) → (value_tree : Data)
+    → (member_list : Members) → Members
+insert_member_in_order Ascending key_bytes value_tree member_list = put key_bytes value_tree member_list
+insert_member_in_order AsGiven key_bytes value_tree member_list = member key_bytes value_tree member_list
 
 abbrev mutual
-  pub writes_by : KeyOrder → Doubles → Form → Value → Result Data WriteFault
-  writes_by key_order doubles form (scalar x) = writes_scalar_in doubles form x
-  writes_by key_order doubles form (code_scope s ps) = writes_pairs_by key_order doubles form ps >>= λ ms. Ok (with_scope s ms)
-  writes_by key_order doubles form (array vs) = writes_items_by key_order doubles form vs >>= λ ds. Ok (tree.array ds)
-  writes_by key_order doubles form (document ps) = writes_pairs_by key_order doubles form ps >>= λ ms. Ok (tree.object ms)
+  pub writes_in_key_order : KeyOrder → Doubles → Form → Value → Result Data WriteFault
+  writes_in_key_order key_order doubles form (scalar scalar_value) = writes_scalar_in doubles form scalar_value
+  writes_in_key_order key_order doubles form (code_scope code_bytes pair_list) =
+      writes_pairs_in_key_order key_order doubles form pair_list
+      >>= λ member_list. Ok (with_scope code_bytes member_list)
+  writes_in_key_order key_order doubles form (array items) =
+      writes_items_in_key_order key_order doubles form items >>= λ item_trees. Ok (tree.array item_trees)
+  writes_in_key_order key_order doubles form (document pair_list) =
+      writes_pairs_in_key_order key_order doubles form pair_list >>= λ member_list. Ok (tree.object member_list)
 
-  pub writes_items_by : KeyOrder → Doubles → Form → Values → Result Items WriteFault
-  writes_items_by key_order doubles form no_values = Ok no_items
-  writes_items_by key_order doubles form (value v vs) = writes_by key_order doubles form v >>= λ d. writes_items_by key_order doubles form vs >>= λ ds. Ok (item d ds)
+  pub writes_items_in_key_order : KeyOrder → Doubles → Form → Values → Result Items WriteFault
+  writes_items_in_key_order key_order doubles form no_values = Ok no_items
+  writes_items_in_key_order key_order doubles form (value bson_value items) =
+      writes_in_key_order key_order doubles form bson_value
+      >>= λ value_tree. writes_items_in_key_order key_order doubles form items
+      >>= λ item_trees. Ok (item value_tree item_trees)
 
-  pub writes_pairs_by : KeyOrder → Doubles → Form → Pairs → Result Members WriteFault
-  writes_pairs_by key_order doubles form no_pairs = Ok no_members
-  writes_pairs_by key_order doubles form (pair k v ps) =
-      writes_by key_order doubles form v >>= λ d. writes_pairs_by key_order doubles form ps >>= λ ms. Ok (insert_by_order key_order k d ms)
+  pub writes_pairs_in_key_order : KeyOrder → Doubles → Form → Pairs → Result Members WriteFault
+  writes_pairs_in_key_order key_order doubles form no_pairs = Ok no_members
+  writes_pairs_in_key_order key_order doubles form (pair key_bytes bson_value pair_list) =
+      writes_in_key_order key_order doubles form bson_value
+      >>= λ value_tree. writes_pairs_in_key_order key_order doubles form pair_list
+      >>= λ member_list. Ok (insert_member_in_order key_order key_bytes value_tree member_list)
 
 -- each value of the pairs is so
-abbrev pub EachValue : (Value → Type 0) → Pairs → Type 0
-EachValue P no_pairs = Unit {0}
-EachValue P (pair k v ps) = P v × EachValue P ps
+abbrev pub EachValueSatisfies : (Property : Value → Type 0) → (pair_list : Pairs) → Type 0
+EachValueSatisfies Property no_pairs = Unit {0}
+EachValueSatisfies Property (pair key_bytes bson_value pair_list) = Property bson_value
+    × EachValueSatisfies Property pair_list

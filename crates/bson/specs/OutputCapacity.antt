@@ -15,67 +15,75 @@ use Rattle.bson_scalar.specs.declared.write_error.WriteError.TheVariants.{Finite
 use Rattle.bson_model.specs.Value.{Value, scalar, code_scope, array, document, Values, no_values, value, Pairs}
 use Rattle.bson_model.specs.Value.{no_pairs, pair}
 
--- A scalar is direct if its text is made where it is written. The text of any other is first made in memory of its
--- own: base64, sorted options, the digits of a decimal, and in the relaxed form a date.
+-- A scalar is allocation-free if its text is made where it is written. The text of any other is first made in memory
+-- of its own: base64, sorted options, the digits of a decimal, and in the relaxed form a date.
 abbrev pub is_allocation_free : Form → Scalar → Bool
-is_allocation_free form (regex p o) = false
-is_allocation_free form (binary k bytes) = false
-is_allocation_free form (decimal b) = false
-is_allocation_free Canonical (date z) = true
-is_allocation_free Relaxed (date z) = false
-is_allocation_free form x = true
+is_allocation_free form (regex pattern options) = false
+is_allocation_free form (binary subtype bytes) = false
+is_allocation_free form (decimal bytes) = false
+is_allocation_free Canonical (date millis) = true
+is_allocation_free Relaxed (date millis) = false
+is_allocation_free form scalar_value = true
 
--- every scalar in the value is direct
+-- every scalar in the value is allocation-free
 abbrev mutual
   pub IsAllocationFree : Form → Value → Type 0
-  IsAllocationFree form (scalar x) = is_allocation_free form x ≡ true
-  IsAllocationFree form (code_scope s ps) = PairsAreAllocationFree form ps
-  IsAllocationFree form (array vs) = ValuesAreAllocationFree form vs
-  IsAllocationFree form (document ps) = PairsAreAllocationFree form ps
+  IsAllocationFree form (scalar scalar_value) = is_allocation_free form scalar_value ≡ true
+  IsAllocationFree form (code_scope code pairs) = PairsAreAllocationFree form pairs
+  IsAllocationFree form (array items) = ValuesAreAllocationFree form items
+  IsAllocationFree form (document pairs) = PairsAreAllocationFree form pairs
 
   pub ValuesAreAllocationFree : Form → Values → Type 0
   ValuesAreAllocationFree form no_values = Unit {0}
-  ValuesAreAllocationFree form (value v vs) = IsAllocationFree form v × ValuesAreAllocationFree form vs
+  ValuesAreAllocationFree form (value bson_value items) = IsAllocationFree form bson_value
+      × ValuesAreAllocationFree form items
 
   pub PairsAreAllocationFree : Form → Pairs → Type 0
   PairsAreAllocationFree form no_pairs = Unit {0}
-  PairsAreAllocationFree form (pair k v ps) = IsAllocationFree form v × PairsAreAllocationFree form ps
+  PairsAreAllocationFree form (pair key_bytes bson_value pairs) = IsAllocationFree form bson_value
+      × PairsAreAllocationFree form pairs
 
 -- ---- for private clauses
 
--- the room that a tree's tokens need, each with a comma
-abbrev pub tree_room : Data → ℕ
-tree_room t = room (tokens_of t)
+-- the capacity that a tree's tokens need, each with a comma
+abbrev pub tree_capacity : Data → ℕ
+tree_capacity json_tree = room (tokens_of json_tree)
 
-abbrev pub written_room : Result Data WriteFault → ℕ
-written_room (Ok t) = tree_room t
-written_room (Err e) = 0
+abbrev pub written_tree_capacity : Result Data WriteFault → ℕ
+written_tree_capacity (Ok json_tree) = tree_capacity json_tree
+written_tree_capacity (Err write_error) = 0
 
-abbrev pub key_room : List ℕ → ℕ
-key_room k = length (token_text (key k)) + 1
+abbrev pub key_capacity : (key_bytes : List ℕ) → ℕ
+key_capacity key_bytes = length (token_text (key key_bytes)) + 1
 
 -- the same of a value, whatever the order of its keys
 abbrev mutual
-  pub value_room : Doubles → Form → Value → ℕ
-  value_room doubles form (scalar x) = written_room (writes_scalar_in doubles form x)
-  value_room doubles form (code_scope s ps) = room (code_tokens s) + (2 + pairs_room doubles form ps) + 2
-  value_room doubles form (array vs) = 2 + values_room doubles form vs
-  value_room doubles form (document ps) = 2 + pairs_room doubles form ps
+  pub value_capacity : Doubles → Form → Value → ℕ
+  value_capacity doubles form (scalar scalar_value) = written_tree_capacity (writes_scalar_in doubles form scalar_value)
+  value_capacity doubles form (code_scope code pairs) =
+      room (code_tokens code) + (2 + pairs_capacity doubles form pairs) + 2
+  value_capacity doubles form (array items) = 2 + values_capacity doubles form items
+  value_capacity doubles form (document pairs) = 2 + pairs_capacity doubles form pairs
 
   -- with the closing bracket
-  pub values_room : Doubles → Form → Values → ℕ
-  values_room doubles form no_values = 2
-  values_room doubles form (value v vs) = value_room doubles form v + values_room doubles form vs
+  pub values_capacity : Doubles → Form → Values → ℕ
+  values_capacity doubles form no_values = 2
+  values_capacity doubles form (value bson_value items) =
+      value_capacity doubles form bson_value + values_capacity doubles form items
 
-  pub pairs_room : Doubles → Form → Pairs → ℕ
-  pairs_room doubles form no_pairs = 2
-  pairs_room doubles form (pair k v ps) = key_room k + value_room doubles form v + pairs_room doubles form ps
+  pub pairs_capacity : Doubles → Form → Pairs → ℕ
+  pairs_capacity doubles form no_pairs = 2
+  pairs_capacity doubles form (pair key_bytes bson_value pairs) =
+      key_capacity key_bytes + value_capacity doubles form bson_value + pairs_capacity doubles form pairs
 
--- A write takes n of the room at most, and memory is wanting only if that room was.
-abbrev pub Spends : {E : Type 0} → Result (Unit {0}) E → ℕ → ℕ → ℕ → Type 0
-Spends r old new n = MatchResult r (λ _. old ≤ new + n) (λ _. old < n)
+-- a write uses at most the needed part of the capacity, and memory runs out only if there was less
+abbrev pub StaysWithinCapacity : {E : Type 0} → (write_result : Result (Unit {0}) E)
+    → (old_spare new_spare needed_capacity : ℕ) → Type 0
+StaysWithinCapacity write_result old_spare new_spare needed_capacity =
+    MatchResult write_result (λ _. old_spare ≤ new_spare + needed_capacity) (λ _. old_spare < needed_capacity)
 
-abbrev pub SpendsOrStops : Result (Unit {0}) WriteError → ℕ → ℕ → ℕ → Type 0
-SpendsOrStops (Ok done) old new n = old ≤ new + n
-SpendsOrStops (Err OutOfMemory) old new n = old < n
-SpendsOrStops (Err FiniteDouble) old new n = Unit {0}
+abbrev pub StaysWithinCapacityOrStops : (write_result : Result (Unit {0}) WriteError)
+    → (old_spare new_spare needed_capacity : ℕ) → Type 0
+StaysWithinCapacityOrStops (Ok done) old_spare new_spare needed_capacity = old_spare ≤ new_spare + needed_capacity
+StaysWithinCapacityOrStops (Err OutOfMemory) old_spare new_spare needed_capacity = old_spare < needed_capacity
+StaysWithinCapacityOrStops (Err FiniteDouble) old_spare new_spare needed_capacity = Unit {0}

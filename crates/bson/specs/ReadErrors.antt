@@ -6,7 +6,7 @@ use Rattle.bson_tree.specs.declared.place.Reason.{Reason}
 use Rattle.bson_tree.specs.declared.place.Reason.TheVariants.{BadObjectId, WrongShape}
 
 -- the same fault of an object id's text, or the same message
-abbrev pub IsErrorOf : Reason → Error → Type 0
-IsErrorOf (BadObjectId id) (InvalidObjectId error) = error ≡ id
-IsErrorOf (WrongShape wanted) (DeserializationError message) = message ≡ wanted
-IsErrorOf reason error = ⊥
+abbrev pub IsErrorForReason : (reason : Reason) → (error : Error) → Type 0
+IsErrorForReason (BadObjectId id) (InvalidObjectId error) = error ≡ id
+IsErrorForReason (WrongShape reason_message) (DeserializationError error_message) = error_message ≡ reason_message
+IsErrorForReason reason error = ⊥

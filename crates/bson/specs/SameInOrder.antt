@@ -6,19 +6,23 @@ use Rattle.bson_model.specs.Value.{Value, scalar, code_scope, array, document, V
 use Rattle.bson_model.specs.Value.{no_pairs, pair}
 
 unfoldable mutual
-  pub same_in_order : Value → Value → Bool
-  same_in_order (scalar x) (scalar y) = scalar_eq x y
-  same_in_order (code_scope s ps) (code_scope t qs) = bytes_eq s t && same_pairs_in_order ps qs
-  same_in_order (array vs) (array ws) = same_items_in_order vs ws
-  same_in_order (document ps) (document qs) = same_pairs_in_order ps qs
+  pub same_in_order : (left_value right_value : Value) → Bool
+  same_in_order (scalar left_scalar) (scalar right_scalar) = scalar_eq left_scalar right_scalar
+  same_in_order (code_scope left_code left_pairs) (code_scope right_code right_pairs) =
+      bytes_eq left_code right_code && same_pairs_in_order left_pairs right_pairs
+  same_in_order (array left_items) (array right_items) = same_items_in_order left_items right_items
+  same_in_order (document left_pairs) (document right_pairs) = same_pairs_in_order left_pairs right_pairs
   same_in_order _ _ = false
 
-  pub same_items_in_order : Values → Values → Bool
+  pub same_items_in_order : (left_items right_items : Values) → Bool
   same_items_in_order no_values no_values = true
-  same_items_in_order (value v vs) (value w ws) = same_in_order v w && same_items_in_order vs ws
+  same_items_in_order (value left_value left_items) (value right_value right_items) =
+      same_in_order left_value right_value && same_items_in_order left_items right_items
   same_items_in_order _ _ = false
 
-  pub same_pairs_in_order : Pairs → Pairs → Bool
+  pub same_pairs_in_order : (left_pairs right_pairs : Pairs) → Bool
   same_pairs_in_order no_pairs no_pairs = true
-  same_pairs_in_order (pair k v ps) (pair l w qs) = bytes_eq k l && (same_in_order v w && same_pairs_in_order ps qs)
+  same_pairs_in_order (pair left_key left_value left_pairs) (pair right_key right_value right_pairs) =
+      bytes_eq left_key right_key
+      && (same_in_order left_value right_value && same_pairs_in_order left_pairs right_pairs)
   same_pairs_in_order _ _ = false

@@ -15,36 +15,41 @@ use Rattle.bson.specs.declared.bson.Bson.{Bson}
 abbrev pub Member : Type 0
 Member = Pair Bson
 
-abbrev pub member : String Global → Bson → Member
-member k v = record { key = k; value = v }
+abbrev pub member : (key_string : String Global) → (bson_value : Bson) → Member
+member key_string bson_value = record { key = key_string; value = bson_value }
 
-abbrev pub pairs_of_members : List Member → Pairs
-pairs_of_members ms = pairs_view (stored_pairs ms)
+abbrev pub pairs_of_members : (member_list : List Member) → Pairs
+pairs_of_members member_list = pairs_view (stored_pairs member_list)
 
 -- ---- members
 
 abbrev pub member_key : Member → List ℕ
-member_key m = string_bytes m.key
+member_key first_member = string_bytes first_member.key
 
 abbrev pub member_value : Member → Value
-member_value m = bson_view m.value
+member_value first_member = bson_view first_member.value
 
 -- the pairs after each member is inserted
-abbrev pub insert_members : List Member → Pairs → Pairs
-insert_members ms ps = insert_each member_key member_value ms ps
+abbrev pub insert_members : (member_list : List Member) → (pair_list : Pairs) → Pairs
+insert_members member_list pair_list = insert_each member_key member_value member_list pair_list
 
 -- the key is at this position, and is greater than all before it
-abbrev pub IsKeyAt : List ℕ → List Member → ℕ → Type 0
-IsKeyAt k [] i = ⊥
-IsKeyAt k (m ∷ ms) zero = slice_cmp nat_cmp k (string_bytes m.key) ≡ Equal
-IsKeyAt k (m ∷ ms) (suc i) = (slice_cmp nat_cmp k (string_bytes m.key) ≡ Greater) × IsKeyAt k ms i
+abbrev pub IsKeyAt : (key_bytes : List ℕ) → (member_list : List Member) → (index : ℕ) → Type 0
+IsKeyAt key_bytes [] index = ⊥
+IsKeyAt key_bytes (first_member ∷ member_list) zero =
+    slice_cmp nat_cmp key_bytes (string_bytes first_member.key) ≡ Equal
+IsKeyAt key_bytes (first_member ∷ member_list) (suc index) =
+    (slice_cmp nat_cmp key_bytes (string_bytes first_member.key) ≡ Greater) × IsKeyAt key_bytes member_list index
 
 -- the key is greater than all before the position, and less than the key there
-abbrev pub IsInsertionPoint : List ℕ → List Member → ℕ → Type 0
-IsInsertionPoint k [] zero = Unit {0}
-IsInsertionPoint k [] (suc i) = ⊥
-IsInsertionPoint k (m ∷ ms) zero = slice_cmp nat_cmp k (string_bytes m.key) ≡ Less
-IsInsertionPoint k (m ∷ ms) (suc i) = (slice_cmp nat_cmp k (string_bytes m.key) ≡ Greater) × IsInsertionPoint k ms i
+abbrev pub IsInsertionPoint : (key_bytes : List ℕ) → (member_list : List Member) → (index : ℕ) → Type 0
+IsInsertionPoint key_bytes [] zero = Unit {0}
+IsInsertionPoint key_bytes [] (suc index) = ⊥
+IsInsertionPoint key_bytes (first_member ∷ member_list) zero =
+    slice_cmp nat_cmp key_bytes (string_bytes first_member.key) ≡ Less
+IsInsertionPoint key_bytes (first_member ∷ member_list) (suc index) =
+    (slice_cmp nat_cmp key_bytes (string_bytes first_member.key) ≡ Greater)
+    × IsInsertionPoint key_bytes member_list index
 
-abbrev pub IsStableSort : List Member → List Member → Type 0
-IsStableSort ms ns = IsStableByKey member_key ms ns
+abbrev pub IsStableSort : (member_list sorted_list : List Member) → Type 0
+IsStableSort member_list sorted_list = IsStableByKey member_key member_list sorted_list

@@ -23,40 +23,43 @@ pub record IsTextOf (bytes : List ℕ) (tree : Data) : Type 0 where
   pub tree_read : read bytes ≡ Some tree
 
 -- the bytes are no UTF-8, or no JSON text
-abbrev pub IsNotJsonText : List ℕ → Type 0
+abbrev pub IsNotJsonText : (bytes : List ℕ) → Type 0
 IsNotJsonText bytes = IsUtf8 bytes → read bytes ≡ None
 
 -- the bytes are the text of a tree that means the value
-pub record HasTextMeaningIn (doubles : Doubles) (bytes : List ℕ) (v : Value) : Type 0 where
+pub record HasTextMeaningIn (doubles : Doubles) (bytes : List ℕ) (bson_value : Value) : Type 0 where
   pub tree : Data
   pub text : IsTextOf bytes tree
-  pub meaning : HasMeaningIn doubles tree v
+  pub meaning : HasMeaningIn doubles tree bson_value
 
 -- why the bytes give no value
-abbrev pub IsTextFaultIn : Doubles → List ℕ → TextError → Type 0
+abbrev pub IsTextFaultIn : Doubles → (bytes : List ℕ) → TextError → Type 0
 IsTextFaultIn doubles bytes NotJson = IsNotJsonText bytes
-IsTextFaultIn doubles bytes (NotExtendedJson place) = (t : Data) × IsTextOf bytes t × IsFirstFaultIn doubles t place
+IsTextFaultIn doubles bytes (NotExtendedJson place) = (json_tree : Data) × IsTextOf bytes json_tree
+    × IsFirstFaultIn doubles json_tree place
 IsTextFaultIn doubles bytes OutOfMemory = Unit {0}
 
-abbrev pub HasTextMeaning : List ℕ → Value → Type 0
+abbrev pub HasTextMeaning : (bytes : List ℕ) → Value → Type 0
 HasTextMeaning = HasTextMeaningIn Special
 
-abbrev pub IsTextFault : List ℕ → TextError → Type 0
+abbrev pub IsTextFault : (bytes : List ℕ) → TextError → Type 0
 IsTextFault = IsTextFaultIn Special
 
 -- ---- in either order of keys
 
 -- the bytes are a text that means the value, whose keys are in the order
-abbrev pub HasTextMeaningBy : KeyOrder → Doubles → List ℕ → Value → Type 0
-HasTextMeaningBy Ascending doubles bytes v = HasTextMeaningIn doubles bytes v
-HasTextMeaningBy AsGiven doubles bytes v = IsUtf8 bytes × HasMeaningInOrder doubles bytes v
+abbrev pub HasTextMeaningInKeyOrder : KeyOrder → Doubles → (bytes : List ℕ) → Value → Type 0
+HasTextMeaningInKeyOrder Ascending doubles bytes bson_value = HasTextMeaningIn doubles bytes bson_value
+HasTextMeaningInKeyOrder AsGiven doubles bytes bson_value = IsUtf8 bytes × HasMeaningInOrder doubles bytes bson_value
 
 -- the bytes are the text of a tree that means the value in the order
-abbrev pub TextMeansBy : KeyOrder → Doubles → List ℕ → Value → Type 0
-TextMeansBy Ascending doubles bytes v = (t : Data) × IsTextOf bytes t × MeansIn doubles t v
-TextMeansBy AsGiven doubles bytes v = (t : Data) × IsUtf8 bytes × (read_in_order bytes ≡ Some t) × MeansInOrder doubles t v
+abbrev pub TextMeansInKeyOrder : KeyOrder → Doubles → (bytes : List ℕ) → Value → Type 0
+TextMeansInKeyOrder Ascending doubles bytes bson_value = (json_tree : Data) × IsTextOf bytes json_tree
+    × MeansIn doubles json_tree bson_value
+TextMeansInKeyOrder AsGiven doubles bytes bson_value = (json_tree : Data) × IsUtf8 bytes
+    × (read_in_order bytes ≡ Some json_tree) × MeansInOrder doubles json_tree bson_value
 
 -- the text of the value in the order and in either form is read as the same value again
-abbrev pub ComesBackBy : KeyOrder → Doubles → Value → Type 0
-ComesBackBy Ascending doubles v = ValueRoundTripsIn doubles v
-ComesBackBy AsGiven doubles v = ValueRoundTripsInOrder doubles v
+abbrev pub RoundTripsInKeyOrder : KeyOrder → Doubles → Value → Type 0
+RoundTripsInKeyOrder Ascending doubles bson_value = ValueRoundTripsIn doubles bson_value
+RoundTripsInKeyOrder AsGiven doubles bson_value = ValueRoundTripsInOrder doubles bson_value

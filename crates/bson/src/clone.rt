@@ -1,6 +1,6 @@
 //! Copies of values, in memory of their own.
 ghost use Rattle.std.specs.Prelude.{◌≡◌, IfOk};
-ghost use Rattle.bson.specs.View.{bson_view, document_view, scoped_view, values_view, pairs_view};
+ghost use Rattle.bson.specs.View.{bson_view, document_view, code_with_scope_view, values_view, pairs_view};
 
 use crate::bson::{Bson, JavaScriptCodeWithScope};
 use crate::document::Document;
@@ -16,9 +16,9 @@ impl Bson {
     ///
     /// Returns `AllocError` if a request for memory is refused.
     pub fn clone(&self, alloc: Global) -> Result<Bson, AllocError>
-        ensures { IfOk result (λ v. bson_view v ≡ bson_view self.now) }
+        ensures { IfOk result (λ copied. bson_view copied ≡ bson_view self.now) }
     {
-        copy(alloc, self)
+        copy_value(alloc, self)
     }
 }
 
@@ -29,9 +29,9 @@ impl JavaScriptCodeWithScope {
     ///
     /// Returns `AllocError` if a request for memory is refused.
     pub fn clone(&self, alloc: Global) -> Result<JavaScriptCodeWithScope, AllocError>
-        ensures { IfOk result (λ v. scoped_view v ≡ scoped_view self.now) }
+        ensures { IfOk result (λ copied. code_with_scope_view copied ≡ code_with_scope_view self.now) }
     {
-        copy_scoped(alloc, self)
+        copy_code_with_scope(alloc, self)
     }
 }
 
@@ -43,58 +43,58 @@ impl Document {
     ///
     /// Returns `AllocError` if a request for memory is refused.
     pub fn clone(&self) -> Result<Document, AllocError>
-        ensures { IfOk result (λ d. document_view d ≡ document_view self.now) }
+        ensures { IfOk result (λ copied_document. document_view copied_document ≡ document_view self.now) }
     {
         copy_pairs(self.pairs.allocator(), self)
     }
 }
 
 #[cycle(clone)]
-fn copy(alloc: Global, value: &Bson) -> Result<Bson, AllocError>
-    ensures { IfOk result (λ v. bson_view v ≡ bson_view value.now) }
+fn copy_value(alloc: Global, value: &Bson) -> Result<Bson, AllocError>
+    ensures { IfOk result (λ copied. bson_view copied ≡ bson_view value.now) }
 {
     Ok(match value {
         Bson::Array(values) => Bson::Array(copy_values(alloc, values)?),
         Bson::Document(document) => Bson::Document(copy_pairs(alloc, document)?),
-        Bson::JavaScriptCodeWithScope(scoped) => Bson::JavaScriptCodeWithScope(copy_scoped(
-            alloc, scoped,
-        )?),
+        Bson::JavaScriptCodeWithScope(code_with_scope) => Bson::JavaScriptCodeWithScope(
+            copy_code_with_scope(alloc, code_with_scope)?,
+        ),
         value => from_scalar(scalar_ref(value).to_owned(alloc)?),
     })
 }
 
 #[cycle(clone)]
-fn copy_scoped(
+fn copy_code_with_scope(
     alloc: Global,
-    scoped: &JavaScriptCodeWithScope,
+    code_with_scope: &JavaScriptCodeWithScope,
 ) -> Result<JavaScriptCodeWithScope, AllocError>
-    ensures { IfOk result (λ v. scoped_view v ≡ scoped_view scoped.now) }
+    ensures { IfOk result (λ copied. code_with_scope_view copied ≡ code_with_scope_view code_with_scope.now) }
 {
     Ok(JavaScriptCodeWithScope {
-        code: String::from_str(alloc, scoped.code.as_str())?,
-        scope: copy_pairs(alloc, &scoped.scope)?,
+        code: String::from_str(alloc, code_with_scope.code.as_str())?,
+        scope: copy_pairs(alloc, &code_with_scope.scope)?,
     })
 }
 
 #[cycle(clone)]
 fn copy_values(alloc: Global, values: &Vec<Bson>) -> Result<Vec<Bson>, AllocError>
-    ensures { IfOk result (λ v. values_view v.items ≡ values_view values.now.items) }
+    ensures { IfOk result (λ copied. values_view copied.items ≡ values_view values.now.items) }
 {
     let mut copies = Vec::with_capacity(alloc, values.len())?;
     for value in values {
-        copies.push(copy(alloc, value)?)?;
+        copies.push(copy_value(alloc, value)?)?;
     }
     Ok(copies)
 }
 
 #[cycle(clone)]
 fn copy_pairs(alloc: Global, document: &Document) -> Result<Document, AllocError>
-    ensures { IfOk result (λ d. pairs_view d.pairs ≡ pairs_view document.now.pairs) }
+    ensures { IfOk result (λ copied_document. pairs_view copied_document.pairs ≡ pairs_view document.now.pairs) }
 {
     let mut pairs = SmallPairs::with_capacity(alloc, document.pairs.len())?;
-    for i in 0..document.pairs.len() {
-        let key = String::from_str(alloc, document.pairs.key_at(i).as_str())?;
-        let value = copy(alloc, document.pairs.value_at(i))?;
+    for pair_index in 0..document.pairs.len() {
+        let key = String::from_str(alloc, document.pairs.key_at(pair_index).as_str())?;
+        let value = copy_value(alloc, document.pairs.value_at(pair_index))?;
         match pairs.push(key, value) {
             Ok(()) => {}
             Err(_) => return Err(AllocError),

@@ -17,7 +17,7 @@ use std::alloc::{AllocError, Global};
 
 /// `Null`.
 impl Default for Bson {
-    ghost is_default = { λ v. v ≡ value.Null };
+    ghost is_default = { λ bson_value. bson_value ≡ value.Null };
 
     fn default() -> Bson {
         Bson::Null
@@ -25,7 +25,7 @@ impl Default for Bson {
 }
 
 impl From<String> for Bson {
-    ghost from_gives = { λ text v. v ≡ value.String text };
+    ghost from_gives = { λ text bson_value. bson_value ≡ value.String text };
 
     fn from(text: String) -> Bson {
         Bson::String(text)
@@ -33,7 +33,7 @@ impl From<String> for Bson {
 }
 
 impl From<Document> for Bson {
-    ghost from_gives = { λ document v. v ≡ value.Document document };
+    ghost from_gives = { λ document bson_value. bson_value ≡ value.Document document };
 
     fn from(document: Document) -> Bson {
         Bson::Document(document)
@@ -41,7 +41,7 @@ impl From<Document> for Bson {
 }
 
 impl From<bool> for Bson {
-    ghost from_gives = { λ truth v. v ≡ value.Boolean truth };
+    ghost from_gives = { λ truth bson_value. bson_value ≡ value.Boolean truth };
 
     fn from(truth: bool) -> Bson {
         Bson::Boolean(truth)
@@ -49,7 +49,7 @@ impl From<bool> for Bson {
 }
 
 impl From<Regex> for Bson {
-    ghost from_gives = { λ regex v. v ≡ value.RegularExpression regex };
+    ghost from_gives = { λ regex bson_value. bson_value ≡ value.RegularExpression regex };
 
     fn from(regex: Regex) -> Bson {
         Bson::RegularExpression(regex)
@@ -57,7 +57,7 @@ impl From<Regex> for Bson {
 }
 
 impl From<JavaScriptCodeWithScope> for Bson {
-    ghost from_gives = { λ code v. v ≡ value.JavaScriptCodeWithScope code };
+    ghost from_gives = { λ code bson_value. bson_value ≡ value.JavaScriptCodeWithScope code };
 
     fn from(code: JavaScriptCodeWithScope) -> Bson {
         Bson::JavaScriptCodeWithScope(code)
@@ -65,7 +65,7 @@ impl From<JavaScriptCodeWithScope> for Bson {
 }
 
 impl From<Binary> for Bson {
-    ghost from_gives = { λ binary v. v ≡ value.Binary binary };
+    ghost from_gives = { λ binary bson_value. bson_value ≡ value.Binary binary };
 
     fn from(binary: Binary) -> Bson {
         Bson::Binary(binary)
@@ -73,7 +73,7 @@ impl From<Binary> for Bson {
 }
 
 impl From<Timestamp> for Bson {
-    ghost from_gives = { λ timestamp v. v ≡ value.Timestamp timestamp };
+    ghost from_gives = { λ timestamp bson_value. bson_value ≡ value.Timestamp timestamp };
 
     fn from(timestamp: Timestamp) -> Bson {
         Bson::Timestamp(timestamp)
@@ -81,7 +81,7 @@ impl From<Timestamp> for Bson {
 }
 
 impl From<Vec<Bson>> for Bson {
-    ghost from_gives = { λ values v. v ≡ value.Array values };
+    ghost from_gives = { λ values bson_value. bson_value ≡ value.Array values };
 
     fn from(values: Vec<Bson>) -> Bson {
         Bson::Array(values)
@@ -89,7 +89,7 @@ impl From<Vec<Bson>> for Bson {
 }
 
 impl From<i32> for Bson {
-    ghost from_gives = { λ number v. v ≡ value.Int32 number };
+    ghost from_gives = { λ number bson_value. bson_value ≡ value.Int32 number };
 
     fn from(number: i32) -> Bson {
         Bson::Int32(number)
@@ -97,7 +97,7 @@ impl From<i32> for Bson {
 }
 
 impl From<i64> for Bson {
-    ghost from_gives = { λ number v. v ≡ value.Int64 number };
+    ghost from_gives = { λ number bson_value. bson_value ≡ value.Int64 number };
 
     fn from(number: i64) -> Bson {
         Bson::Int64(number)
@@ -108,11 +108,11 @@ impl From<i64> for Bson {
 impl From<u32> for Bson {
     ghost use Rattle.bson.specs.Kinds.{smallest_integer};
 
-    ghost from_gives = { λ n v. v ≡ smallest_integer n };
+    ghost from_gives = { λ unsigned_number bson_value. bson_value ≡ smallest_integer unsigned_number };
 
     fn from(number: u32) -> Bson {
         match i32::try_from(number) {
-            Ok(small) => Bson::Int32(small),
+            Ok(int32) => Bson::Int32(int32),
             Err(_) => Bson::Int64(i64::from(number)),
         }
     }
@@ -120,7 +120,7 @@ impl From<u32> for Bson {
 
 /// The `ObjectId` of these bytes.
 impl From<[u8; 12]> for Bson {
-    ghost from_gives = { λ bytes v. v ≡ value.ObjectId bytes };
+    ghost from_gives = { λ bytes bson_value. bson_value ≡ value.ObjectId bytes };
 
     fn from(bytes: [u8; 12]) -> Bson {
         Bson::ObjectId(ObjectId::from_bytes(bytes))
@@ -128,7 +128,7 @@ impl From<[u8; 12]> for Bson {
 }
 
 impl From<ObjectId> for Bson {
-    ghost from_gives = { λ id v. v ≡ value.ObjectId id };
+    ghost from_gives = { λ id bson_value. bson_value ≡ value.ObjectId id };
 
     fn from(id: ObjectId) -> Bson {
         Bson::ObjectId(id)
@@ -136,7 +136,7 @@ impl From<ObjectId> for Bson {
 }
 
 impl From<DateTime> for Bson {
-    ghost from_gives = { λ date v. v ≡ value.DateTime date };
+    ghost from_gives = { λ date bson_value. bson_value ≡ value.DateTime date };
 
     fn from(date: DateTime) -> Bson {
         Bson::DateTime(date)
@@ -144,7 +144,7 @@ impl From<DateTime> for Bson {
 }
 
 impl From<DbPointer> for Bson {
-    ghost from_gives = { λ pointer v. v ≡ value.DbPointer pointer };
+    ghost from_gives = { λ pointer bson_value. bson_value ≡ value.DbPointer pointer };
 
     fn from(pointer: DbPointer) -> Bson {
         Bson::DbPointer(pointer)
@@ -152,7 +152,7 @@ impl From<DbPointer> for Bson {
 }
 
 impl From<Decimal128> for Bson {
-    ghost from_gives = { λ decimal v. v ≡ value.Decimal128 decimal };
+    ghost from_gives = { λ decimal bson_value. bson_value ≡ value.Decimal128 decimal };
 
     fn from(decimal: Decimal128) -> Bson {
         Bson::Decimal128(decimal)
@@ -173,7 +173,7 @@ impl Bson {
     ///
     /// Returns `AllocError` if a request for memory is refused.
     pub fn string(alloc: Global, text: &str) -> Result<Bson, AllocError>
-        ensures { IfOk result (λ v. bson_view v ≡ scalar (kind.text text.now)) }
+        ensures { IfOk result (λ bson_value. bson_view bson_value ≡ scalar (kind.text text.now)) }
     {
         Ok(Bson::String(String::from_str(alloc, text)?))
     }
@@ -184,7 +184,7 @@ impl Bson {
     ///
     /// Returns `AllocError` if a request for memory is refused.
     pub fn from_slice(alloc: Global, values: &[Bson]) -> Result<Bson, AllocError>
-        ensures { IfOk result (λ v. bson_view v ≡ array (values_view values.now)) }
+        ensures { IfOk result (λ bson_value. bson_view bson_value ≡ array (values_view values.now)) }
     {
         let mut copies = Vec::with_capacity(alloc, values.len())?;
         for value in values {
@@ -202,10 +202,10 @@ impl Bson {
         alloc: Global,
         values: I,
     ) -> Result<Bson, AllocError>
-        requires can { I.can_next values }
-        requires ends { IsFinite (I.remaining values) }
-        ensures { IfOk result (λ v. (xs : List Bson) × Drains I.next_gives values xs
-            × (bson_view v ≡ array (values_view xs))) }
+        requires can_iterate { I.can_next values }
+        requires is_finite { IsFinite (I.remaining values) }
+        ensures { IfOk result (λ bson_value. (collected : List Bson) × Drains I.next_gives values collected
+            × (bson_view bson_value ≡ array (values_view collected))) }
     {
         Ok(Bson::Array(values.collect(alloc)?))
     }
@@ -223,7 +223,7 @@ impl Bson {
     ///
     /// Returns `AllocError` if a request for memory is refused.
     pub fn from_uuid(alloc: Global, id: Uuid) -> Result<Bson, AllocError>
-        ensures { IfOk result (λ v. bson_view v ≡ scalar (kind.binary BinarySubtype.Uuid id)) }
+        ensures { IfOk result (λ bson_value. bson_view bson_value ≡ scalar (kind.binary BinarySubtype.Uuid id)) }
     {
         Ok(Bson::Binary(Binary::from_uuid(alloc, id)?))
     }
@@ -234,7 +234,7 @@ impl Bson {
     ///
     /// Returns `AllocError` if a request for memory is refused.
     pub fn from_vector(alloc: Global, vector: &Vector) -> Result<Bson, AllocError>
-        ensures { IfOk result (λ v. bson_view v
+        ensures { IfOk result (λ bson_value. bson_view bson_value
             ≡ scalar (kind.binary BinarySubtype.Vector (vector_bytes vector.now))) }
     {
         Ok(Bson::Binary(Binary::from_vector(alloc, vector)?))

@@ -1,7 +1,7 @@
 //! Documents.
 //!
-//! `get` looks up by key, `insert` puts and takes, `entry` is the place of one key, `by_index` is the
-//! pair at one place, and `iter` walks the pairs. The typed look-ups stand in `getters`.
+//! `get` finds the value of a key, `insert` inserts and removes pairs, `entry` is the place of one key,
+//! `by_index` is the pair at an index, and `iter` iterates over the pairs. `getters` has the typed getters.
 mod by_index;
 mod entry;
 mod get;
@@ -19,17 +19,17 @@ pub use iter::{IntoIter, Iter, Keys, Values};
 use std::alloc::Global;
 
 /// A document of BSON 1.1: a list of pairs of a key and a value, in the order in which the keys
-/// were put, in which no key stands twice.
+/// were inserted. Its keys are distinct.
 ///
 /// Two documents are equal if they have the same keys, in any order, and equal values under each.
 ///
-/// Of n pairs, in the worst case and whatever the keys are, a key is found, or put where it is new,
-/// in the order of log n comparisons of keys; where there are no more than sixteen pairs, in n.
-/// The first key that does not ascend among more than sixteen makes an index, in the order of
-/// n log n, which stays until no more than sixteen pairs are left.
-/// `remove` takes in the order of log n for each pair behind the one that it takes out. `==`,
-/// `Hash`, and writing the text of a document whose keys don't ascend take in the order of n log n.
-/// `remove`, `==` and `Hash` take no memory.
+/// A document of n pairs needs O(log n) comparisons of keys to find a key or to insert a new one,
+/// whatever the keys are. With at most sixteen pairs it needs O(n).
+/// The first key that does not ascend, among more than sixteen, makes an index. This needs O(n log n),
+/// and the index stays until at most sixteen pairs are left.
+/// `remove` needs O(log n) for each pair after the removed one. `==`, `Hash`, and the text of a
+/// document whose keys don't ascend need O(n log n).
+/// `remove`, `==` and `Hash` allocate no memory.
 ///
 /// ```
 /// let mut document = Document::new(alloc);
@@ -48,8 +48,8 @@ impl Document {
     ghost use Rattle.std.specs.Prelude.{◌≡◌, []};
     ghost use Rattle.bson.specs.View.{contents};
 
-    /// Makes a document without pairs, which takes its memory from `alloc` and has not allocated
-    /// yet.
+    /// Makes a document without pairs. It will allocate its memory from `alloc`, and has allocated
+    /// none yet.
     pub fn new(alloc: Global) -> Document
         ensures { contents result ≡ [] }
     {

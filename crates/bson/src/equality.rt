@@ -1,7 +1,7 @@
 //! Equality of values.
 ghost use Rattle.std.specs.Prelude.{◌≡◌};
 ghost use Rattle.bson_model.specs.Value.{document};
-ghost use Rattle.bson.specs.View.{bson_view, contents, pairs_view, scoped_view, values_view};
+ghost use Rattle.bson.specs.View.{bson_view, contents, pairs_view, code_with_scope_view, values_view};
 ghost use Rattle.bson_model.specs.Same.{same, same_items};
 
 mod ordered;
@@ -17,7 +17,7 @@ impl PartialEq for Bson {
     ghost use Rattle.bson_model.specs.Same.{same};
     ghost use Rattle.bson_model.proofs.SameSorted.{same_equiv};
 
-    ghost eq = { λ a b. same (bson_view a) (bson_view b) };
+    ghost eq = { λ left right. same (bson_view left) (bson_view right) };
 
     ghost laws = { on_per bson_view (partial_equiv_from_equiv same_equiv) };
 
@@ -41,9 +41,9 @@ impl PartialEq for Document {
     ghost use Rattle.bson_model.specs.Same.{same};
     ghost use Rattle.bson_model.proofs.SameSorted.{same_equiv};
 
-    ghost eq = { λ a b. same (document (document_view a)) (document (document_view b)) };
+    ghost eq = { λ left right. same (document (document_view left)) (document (document_view right)) };
 
-    ghost laws = { on_per (λ d. document (document_view d)) (partial_equiv_from_equiv same_equiv) };
+    ghost laws = { on_per (λ document_value. document (document_view document_value)) (partial_equiv_from_equiv same_equiv) };
 
     fn eq(&self, other: &Document) -> bool {
         same_documents(self, other)
@@ -56,80 +56,92 @@ impl Eq for Document {
     ghost use Rattle.bson.specs.View.{document_view};
     ghost use Rattle.bson_model.proofs.SameSorted.{same_equiv};
 
-    ghost laws = { on_equiv (λ d. document (document_view d)) same_equiv };
+    ghost laws = { on_equiv (λ document_value. document (document_view document_value)) same_equiv };
 }
 
 impl PartialEq for JavaScriptCodeWithScope {
     ghost use Rattle.std.specs.Cmp.{on_per, partial_equiv_from_equiv};
-    ghost use Rattle.bson.specs.View.{scoped_view};
+    ghost use Rattle.bson.specs.View.{code_with_scope_view};
     ghost use Rattle.bson_model.specs.Same.{same};
     ghost use Rattle.bson_model.proofs.SameSorted.{same_equiv};
 
-    ghost eq = { λ a b. same (scoped_view a) (scoped_view b) };
+    ghost eq = { λ left right. same (code_with_scope_view left) (code_with_scope_view right) };
 
-    ghost laws = { on_per scoped_view (partial_equiv_from_equiv same_equiv) };
+    ghost laws = { on_per code_with_scope_view (partial_equiv_from_equiv same_equiv) };
 
     fn eq(&self, other: &JavaScriptCodeWithScope) -> bool {
-        same_scoped(self, other)
+        same_code_with_scope(self, other)
     }
 }
 
 impl Eq for JavaScriptCodeWithScope {
     ghost use Rattle.std.specs.Cmp.{on_equiv};
-    ghost use Rattle.bson.specs.View.{scoped_view};
+    ghost use Rattle.bson.specs.View.{code_with_scope_view};
     ghost use Rattle.bson_model.proofs.SameSorted.{same_equiv};
 
-    ghost laws = { on_equiv scoped_view same_equiv };
+    ghost laws = { on_equiv code_with_scope_view same_equiv };
 }
 
 #[cycle(same)]
 #[tactic(auto, unfolding(bson_model::specs::Same::same))]
-fn same_values(a: &Bson, b: &Bson) -> bool
-    ensures { result ≡ same (bson_view a.now) (bson_view b.now) }
+fn same_values(left: &Bson, right: &Bson) -> bool
+    ensures { result ≡ same (bson_view left.now) (bson_view right.now) }
 {
-    match (a, b) {
-        (Bson::Array(x), Bson::Array(y)) => same_lists(x, y),
-        (Bson::Document(x), Bson::Document(y)) => same_documents(x, y),
-        (Bson::JavaScriptCodeWithScope(x), Bson::JavaScriptCodeWithScope(y)) => same_scoped(x, y),
-        (a, b) => same_scalars(a, b),
+    match (left, right) {
+        (Bson::Array(left_content), Bson::Array(right_content)) => same_lists(
+            left_content,
+            right_content,
+        ),
+        (Bson::Document(left_content), Bson::Document(right_content)) => same_documents(
+            left_content,
+            right_content,
+        ),
+        (
+            Bson::JavaScriptCodeWithScope(left_content),
+            Bson::JavaScriptCodeWithScope(right_content),
+        ) => same_code_with_scope(left_content, right_content),
+        (left, right) => same_scalars(left, right),
     }
 }
 
 #[cycle(same)]
 #[tactic(auto, unfolding(bson_model::specs::Same::same))]
-fn same_scoped(a: &JavaScriptCodeWithScope, b: &JavaScriptCodeWithScope) -> bool
-    ensures { result ≡ same (scoped_view a.now) (scoped_view b.now) }
+fn same_code_with_scope(left: &JavaScriptCodeWithScope, right: &JavaScriptCodeWithScope) -> bool
+    ensures { result ≡ same (code_with_scope_view left.now) (code_with_scope_view right.now) }
 {
-    a.code == b.code && same_documents(&a.scope, &b.scope)
+    left.code == right.code && same_documents(&left.scope, &right.scope)
 }
 
 #[cycle(same)]
-fn same_lists(a: &Vec<Bson>, b: &Vec<Bson>) -> bool
-    ensures { result ≡ same_items (values_view a.now.items) (values_view b.now.items) }
+fn same_lists(left: &Vec<Bson>, right: &Vec<Bson>) -> bool
+    ensures { result ≡ same_items (values_view left.now.items) (values_view right.now.items) }
 {
-    if a.len() != b.len() {
+    if left.len() != right.len() {
         return false;
     }
-    let mut at = 0;
-    'items: while at < a.len() && same_values(&a[at], &b[at]) {
-        at += 1;
+    let mut item_index = 0;
+    'items: while item_index < left.len() && same_values(&left[item_index], &right[item_index]) {
+        item_index += 1;
     }
-    at == a.len()
+    item_index == left.len()
 }
 
 #[cycle(same)]
-fn same_documents(a: &Document, b: &Document) -> bool
+fn same_documents(left: &Document, right: &Document) -> bool
     ensures { result
-        ≡ same (document (pairs_view (contents a.now))) (document (pairs_view (contents b.now))) }
+        ≡ same (document (pairs_view (contents left.now))) (document (pairs_view (contents right.now))) }
 {
-    if a.pairs.len() != b.pairs.len() {
+    if left.pairs.len() != right.pairs.len() {
         return false;
     }
-    for i in 0..a.pairs.len() {
-        match b.pairs.find(a.pairs.key_at(i).as_str()) {
+    for left_index in 0..left.pairs.len() {
+        match right.pairs.find(left.pairs.key_at(left_index).as_str()) {
             None => return false,
-            Some(j) => {
-                if !same_values(a.pairs.value_at(i), b.pairs.value_at(j)) {
+            Some(right_index) => {
+                if !same_values(
+                    left.pairs.value_at(left_index),
+                    right.pairs.value_at(right_index),
+                ) {
                     return false;
                 }
             }

@@ -1,10 +1,10 @@
-//! The types that stand for one kind of value each.
+//! The types that represent one kind of value each.
 ghost use Rattle.std.specs.Prelude.{◌≡◌, Option, option_copied, option_map};
 ghost use Rattle.std.specs.Borrow.{LendsIf, sem};
 ghost use Rattle.bson.specs.declared.bson.Bson.{Bson};
 ghost use Rattle.bson.specs.declared.bson.Bson.TheVariants as value;
 ghost use Rattle.bson.specs.Kinds.{generic_binary, generic_bytes};
-ghost use Rattle.bson.specs.LoanTypes.{binary_row, bson_row, bytes_row};
+ghost use Rattle.bson.specs.LoanTypes.{binary_rust_type, bson_rust_type, bytes_rust_type};
 
 use crate::bson::{Array, Bson};
 use crate::document::Document;
@@ -24,13 +24,13 @@ pub(crate) trait Kind {
     ghost value_of: { Self → Bson };
 
     /// What the value holds, if it is of the kind.
-    fn kind(value: &Bson) -> Option<&Self>
+    fn get_from(value: &Bson) -> Option<&Self>
         ensures { option_copied result ≡ content_of value.now };
 
     /// The same, to write.
-    fn kind_mut(value: &mut Bson) -> Option<&mut Self>
-        ensures* writes_back { sem 𝓛 (LendsIf bson_row Self.row value.entry result value_of value.old) }
-        ensures value { option_map (λ x. x.now) result ≡ content_of value.old };
+    fn get_mut_from(value: &mut Bson) -> Option<&mut Self>
+        ensures* writes_back { sem 𝓛 (LendsIf bson_rust_type Self.row value.entry result value_of value.old) }
+        ensures value { option_map (λ reference. reference.now) result ≡ content_of value.old };
 }
 
 impl Kind for u64 {
@@ -40,14 +40,14 @@ impl Kind for u64 {
 
     ghost value_of = { value.Double };
 
-    fn kind(value: &Bson) -> Option<&u64> {
+    fn get_from(value: &Bson) -> Option<&u64> {
         match value {
             Bson::Double(pattern) => Some(pattern),
             _ => None,
         }
     }
 
-    fn kind_mut(value: &mut Bson) -> Option<&mut u64> {
+    fn get_mut_from(value: &mut Bson) -> Option<&mut u64> {
         match value {
             Bson::Double(pattern) => Some(pattern),
             _ => None,
@@ -62,14 +62,14 @@ impl Kind for String {
 
     ghost value_of = { value.String };
 
-    fn kind(value: &Bson) -> Option<&String> {
+    fn get_from(value: &Bson) -> Option<&String> {
         match value {
             Bson::String(text) => Some(text),
             _ => None,
         }
     }
 
-    fn kind_mut(value: &mut Bson) -> Option<&mut String> {
+    fn get_mut_from(value: &mut Bson) -> Option<&mut String> {
         match value {
             Bson::String(text) => Some(text),
             _ => None,
@@ -84,14 +84,14 @@ impl Kind for Array {
 
     ghost value_of = { value.Array };
 
-    fn kind(value: &Bson) -> Option<&Array> {
+    fn get_from(value: &Bson) -> Option<&Array> {
         match value {
             Bson::Array(values) => Some(values),
             _ => None,
         }
     }
 
-    fn kind_mut(value: &mut Bson) -> Option<&mut Array> {
+    fn get_mut_from(value: &mut Bson) -> Option<&mut Array> {
         match value {
             Bson::Array(values) => Some(values),
             _ => None,
@@ -106,14 +106,14 @@ impl Kind for Document {
 
     ghost value_of = { value.Document };
 
-    fn kind(value: &Bson) -> Option<&Document> {
+    fn get_from(value: &Bson) -> Option<&Document> {
         match value {
             Bson::Document(document) => Some(document),
             _ => None,
         }
     }
 
-    fn kind_mut(value: &mut Bson) -> Option<&mut Document> {
+    fn get_mut_from(value: &mut Bson) -> Option<&mut Document> {
         match value {
             Bson::Document(document) => Some(document),
             _ => None,
@@ -128,14 +128,14 @@ impl Kind for bool {
 
     ghost value_of = { value.Boolean };
 
-    fn kind(value: &Bson) -> Option<&bool> {
+    fn get_from(value: &Bson) -> Option<&bool> {
         match value {
             Bson::Boolean(truth) => Some(truth),
             _ => None,
         }
     }
 
-    fn kind_mut(value: &mut Bson) -> Option<&mut bool> {
+    fn get_mut_from(value: &mut Bson) -> Option<&mut bool> {
         match value {
             Bson::Boolean(truth) => Some(truth),
             _ => None,
@@ -150,14 +150,14 @@ impl Kind for i32 {
 
     ghost value_of = { value.Int32 };
 
-    fn kind(value: &Bson) -> Option<&i32> {
+    fn get_from(value: &Bson) -> Option<&i32> {
         match value {
             Bson::Int32(number) => Some(number),
             _ => None,
         }
     }
 
-    fn kind_mut(value: &mut Bson) -> Option<&mut i32> {
+    fn get_mut_from(value: &mut Bson) -> Option<&mut i32> {
         match value {
             Bson::Int32(number) => Some(number),
             _ => None,
@@ -172,14 +172,14 @@ impl Kind for i64 {
 
     ghost value_of = { value.Int64 };
 
-    fn kind(value: &Bson) -> Option<&i64> {
+    fn get_from(value: &Bson) -> Option<&i64> {
         match value {
             Bson::Int64(number) => Some(number),
             _ => None,
         }
     }
 
-    fn kind_mut(value: &mut Bson) -> Option<&mut i64> {
+    fn get_mut_from(value: &mut Bson) -> Option<&mut i64> {
         match value {
             Bson::Int64(number) => Some(number),
             _ => None,
@@ -194,14 +194,14 @@ impl Kind for Timestamp {
 
     ghost value_of = { value.Timestamp };
 
-    fn kind(value: &Bson) -> Option<&Timestamp> {
+    fn get_from(value: &Bson) -> Option<&Timestamp> {
         match value {
             Bson::Timestamp(timestamp) => Some(timestamp),
             _ => None,
         }
     }
 
-    fn kind_mut(value: &mut Bson) -> Option<&mut Timestamp> {
+    fn get_mut_from(value: &mut Bson) -> Option<&mut Timestamp> {
         match value {
             Bson::Timestamp(timestamp) => Some(timestamp),
             _ => None,
@@ -211,13 +211,13 @@ impl Kind for Timestamp {
 
 // A binary of another subtype is of another kind here.
 impl Kind for Vec<u8> {
-    ghost use Rattle.bson.specs.Kinds.{generic, generic_of};
+    ghost use Rattle.bson.specs.Kinds.{generic_binary_value, generic_binary_bytes_of};
 
-    ghost content_of = { generic_of };
+    ghost content_of = { generic_binary_bytes_of };
 
-    ghost value_of = { generic };
+    ghost value_of = { generic_binary_value };
 
-    fn kind(value: &Bson) -> Option<&Vec<u8>> {
+    fn get_from(value: &Bson) -> Option<&Vec<u8>> {
         match value {
             Bson::Binary(
                 Binary {
@@ -229,18 +229,19 @@ impl Kind for Vec<u8> {
         }
     }
 
-    fn kind_mut(value: &mut Bson) -> Option<&mut Vec<u8>> {
+    fn get_mut_from(value: &mut Bson) -> Option<&mut Vec<u8>> {
         match value {
-            Bson::Binary(binary) => generic_mut(binary),
+            Bson::Binary(binary) => generic_bytes_mut(binary),
             _ => None,
         }
     }
 }
 
 // The bytes of a binary of the subtype Generic, to write.
-fn generic_mut(binary: &mut Binary) -> Option<&mut Vec<u8>>
-    ensures* writes_back { sem 𝓛 (LendsIf binary_row bytes_row binary.entry result generic_binary binary.old) }
-    ensures value { option_map (λ x. x.now) result ≡ generic_bytes binary.old.subtype binary.old.bytes }
+fn generic_bytes_mut(binary: &mut Binary) -> Option<&mut Vec<u8>>
+    ensures* writes_back { sem 𝓛
+        (LendsIf binary_rust_type bytes_rust_type binary.entry result generic_binary binary.old) }
+    ensures value { option_map (λ reference. reference.now) result ≡ generic_bytes binary.old.subtype binary.old.bytes }
 {
     match binary.subtype {
         BinarySubtype::Generic => Some(&mut binary.bytes),
@@ -255,14 +256,14 @@ impl Kind for ObjectId {
 
     ghost value_of = { value.ObjectId };
 
-    fn kind(value: &Bson) -> Option<&ObjectId> {
+    fn get_from(value: &Bson) -> Option<&ObjectId> {
         match value {
             Bson::ObjectId(id) => Some(id),
             _ => None,
         }
     }
 
-    fn kind_mut(value: &mut Bson) -> Option<&mut ObjectId> {
+    fn get_mut_from(value: &mut Bson) -> Option<&mut ObjectId> {
         match value {
             Bson::ObjectId(id) => Some(id),
             _ => None,
@@ -277,14 +278,14 @@ impl Kind for DateTime {
 
     ghost value_of = { value.DateTime };
 
-    fn kind(value: &Bson) -> Option<&DateTime> {
+    fn get_from(value: &Bson) -> Option<&DateTime> {
         match value {
             Bson::DateTime(date) => Some(date),
             _ => None,
         }
     }
 
-    fn kind_mut(value: &mut Bson) -> Option<&mut DateTime> {
+    fn get_mut_from(value: &mut Bson) -> Option<&mut DateTime> {
         match value {
             Bson::DateTime(date) => Some(date),
             _ => None,
@@ -299,14 +300,14 @@ impl Kind for Decimal128 {
 
     ghost value_of = { value.Decimal128 };
 
-    fn kind(value: &Bson) -> Option<&Decimal128> {
+    fn get_from(value: &Bson) -> Option<&Decimal128> {
         match value {
             Bson::Decimal128(decimal) => Some(decimal),
             _ => None,
         }
     }
 
-    fn kind_mut(value: &mut Bson) -> Option<&mut Decimal128> {
+    fn get_mut_from(value: &mut Bson) -> Option<&mut Decimal128> {
         match value {
             Bson::Decimal128(decimal) => Some(decimal),
             _ => None,

@@ -1,8 +1,8 @@
 //! The texts of values on several lines.
 ghost use Rattle.std.specs.Prelude.{◌≡◌, ◌==◌, cond, [], IfOk, string_bytes};
 ghost use Rattle.bson_model.specs.Value.{array, document as document_of};
-ghost use Rattle.bson_model.specs.Pretty.{pretty, blanks, inner, closing};
-ghost use Rattle.bson.specs.PrettyLines.{AppendsOnOk, entry_line, item_line};
+ghost use Rattle.bson_model.specs.Pretty.{pretty_text, blanks, inner_indent, closing_line};
+ghost use Rattle.bson.specs.PrettyLines.{AppendsBytesIfOk, entry_line, item_line};
 ghost use Rattle.bson.specs.View.{bson_view, values_view, pairs_view, document_view};
 
 use crate::bson::Bson;
@@ -22,11 +22,11 @@ impl Bson {
     ///
     /// Returns `AllocError` if a request for memory is refused.
     pub fn to_pretty_string(&self, alloc: Global, indent: usize) -> Result<String, AllocError>
-        ensures { IfOk result (λ s. string_bytes s ≡ pretty indent (bson_view self.now)) }
+        ensures { IfOk result (λ text. string_bytes text ≡ pretty_text indent (bson_view self.now)) }
     {
-        let mut out = String::new(alloc);
-        push_value(self, indent, &mut out)?;
-        Ok(out)
+        let mut output = String::new(alloc);
+        push_value(self, indent, &mut output)?;
+        Ok(output)
     }
 }
 
@@ -38,107 +38,117 @@ impl Document {
     ///
     /// Returns `AllocError` if a request for memory is refused.
     pub fn to_pretty_string(&self, indent: usize) -> Result<String, AllocError>
-        ensures { IfOk result (λ s. string_bytes s ≡ pretty indent (document_of (document_view self.now))) }
+        ensures { IfOk result (λ text. string_bytes text ≡ pretty_text indent (document_of (document_view self.now))) }
     {
-        let mut out = String::new(self.pairs.allocator());
-        push_pairs(self, indent, &mut out)?;
-        Ok(out)
+        let mut output = String::new(self.pairs.allocator());
+        push_pairs(self, indent, &mut output)?;
+        Ok(output)
     }
 }
 
 #[cycle(pretty)]
-fn push_value(value: &Bson, indent: usize, out: &mut String) -> Result<(), AllocError>
-    ensures { AppendsOnOk out.old result (pretty indent (bson_view value.now)) out.new }
+fn push_value(value: &Bson, indent: usize, output: &mut String) -> Result<(), AllocError>
+    ensures { AppendsBytesIfOk output.old result (pretty_text indent (bson_view value.now)) output.new }
 {
     match value {
-        Bson::Array(items) => push_items(items, indent, out),
-        Bson::Document(document) => push_pairs(document, indent, out),
-        _ => write!(out, "{value}"),
+        Bson::Array(items) => push_items(items, indent, output),
+        Bson::Document(document) => push_pairs(document, indent, output),
+        _ => write!(output, "{value}"),
     }
 }
 
 #[cycle(pretty)]
-fn push_items(items: &Vec<Bson>, indent: usize, out: &mut String) -> Result<(), AllocError>
-    ensures { AppendsOnOk out.old result (pretty indent (array (values_view items.now.items))) out.new }
+fn push_items(items: &Vec<Bson>, indent: usize, output: &mut String) -> Result<(), AllocError>
+    ensures { AppendsBytesIfOk output.old result (pretty_text indent (array (values_view items.now.items))) output.new }
 {
     if items.is_empty() {
-        return out.push_str("[]");
+        return output.push_str("[]");
     }
-    out.push_str("[")?;
-    for i in 0..items.len() {
-        push_separator(i, ", ", out)?;
-        push_item(&items[i], indent, out)?;
+    output.push_str("[")?;
+    for element_index in 0..items.len() {
+        push_separator(element_index, ", ", output)?;
+        push_item(&items[element_index], indent, output)?;
     }
-    push_closing(indent, "]", out)
+    push_closing(indent, "]", output)
 }
 
 #[cycle(pretty)]
-fn push_item(value: &Bson, indent: usize, out: &mut String) -> Result<(), AllocError>
-    ensures { AppendsOnOk out.old result (item_line indent value.now) out.new }
+fn push_item(value: &Bson, indent: usize, output: &mut String) -> Result<(), AllocError>
+    ensures { AppendsBytesIfOk output.old result (item_line indent value.now) output.new }
 {
-    out.push_str("\n")?;
-    push_blanks(indent, out)?;
-    push_value(value, inner_indent(indent), out)
+    output.push_str("\n")?;
+    push_blanks(indent, output)?;
+    push_value(value, inner_indent(indent), output)
 }
 
 #[cycle(pretty)]
-fn push_pairs(document: &Document, indent: usize, out: &mut String) -> Result<(), AllocError>
-    ensures { AppendsOnOk out.old result (pretty indent (document_of (pairs_view document.now.pairs))) out.new }
+fn push_pairs(document: &Document, indent: usize, output: &mut String) -> Result<(), AllocError>
+    ensures { AppendsBytesIfOk output.old result
+        (pretty_text indent (document_of (pairs_view document.now.pairs))) output.new }
 {
     let pairs = &document.pairs;
     if pairs.len() == 0 {
-        return out.push_str("{}");
+        return output.push_str("{}");
     }
-    out.push_str("{\n")?;
-    for i in 0..pairs.len() {
-        push_separator(i, ",\n", out)?;
-        push_entry(pairs.key_at(i).as_str(), pairs.value_at(i), indent, out)?;
+    output.push_str("{\n")?;
+    for element_index in 0..pairs.len() {
+        push_separator(element_index, ",\n", output)?;
+        push_entry(
+            pairs.key_at(element_index).as_str(),
+            pairs.value_at(element_index),
+            indent,
+            output,
+        )?;
     }
-    push_closing(indent, "}", out)
+    push_closing(indent, "}", output)
 }
 
 #[cycle(pretty)]
-fn push_entry(key: &str, value: &Bson, indent: usize, out: &mut String) -> Result<(), AllocError>
-    ensures { AppendsOnOk out.old result (entry_line indent (key.now, value.now)) out.new }
+fn push_entry(key: &str, value: &Bson, indent: usize, output: &mut String) -> Result<(), AllocError>
+    ensures { AppendsBytesIfOk output.old result (entry_line indent (key.now, value.now)) output.new }
 {
-    push_blanks(indent, out)?;
-    write!(out, "\"{key}\": ")?;
-    push_value(value, inner_indent(indent), out)
+    push_blanks(indent, output)?;
+    write!(output, "\"{key}\": ")?;
+    push_value(value, inner_indent(indent), output)
 }
 
 // Returns the indent of what is inside: 2 more, up to the greatest usize.
 fn inner_indent(indent: usize) -> usize
-    ensures { result ≡ inner indent }
+    ensures { result ≡ inner_indent indent }
 {
     indent.saturating_add(2)
 }
 
 // Writes the separator before the element at an index.
-fn push_separator(at: usize, separator: &str, out: &mut String) -> Result<(), AllocError>
-    ensures { AppendsOnOk out.old result (cond (at == 0) [] separator.now) out.new }
+fn push_separator(
+    element_index: usize,
+    separator: &str,
+    output: &mut String,
+) -> Result<(), AllocError>
+    ensures { AppendsBytesIfOk output.old result (cond (element_index == 0) [] separator.now) output.new }
 {
-    if at == 0 {
+    if element_index == 0 {
         Ok(())
     } else {
-        out.push_str(separator)
+        output.push_str(separator)
     }
 }
 
-fn push_blanks(count: usize, out: &mut String) -> Result<(), AllocError>
-    ensures { AppendsOnOk out.old result (blanks count) out.new }
+fn push_blanks(count: usize, output: &mut String) -> Result<(), AllocError>
+    ensures { AppendsBytesIfOk output.old result (blanks count) output.new }
 {
-    out.reserve(count)?;
+    output.reserve(count)?;
     for _ in 0..count {
-        out.push(' ')?;
+        output.push(' ')?;
     }
     Ok(())
 }
 
 // The closing bracket, on a line of its own.
-fn push_closing(indent: usize, bracket: &str, out: &mut String) -> Result<(), AllocError>
-    ensures { AppendsOnOk out.old result (closing indent bracket.now) out.new }
+fn push_closing(indent: usize, bracket: &str, output: &mut String) -> Result<(), AllocError>
+    ensures { AppendsBytesIfOk output.old result (closing_line indent bracket.now) output.new }
 {
-    out.push_str("\n")?;
-    push_blanks(indent.saturating_sub(2), out)?;
-    out.push_str(bracket)
+    output.push_str("\n")?;
+    push_blanks(indent.saturating_sub(2), output)?;
+    output.push_str(bracket)
 }

@@ -18,15 +18,15 @@ pub(crate) fn scalar_ref(value: &Bson) -> ScalarRef<'_>
         Bson::Undefined => ScalarRef::Undefined,
         Bson::MinKey => ScalarRef::MinKey,
         Bson::MaxKey => ScalarRef::MaxKey,
-        Bson::Boolean(b) => ScalarRef::Boolean(*b),
+        Bson::Boolean(truth) => ScalarRef::Boolean(*truth),
         Bson::Double(pattern) => ScalarRef::Double(*pattern),
-        Bson::Int32(z) => ScalarRef::Int32(*z),
-        Bson::Int64(z) => ScalarRef::Int64(*z),
+        Bson::Int32(integer) => ScalarRef::Int32(*integer),
+        Bson::Int64(integer) => ScalarRef::Int64(*integer),
         Bson::String(text) => ScalarRef::String(text.as_str()),
         Bson::Symbol(text) => ScalarRef::Symbol(text.as_str()),
         Bson::JavaScriptCode(code) => ScalarRef::JavaScriptCode(code.as_str()),
         Bson::RegularExpression(regex) => ScalarRef::RegularExpression(regex),
-        Bson::Timestamp(stamp) => ScalarRef::Timestamp(*stamp),
+        Bson::Timestamp(timestamp) => ScalarRef::Timestamp(*timestamp),
         Bson::Binary(binary) => ScalarRef::Binary(binary),
         Bson::ObjectId(id) => ScalarRef::ObjectId(*id),
         Bson::DateTime(date) => ScalarRef::DateTime(*date),
@@ -47,8 +47,8 @@ fn is_scalar(value: &Bson) -> bool
 }
 
 // Whether both hold no other, and are the same.
-pub(crate) fn same_scalars(a: &Bson, b: &Bson) -> bool
-    ensures { result ≡ scalars_eq (bson_view a.now) (bson_view b.now) }
+pub(crate) fn same_scalars(left: &Bson, right: &Bson) -> bool
+    ensures { result ≡ scalars_eq (bson_view left.now) (bson_view right.now) }
 {
-    is_scalar(a) && is_scalar(b) && scalar_ref(a) == scalar_ref(b)
+    is_scalar(left) && is_scalar(right) && scalar_ref(left) == scalar_ref(right)
 }

@@ -13,10 +13,10 @@ use Rattle.bson_types.specs.ElementTags.{tag_of}
 use Rattle.bson_model.specs.Value.{Value, Pairs, no_pairs}
 use Rattle.bson_model.specs.Value as model
 use Rattle.bson_bytes.specs.Grammar.{little_endian, IsName, IsDocument, is_document, IsElementList, is_empty, is_element, IsValue}
-use Rattle.bson_bytes.specs.Grammar.{is_double, is_text, is_embedded, is_array, is_binary, is_false, is_true, is_null}
+use Rattle.bson_bytes.specs.Grammar.{is_double, is_text, is_embedded_document, is_array, is_binary, is_false, is_true, is_null}
 use Rattle.bson_bytes.specs.Grammar.{is_int32, is_int64, is_old_binary, is_undefined, is_object_id, is_date, is_regex}
-use Rattle.bson_bytes.specs.Grammar.{is_pointer, is_code, is_symbol, is_scope, is_timestamp, is_decimal, is_max}
-use Rattle.bson_bytes.specs.Grammar.{is_min}
+use Rattle.bson_bytes.specs.Grammar.{is_pointer, is_code, is_symbol, is_scope, is_timestamp, is_decimal, is_max_key}
+use Rattle.bson_bytes.specs.Grammar.{is_min_key}
 use Rattle.bson_bytes.specs.Grammar.{deduplicated_onto, text_bytes, IsText}
 use Rattle.bson_bytes.specs.Reading.{read_binary, read_boolean, read_bytes, read_regex, read_pointer, read_timestamp, read_code_with_scope}
 use Rattle.bson_bytes.specs.Reading.{read_value_in, read_elements, read_document_in, EarlierKeys, no_earlier_keys, add_earlier_key}
@@ -92,7 +92,7 @@ mutual
       → read_value_in keys (read_document_in keys d) t (bytes ++ rest) ≡ Ok (v, rest)
   value_again (is_double d p lt) rest = rw (number_again w64 (2 ^ 64) wide64 p rest lt) refl
   value_again (is_text d s t) rest = rw (text_again s rest t.0 t.1) refl
-  value_again {keys} (is_embedded d bytes ps w once) rest = rw (document_again w (no_earlier_keys keys) (stand_from keys ps once) rest) refl
+  value_again {keys} (is_embedded_document d bytes ps w once) rest = rw (document_again w (no_earlier_keys keys) (stand_from keys ps once) rest) refl
   value_again (is_array d bytes ps w) rest = rw (document_again w None tt rest) refl
   value_again (is_binary d b s lt n fits) rest = binary_again b s rest n fits
   value_again (is_old_binary d s fits) rest = old_binary_again s rest fits
@@ -111,8 +111,8 @@ mutual
   value_again (is_timestamp d i t p q) rest = timestamp_again i t rest p q
   value_again (is_int64 d n lt) rest = rw (number_again w64 (2 ^ 64) wide64 n rest lt) refl
   value_again (is_decimal d s e) rest = rw (exact_again 16 s rest e) refl
-  value_again (is_max d) rest = refl
-  value_again (is_min d) rest = refl
+  value_again (is_max_key d) rest = refl
+  value_again (is_min_key d) rest = refl
 
   list_again : {keys : DuplicateKeys} {d : ℕ} {list : List ℕ} {ps : Pairs} → IsElementList keys d list ps → (before : EarlierKeys)
       → Stand before ps → (m : ℕ) (rest : List ℕ) → length (list ++ 0 ∷ rest) ≤ m

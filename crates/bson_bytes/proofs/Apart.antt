@@ -8,7 +8,7 @@ use Rattle.bson_bytes.specs.Grammar.{insert_value, deduplicated_onto, deduplicat
 use Rattle.bson_model.specs.Value.{pair_keys, Value, Pairs, no_pairs, pair}
 use Rattle.bson_model.specs.DistinctKeys.{has_pair}
 use Rattle.bson_scalar.specs.KeyHash.{key_hash}
-use Rattle.bson_bytes.specs.Source.{with_pair}
+use Rattle.bson_bytes.specs.Source.{with_last_pair}
 use Rattle.bson_bytes.proofs.Loop.{join, join_none, join_more}
 
 -- ---- numbers of which no two are equal
@@ -51,9 +51,9 @@ avoids_later : (l : List ℕ) (done : Pairs) (k : List ℕ) (v : Value) (ps : Pa
 avoids_later l no_pairs k v ps h = h.0
 avoids_later l (pair a w done) k v ps h = avoids_later l done k v ps h.1
 
--- a new key goes last
+-- a new key becomes the last
 insert_last : (done : Pairs) (k : List ℕ) (v : Value) (ps : Pairs)
-    → Apart (map key_hash (pair_keys (join done (pair k v ps)))) → insert_value k v done ≡ with_pair done k v
+    → Apart (map key_hash (pair_keys (join done (pair k v ps)))) → insert_value k v done ≡ with_last_pair done k v
 insert_last no_pairs k v ps h = refl
 insert_last (pair l w done) k v ps h =
     let differ : key_hash k ≢ key_hash l = λ e. avoids_later l done k v ps h.0 (sym e) in
@@ -64,7 +64,7 @@ settle_apart no_pairs done h = sym (join_none done)
 settle_apart (pair k v ps) done h =
     let more = join_more done k v ps in
     ap (λ (qs : Pairs). deduplicated_onto qs ps) (insert_last done k v ps h)
-    ∙ settle_apart ps (with_pair done k v) (subst (λ (qs : Pairs). Apart (map key_hash (pair_keys qs))) (sym more) h) ∙ more
+    ∙ settle_apart ps (with_last_pair done k v) (subst (λ (qs : Pairs). Apart (map key_hash (pair_keys qs))) (sym more) h) ∙ more
 
 pub one_each_is : (ps : Pairs) → Apart (map key_hash (pair_keys ps)) → deduplicated ps ≡ ps
 one_each_is ps apart = settle_apart ps no_pairs apart

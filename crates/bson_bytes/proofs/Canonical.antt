@@ -1,4 +1,4 @@
--- The bytes that a value is written as are in the grammar, and stand for it.
+-- The bytes that a value is written as are in the grammar, and represent it.
 use Rattle.std.proofs.Common.{◌≡◌, ℕ, suc, ◌+◌, ◌^◌, ◌<◌, Bool, true, false, cond, eqb, List, [], ◌∷◌, ◌++◌, length}
 use Rattle.std.proofs.Common.{refl, sym, ap, subst}
 use Rattle.std.proofs.Common.{◌∙◌, append_assoc, arith}
@@ -22,14 +22,14 @@ use Rattle.bson_scalar.specs.Scalar.{db_pointer}
 use Rattle.bson_model.specs.Normal.{map_scalars, map_scalars_of_items}
 use Rattle.bson_model.specs.Value.{Value, Values, no_values, value, Pairs, no_pairs, pair, scalar, code_scope, array}
 use Rattle.bson_model.specs.Value.{document}
-use Rattle.bson_bytes.specs.Grammar.{little_endian, IsName, NoZero, IsLength, scope_bytes, document_of_elements, pair_values}
+use Rattle.bson_bytes.specs.Grammar.{little_endian, IsName, HasNoNulByte, IsLength, code_with_scope_bytes, document_of_elements, pair_values}
 use Rattle.bson_bytes.specs.Grammar.{binary_bytes, old_binary_bytes, insert_value, deduplicated_onto, deduplicated}
 use Rattle.bson_bytes.specs.Grammar.{IsDocument, is_document, IsElementList, is_empty, is_element, IsValue, is_double, is_text}
-use Rattle.bson_bytes.specs.Grammar.{is_embedded, is_array, is_binary, is_old_binary, is_undefined, is_object_id}
+use Rattle.bson_bytes.specs.Grammar.{is_embedded_document, is_array, is_binary, is_old_binary, is_undefined, is_object_id}
 use Rattle.bson_bytes.specs.Grammar.{is_false}
 use Rattle.bson_bytes.specs.Grammar.{is_true, is_date, is_null, is_regex, is_pointer, is_code, is_symbol, is_scope}
-use Rattle.bson_bytes.specs.Grammar.{is_int32, is_timestamp, is_int64, is_decimal, is_min, is_max}
-use Rattle.bson_bytes.specs.ReadDocuments.{IsRead}
+use Rattle.bson_bytes.specs.Grammar.{is_int32, is_timestamp, is_int64, is_decimal, is_min_key, is_max_key}
+use Rattle.bson_bytes.specs.ReadDocuments.{IsReadAsDocument}
 use Rattle.bson_bytes.specs.declared.duplicate_keys.DuplicateKeys.TheVariants.{Replace}
 use Rattle.bson_bytes.specs.Reading.{reads_bytes}
 use Rattle.bson_bytes.specs.Writing.{scalar_bytes, name_bytes, type_of, value_bytes, array_elements_bytes}
@@ -42,7 +42,7 @@ use Rattle.bson_bytes.proofs.PartLaws.{ok_is}
 
 -- ---- the keys of an array
 
-no_zero_digits : (cs : List ℕ) → AllDigits 10 cs → NoZero cs
+no_zero_digits : (cs : List ℕ) → AllDigits 10 cs → HasNoNulByte cs
 no_zero_digits [] h = tt
 no_zero_digits (c ∷ cs) h = (
   (λ e. let low : digit_value 0 < 10 = subst (λ (x : ℕ). digit_value x < 10) e h.0 in absurd (omega (arith, low))),
@@ -75,8 +75,8 @@ scalar_is : (x : Scalar) (d : ℕ) → FitsScalar x → IsWellTypedScalar x
     → IsValue Replace d (scalar_type x) (scalar_bytes x) (scalar (with_written_subtype x))
 scalar_is null d f t = is_null d
 scalar_is undefined d f t = is_undefined d
-scalar_is min_key d f t = is_min d
-scalar_is max_key d f t = is_max d
+scalar_is min_key d f t = is_min_key d
+scalar_is max_key d f t = is_max_key d
 scalar_is (boolean true) d f t = is_true d
 scalar_is (boolean false) d f t = is_false d
 scalar_is (double p) d f t = is_double d p t
@@ -151,7 +151,7 @@ mutual
   value_is (code_scope s ps) d f t n =
       let list = list_is ps n.0 f.0.1.0 t.1 n.2 in
       let doc = document_of n.0 d (pairs_read_back ps) (elements_bytes ps) n.1 list f.0.1.1 in
-      subst (λ (q : Pairs). IsValue Replace d tag.JavaScriptCodeWithScope (scope_bytes s (document_of_elements (elements_bytes ps))) (code_scope s q))
+      subst (λ (q : Pairs). IsValue Replace d tag.JavaScriptCodeWithScope (code_with_scope_bytes s (document_of_elements (elements_bytes ps))) (code_scope s q))
       (one_each_written ps t.2) (is_scope d s (document_of_elements (elements_bytes ps)) (pairs_read_back ps) (t.0, f.0.0) doc tt f.1)
   value_is (array vs) d f t n =
       let items = items_is vs n.0 0 f.0 t n.2 (omega (arith, f.1)) in
@@ -162,7 +162,7 @@ mutual
       let list = list_is ps n.0 f.0 t.0 n.2 in
       let doc = document_of n.0 d (pairs_read_back ps) (elements_bytes ps) n.1 list f.1 in
       subst (λ (q : Pairs). IsValue Replace d tag.EmbeddedDocument (document_of_elements (elements_bytes ps)) (document q)) (one_each_written ps t.1)
-      (is_embedded d (document_of_elements (elements_bytes ps)) (pairs_read_back ps) doc tt)
+      (is_embedded_document d (document_of_elements (elements_bytes ps)) (pairs_read_back ps) doc tt)
 
   items_is : (vs : Values) (d n : ℕ) → FitsItems vs → AreWellTyped vs → ItemsNestUpTo vs d
       → n + length (array_elements_bytes n vs) < 2 ^ 64 → Numbered d n vs
@@ -187,11 +187,11 @@ mutual
 
 -- what is written is read back
 pub written_read : (d : ℕ) (ps : Pairs) → FitsDocument ps → IsWellTypedDocument ps → PairsNestUpTo ps d
-    → IsRead (suc d) (document_bytes ps) (pairs_read_back ps)
+    → IsReadAsDocument (suc d) (document_bytes ps) (pairs_read_back ps)
 written_read d ps f t h = record {
   elements = pairs_read_back ps;
   grammar = is_document d (elements_bytes ps) (pairs_read_back ps) (list_is ps d f.0 t.0 h) f.1;
-  once = tt;
+  keys_allowed = tt;
   pairs = sym (one_each_written ps t.1);
 }
 

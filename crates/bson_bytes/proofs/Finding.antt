@@ -13,13 +13,13 @@ use Rattle.bson_model.specs.Value.{Value, Pairs, no_pairs, pair, value_at_key}
 use Rattle.bson_bytes.specs.declared.fault.Fault.{Fault}
 use Rattle.bson_bytes.specs.Grammar.{deduplicated}
 use Rattle.bson_bytes.specs.declared.duplicate_keys.DuplicateKeys.TheVariants.{Replace}
-use Rattle.bson_bytes.specs.Fault.{at, ◌>>=◌}
+use Rattle.bson_bytes.specs.Fault.{fault_at, ◌>>=◌}
 use Rattle.bson_bytes.specs.declared.fault.FaultKind.TheVariants.{Trailing}
 use Rattle.bson_bytes.specs.Reading.{split_at_nul, read_first_document, read_document_in, read_value_in, insert_pairs_read, reads_bytes, reads_bytes_in}
 use Rattle.bson_bytes.specs.TypeTags.{type_of_tag}
 use Rattle.bson_bytes.specs.RawElements.{HasValue, IsElement, IsFirstElement, IsValueOfElement, IsValueOfFirstElement}
 use Rattle.bson_bytes.specs.ReadElements.{pairs_or_none, without_rest, last_value, BeginsWithDocument, BeginsWithElements, elements_from_bytes}
-use Rattle.bson_bytes.specs.Skip.{first_element_of, skip, skip_value, IsNameAndRest}
+use Rattle.bson_bytes.specs.Skip.{first_element_of, skip_bytes, skip_value, IsNameAndRest}
 use Rattle.bson_bytes.specs.declared.raw_element.RawElement.{RawElement}
 use Rattle.bson_bytes.proofs.Found.{value_is}
 use Rattle.bson_bytes.proofs.Passing.{kind_tag, sliced}
@@ -48,12 +48,12 @@ elements_are d bytes ps h = ok_from (elements_from_bytes d bytes) (ps, h.0) h.1
 
 -- the elements follow the length
 pub elements_after : (d : ℕ) (bytes : List ℕ) (ps : Pairs) → BeginsWithDocument d bytes ps
-    → (1 ≤ d) × (skip 4 bytes ≡ Some (drop 4 bytes)) × BeginsWithElements (d - 1) (drop 4 bytes) ps
+    → (1 ≤ d) × (skip_bytes 4 bytes ≡ Some (drop 4 bytes)) × BeginsWithElements (d - 1) (drop 4 bytes) ps
 elements_after d bytes ps h =
     let o = opened d bytes ps h.0 h.1 in
     (o.deep, rw (le-ltb (length bytes) 4 o.first.1) refl, subst (λ (list : List ℕ). BeginsWithElements (d - 1) list ps) o.first.0 (h.0, o.read))
 
-pub elements_found : (o : Option (Bor (List ℕ))) (d : ℕ) (bytes : List ℕ) (ps : Pairs) → option_map (λ x. x.now) o ≡ skip 4 bytes
+pub elements_found : (o : Option (Bor (List ℕ))) (d : ℕ) (bytes : List ℕ) (ps : Pairs) → option_map (λ x. x.now) o ≡ skip_bytes 4 bytes
     → BeginsWithDocument d bytes ps → (1 ≤ d) × IsSomeAnd o (λ list. BeginsWithElements (d - 1) list.now ps)
 elements_found None d bytes ps h doc =
     let some = (elements_after d bytes ps doc).1 in absurd cc
@@ -79,11 +79,11 @@ element_by d ps k s b c t skips =
     let last : c.now ≡ drop (length b.now - length c.now) b.now = is_last b.now c.now (subst (λ (x : List ℕ). Lookahead b.now x) next t.lookahead) in
     record {
       value = t.value;
-      others = t.others;
+      later_pairs = t.others;
       pairs = t.pairs;
       utf8 = t.utf8;
       read = t.read ∙ ap (λ (rest : List ℕ). Ok (t.value, rest)) (next ∙ last);
-      more = subst (λ (rest : List ℕ). BeginsWithElements d rest t.others) next t.more;
+      later_elements = subst (λ (rest : List ℕ). BeginsWithElements d rest t.others) next t.more;
     }
 
 abbrev typed_as : ElementType → List ℕ × List ℕ → ElementType × List ℕ × List ℕ
@@ -148,25 +148,25 @@ kept_by : (d : ℕ) (has : Bool) (x : Option (List ℕ)) (bytes : List ℕ) (o :
 kept_by d true x bytes o k v ps here read = (k, v, ps, refl, read)
 kept_by d false x bytes o k v ps here read = here
 
-later_kept : (has : Bool) (at : ℕ) (found : Option ℕ) (bytes : List ℕ)
-    → option_map (λ i. drop i bytes) (cond has (Some at) found) ≡ cond has (Some (drop at bytes)) (option_map (λ i. drop i bytes) found)
-later_kept true at found bytes = refl
-later_kept false at found bytes = refl
+later_kept : (has : Bool) (fault_at : ℕ) (found : Option ℕ) (bytes : List ℕ)
+    → option_map (λ i. drop i bytes) (cond has (Some fault_at) found) ≡ cond has (Some (drop fault_at bytes)) (option_map (λ i. drop i bytes) found)
+later_kept true fault_at found bytes = refl
+later_kept false fault_at found bytes = refl
 
-pub finds_next : (d : ℕ) (key bytes : List ℕ) (found : Option ℕ) (at : ℕ) (total : Option Value)
-    → Finds d key (option_map (λ i. drop i bytes) found) (drop at bytes) total → (name next : List ℕ)
-    → ((ps : Pairs) → BeginsWithElements d (drop at bytes) ps → IsNameAndRest ps (drop at bytes) (Some (name, next)))
-    → (has : Bool) (later_position : Option ℕ) → has ≡ bytes_eq key name → later_position ≡ cond has (Some at) found
+pub finds_next : (d : ℕ) (key bytes : List ℕ) (found : Option ℕ) (fault_at : ℕ) (total : Option Value)
+    → Finds d key (option_map (λ i. drop i bytes) found) (drop fault_at bytes) total → (name next : List ℕ)
+    → ((ps : Pairs) → BeginsWithElements d (drop fault_at bytes) ps → IsNameAndRest ps (drop fault_at bytes) (Some (name, next)))
+    → (has : Bool) (later_position : Option ℕ) → has ≡ bytes_eq key name → later_position ≡ cond has (Some fault_at) found
     → Finds d key (option_map (λ i. drop i bytes) later_position) next total
-finds_next d key bytes found at total h name next is has later_position same chosen =
-    let rest = drop at bytes in
+finds_next d key bytes found fault_at total h name next is has later_position same chosen =
+    let rest = drop fault_at bytes in
     let p = is h.left h.read in
     let t = took d rest h.left p.0 name p.1 h.read p.2 in
     let more : t.next ≡ next = some_is t.next next (sym t.skips ∙ p.3) in
     let here = kept_by d has (option_map (λ i. drop i bytes) found) rest h.value name t.value t.others h.here
     (subst (BeginsWithElements d rest) t.pairs h.read) in
     let kept : cond has (Some rest) (option_map (λ i. drop i bytes) found) ≡ option_map (λ i. drop i bytes) later_position =
-    sym (later_kept has at found bytes) ∙ ap (option_map (λ i. drop i bytes)) (sym chosen) in
+    sym (later_kept has fault_at found bytes) ∙ ap (option_map (λ i. drop i bytes)) (sym chosen) in
     record {
       left = t.others;
       read = subst (λ (list : List ℕ). BeginsWithElements d list t.others) more t.more;
@@ -182,18 +182,18 @@ first_found : (d : ℕ) (o : Option Value) (r : Option RawElement) (k : List ℕ
     → IsFirstElement d r (pair k v ps) → IsValueOfElement d r o
 first_found d o None k v ps is h = absurd cc
 first_found d o (Some e) k v ps is h =
-    let same : v ≡ h.value = pair_value k e.key.now v h.value ps h.others h.pairs in (h.value, is ∙ ap Some same, h.read)
+    let same : v ≡ h.value = pair_value k e.key.now v h.value ps h.later_pairs h.pairs in (h.value, is ∙ ap Some same, h.read)
 
 kept_first : (d : ℕ) (o : Option Value) (bytes : List ℕ) (r : Option RawElement) → IsValueOfFirstElement d (Some bytes) o
     → ((ps : Pairs) → BeginsWithElements d bytes ps → IsFirstElement d r ps) → IsValueOfElement d r o
 kept_first d o bytes r h first = first_found d o r h.0 h.1 h.2 h.3 (first (pair h.0 h.1 h.2) h.4)
 
-pub kept_found : (d : ℕ) (o : Option Value) (bytes : List ℕ) (found : Option ℕ) (at : ℕ) (r : Option RawElement) → found ≡ Some at
-    → at ≤ length bytes → IsValueOfFirstElement d (option_map (λ i. drop i bytes) found) o
-    → ((ps : Pairs) → BeginsWithElements d (take (length bytes - at) (drop at bytes)) ps → IsFirstElement d r ps) → IsValueOfElement d r o
-kept_found d o bytes found at r is little_endian kept first =
-    kept_first d o (drop at bytes) r (subst (λ (x : Option ℕ). IsValueOfFirstElement d (option_map (λ i. drop i bytes) x) o) is kept)
-    (subst (λ (list : List ℕ). (ps : Pairs) → BeginsWithElements d list ps → IsFirstElement d r ps) (sliced bytes at little_endian) first)
+pub kept_found : (d : ℕ) (o : Option Value) (bytes : List ℕ) (found : Option ℕ) (fault_at : ℕ) (r : Option RawElement) → found ≡ Some fault_at
+    → fault_at ≤ length bytes → IsValueOfFirstElement d (option_map (λ i. drop i bytes) found) o
+    → ((ps : Pairs) → BeginsWithElements d (take (length bytes - fault_at) (drop fault_at bytes)) ps → IsFirstElement d r ps) → IsValueOfElement d r o
+kept_found d o bytes found fault_at r is little_endian kept first =
+    kept_first d o (drop fault_at bytes) r (subst (λ (x : Option ℕ). IsValueOfFirstElement d (option_map (λ i. drop i bytes) x) o) is kept)
+    (subst (λ (list : List ℕ). (ps : Pairs) → BeginsWithElements d list ps → IsFirstElement d r ps) (sliced bytes fault_at little_endian) first)
 
 -- ---- a validated document
 
@@ -236,10 +236,10 @@ same_value {d} {e} g w h = ap Some (sym (read_same (d - 1) e g.value w g.read h)
 -- ---- a whole document
 
 whole_by : (r : Result (Pairs × List ℕ) Fault) (ps : Pairs)
-    → (insert_pairs_read no_pairs r >>= λ x. if length x.1 == 0 then Ok x.0 else Err (at Trailing x.1)) ≡ Ok ps
+    → (insert_pairs_read no_pairs r >>= λ x. if length x.1 == 0 then Ok x.0 else Err (fault_at Trailing x.1)) ≡ Ok ps
     → (is_ok r ≡ true) × (ps ≡ deduplicated (pairs_or_none r))
 whole_by (Ok x) ps e =
-    let g = if_ok (length x.1 == 0) (Ok (deduplicated x.0)) (at Trailing x.1) ps e in
+    let g = if_ok (length x.1 == 0) (Ok (deduplicated x.0)) (fault_at Trailing x.1) ps e in
     (refl, sym (ok_is (deduplicated x.0) ps g.1))
 whole_by (Err f) ps e = absurd cc
 

@@ -4,10 +4,10 @@ use Rattle.std.proofs.lemmas.Bool.{eqb-true}
 use Rattle.std.proofs.lemmas.List.{append-nil, append_cancel_right, nil_from_length}
 use Rattle.bson_model.specs.Value.{Pairs, no_pairs}
 use Rattle.bson_bytes.specs.declared.fault.FaultKind.TheVariants.{Trailing}
-use Rattle.bson_bytes.specs.Fault.{at}
+use Rattle.bson_bytes.specs.Fault.{fault_at}
 use Rattle.bson_bytes.specs.Grammar.{IsDocument, AreAllowedKeys, deduplicated_onto, deduplicated}
 use Rattle.bson_bytes.specs.Reading.{insert_pairs_read, read_document_in, reads_bytes_in, no_earlier_keys}
-use Rattle.bson_bytes.specs.ReadDocuments.{IsReadIn, IsFirstDocumentIn}
+use Rattle.bson_bytes.specs.ReadDocuments.{IsReadAsDocumentIn, IsFirstDocumentIn}
 use Rattle.bson_bytes.specs.declared.duplicate_keys.DuplicateKeys.{DuplicateKeys}
 use Rattle.bson_bytes.proofs.PartLaws.{IsBytes, bind_ok, if_ok, ok_is}
 use Rattle.bson_bytes.proofs.Takes.{document_takes}
@@ -16,13 +16,13 @@ use Rattle.bson_bytes.proofs.Rounds.{of_mapped}
 use Rattle.bson_bytes.proofs.Standing.{may_stand, stand_from}
 
 pub grammar_from : (keys : DuplicateKeys) (d : ℕ) (bytes : List ℕ) (qs : Pairs) → IsBytes bytes
-    → reads_bytes_in keys d bytes ≡ Ok qs → IsReadIn keys d bytes qs
+    → reads_bytes_in keys d bytes ≡ Ok qs → IsReadAsDocumentIn keys d bytes qs
 unfolding reads_bytes_in
 grammar_from keys d bytes qs fits e =
     let read = read_document_in keys d (no_earlier_keys keys) bytes in
-    let test = λ (x : Pairs × List ℕ). cond (eqb (length x.1) 0) (Ok x.0) (Err (at Trailing x.1)) in
+    let test = λ (x : Pairs × List ℕ). cond (eqb (length x.1) 0) (Ok x.0) (Err (fault_at Trailing x.1)) in
     let x = bind_ok (insert_pairs_read no_pairs read) test qs e in
-    let g = if_ok (eqb (length x.0.1) 0) (Ok x.0.0) (at Trailing x.0.1) qs x.2 in
+    let g = if_ok (eqb (length x.0.1) 0) (Ok x.0.0) (fault_at Trailing x.0.1) qs x.2 in
     let m = of_mapped (deduplicated_onto no_pairs) read x.0.0 x.0.1 x.1 in
     let t = document_takes keys d (no_earlier_keys keys) bytes m.pairs x.0.1 fits m.read in
     let nothing : x.0.1 ≡ [] = nil_from_length x.0.1 (eqb-true _ _ g.0) in
@@ -30,7 +30,7 @@ grammar_from keys d bytes qs fits e =
     record {
       elements = m.pairs;
       grammar = subst (λ (b : List ℕ). IsDocument keys d b m.pairs) (sym whole) t.spelled.0;
-      once = may_stand keys m.pairs t.spelled.1;
+      keys_allowed = may_stand keys m.pairs t.spelled.1;
       pairs = sym (m.is ∙ ok_is x.0.0 qs g.1);
     }
 
@@ -43,12 +43,12 @@ grammar_read keys d bytes ps w once =
     ∙ document_again w (no_earlier_keys keys) (stand_from keys ps once) [] in
     rw read refl
 
-pub is_read : (keys : DuplicateKeys) (d : ℕ) (bytes : List ℕ) (qs : Pairs) → IsReadIn keys d bytes qs
+pub is_read : (keys : DuplicateKeys) (d : ℕ) (bytes : List ℕ) (qs : Pairs) → IsReadAsDocumentIn keys d bytes qs
     → reads_bytes_in keys d bytes ≡ Ok qs
 is_read keys d bytes qs h =
-    grammar_read keys d bytes h.elements h.grammar h.once ∙ ap (λ (ps : Pairs). Ok ps) (sym h.pairs)
+    grammar_read keys d bytes h.elements h.grammar h.keys_allowed ∙ ap (λ (ps : Pairs). Ok ps) (sym h.pairs)
 
--- no document's bytes begin another's, and none stand for two
+-- no document's bytes begin another's, and none represent two
 pub one_of : (keys : DuplicateKeys) (d : ℕ) (a b x y : List ℕ) (ps qs : Pairs) → IsDocument keys d a ps
     → IsDocument keys d b qs → a ++ x ≡ b ++ y → (a ≡ b) × (ps ≡ qs)
 one_of keys d a b x y ps qs v w e =
@@ -69,7 +69,7 @@ front_from keys d bytes qs rest fits e =
       read = record {
         elements = m.pairs;
         grammar = t.spelled.0;
-        once = may_stand keys m.pairs t.spelled.1;
+        keys_allowed = may_stand keys m.pairs t.spelled.1;
         pairs = sym m.is;
       };
       parts = t.parts;
@@ -82,5 +82,5 @@ front_read keys d bytes qs rest h =
     let ps = h.read.elements in
     let read : read_document_in keys d (no_earlier_keys keys) bytes ≡ Ok (ps, rest) =
     ap (read_document_in keys d (no_earlier_keys keys)) h.parts
-    ∙ document_again h.read.grammar (no_earlier_keys keys) (stand_from keys ps h.read.once) rest in
+    ∙ document_again h.read.grammar (no_earlier_keys keys) (stand_from keys ps h.read.keys_allowed) rest in
     ap (insert_pairs_read no_pairs) read ∙ ap (λ (q : Pairs). Ok (q, rest)) (sym h.read.pairs)

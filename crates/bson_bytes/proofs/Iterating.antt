@@ -12,7 +12,7 @@ use Rattle.bson_bytes.proofs.Offered.{front_from, is_read}
 use Rattle.bson_bytes.specs.RawElements.{HasValue, IsElement}
 use Rattle.bson_bytes.specs.RawIterators.{pairs_list, values_list}
 use Rattle.bson_bytes.specs.ReadElements.{pairs_or_none, without_rest, elements_from_bytes, BeginsWithDocument, BeginsWithElements}
-use Rattle.bson_bytes.specs.Skip.{skip_sized}
+use Rattle.bson_bytes.specs.Skip.{skip_length_prefixed}
 use Rattle.bson_bytes.specs.declared.raw_element.RawElement.{RawElement}
 use Rattle.bson_bytes.proofs.Finding.{elements_there, elements_are, read_same}
 use Rattle.bson_bytes.proofs.Skips.{sized_follows}
@@ -21,7 +21,7 @@ use Rattle.bson_bytes.proofs.Steps.{document_skips, some_is}
 -- ---- the bytes of a document alone
 
 pub alone : (d : ℕ) (bytes rest : List ℕ) (ps : Pairs) → ((i : ℕ) → get_or bytes i 0 < 256) → BeginsWithDocument d bytes ps
-    → skip_sized 0 bytes ≡ Some rest → reads_bytes d (take (length bytes - length rest) bytes) ≡ Ok (deduplicated ps)
+    → skip_length_prefixed 0 bytes ≡ Some rest → reads_bytes d (take (length bytes - length rest) bytes) ≡ Ok (deduplicated ps)
 alone d bytes rest ps fits x skips =
     let s = document_skips d bytes ps x.0 x.1 in
     let same : x.0 ≡ rest = some_is x.0 rest (sym (sized_follows s.0 0 bytes x.0 s.1 s.2) ∙ skips) in
@@ -34,7 +34,7 @@ alone d bytes rest ps fits x skips =
     ap (take n) f.parts ∙ take-append-le n f.front x.0 most ∙ take_all n f.front least in
     ap (reads_bytes d) front ∙ is_read Replace d f.front (deduplicated ps) f.read
 
-pub sized_there : (d : ℕ) (bytes : List ℕ) (ps : Pairs) → BeginsWithDocument d bytes ps → skip_sized 0 bytes ≡ None → ⊥
+pub sized_there : (d : ℕ) (bytes : List ℕ) (ps : Pairs) → BeginsWithDocument d bytes ps → skip_length_prefixed 0 bytes ≡ None → ⊥
 sized_there d bytes ps x none =
     let s = document_skips d bytes ps x.0 x.1 in
     let some = sized_follows s.0 0 bytes x.0 s.1 s.2 in absurd cc
@@ -53,7 +53,7 @@ pub goes : (d : ℕ) (bytes : List ℕ) → is_ok (elements_from_bytes d bytes) 
     → ((f : ℕ) (ps : Pairs) → BeginsWithElements f bytes ps → IsElement f e ps) → Goes d bytes e
 goes d bytes read e h =
     let t = h d (pairs_or_none (elements_from_bytes d bytes)) (elements_there d bytes read) in
-    let a = elements_are d e.rest.now t.others t.more in
+    let a = elements_are d e.rest.now t.later_pairs t.later_elements in
     record {
       value = t.value;
       utf8 = IsUtf8-from_is_utf8 e.key.now t.utf8;

@@ -9,13 +9,13 @@ use Rattle.bson_bytes.specs.declared.fault.Fault.{Fault}
 use Rattle.bson_bytes.specs.declared.fault.FaultKind.TheVariants.{Length}
 use Rattle.bson_bytes.specs.declared.duplicate_keys.DuplicateKeys.{DuplicateKeys}
 use Rattle.bson_bytes.specs.declared.duplicate_keys.DuplicateKeys.TheVariants.{Replace, Refuse}
-use Rattle.bson_bytes.specs.Fault.{at, ◌>>=◌}
+use Rattle.bson_bytes.specs.Fault.{fault_at, ◌>>=◌}
 use Rattle.bson_bytes.specs.Grammar.{pair_values}
 use Rattle.bson_bytes.specs.Reading.{read_byte, read_key, read_length, read_string, read_code_with_scope, insert_pairs_read, read_value_in, read_document_in}
 use Rattle.bson_bytes.specs.Reading.{EarlierKeys, no_earlier_keys, add_earlier_key}
 use Rattle.bson_bytes.specs.TypeTags.{type_of_tag}
 use Rattle.bson_bytes.proofs.Offered.{Read, elements, then_pairs, no_more, one_more}
-use Rattle.bson_bytes.specs.Source.{StopsReadingFor, IsNoFault, reversed_keys, earlier_keys, with_pair}
+use Rattle.bson_bytes.specs.Source.{StopsReadingFor, IsSinkStop, reversed_keys, earlier_keys, with_last_pair}
 use Rattle.bson_bytes.specs.declared.stop.Stop.{Stop}
 use Rattle.bson_bytes.specs.declared.stop.Stop.TheVariants as stops
 
@@ -31,7 +31,7 @@ pub stopped_at : {A : Type 0} (May : Stop → Type 0) (e : Stop) (f : Fault) (wh
     → StopsReadingFor May e whole → whole ≡ Err f
 stopped_at May e f whole is h = subst (λ (x : Stop). StopsReadingFor May x whole) is h
 
-pub stops_sink : {A : Type 0} (May : Stop → Type 0) (e : Stop) (whole : Result A Fault) → May e → IsNoFault e
+pub stops_sink : {A : Type 0} (May : Stop → Type 0) (e : Stop) (whole : Result A Fault) → May e → IsSinkStop e
     → StopsReadingFor May e whole
 stops_sink May (stops.Fault f) whole m n = absurd n
 stops_sink May stops.PossibleDuplicate whole m n = m
@@ -43,7 +43,7 @@ abbrev pub join : Pairs → Pairs → Pairs
 join no_pairs qs = qs
 join (pair k v ps) qs = pair k v (join ps qs)
 
-pub join_more : (ps : Pairs) (k : List ℕ) (v : Value) (qs : Pairs) → join (with_pair ps k v) qs ≡ join ps (pair k v qs)
+pub join_more : (ps : Pairs) (k : List ℕ) (v : Value) (qs : Pairs) → join (with_last_pair ps k v) qs ≡ join ps (pair k v qs)
 join_more no_pairs k v qs = refl
 join_more (pair l w ps) k v qs = ap (pair l w) (join_more ps k v qs)
 
@@ -58,24 +58,24 @@ onto_none : (r : Read) → onto no_pairs r ≡ r
 onto_none (Ok x) = refl
 onto_none (Err f) = refl
 
-onto_then : (ps : Pairs) (k : List ℕ) (v : Value) (r : Read) → onto (with_pair ps k v) r ≡ onto ps (r >>= then_pairs k v)
+onto_then : (ps : Pairs) (k : List ℕ) (v : Value) (r : Read) → onto (with_last_pair ps k v) r ≡ onto ps (r >>= then_pairs k v)
 onto_then ps k v (Ok x) = ap (λ (q : Pairs). Ok (q, x.1)) (join_more ps k v x.0)
 onto_then ps k v (Err f) = refl
 
 -- ---- the loop
 
 pub keys_back_more : (ps : Pairs) (ks : List (List ℕ)) (k : List ℕ) (v : Value)
-    → reversed_keys (with_pair ps k v) ks ≡ k ∷ reversed_keys ps ks
+    → reversed_keys (with_last_pair ps k v) ks ≡ k ∷ reversed_keys ps ks
 keys_back_more no_pairs ks k v = refl
 keys_back_more (pair l w ps) ks k v = keys_back_more ps (l ∷ ks) k v
 
 before_more : (keys : DuplicateKeys) (doc : Bool) (ps : Pairs) (k : List ℕ) (v : Value)
-    → earlier_keys keys doc (with_pair ps k v) ≡ add_earlier_key k (earlier_keys keys doc ps)
+    → earlier_keys keys doc (with_last_pair ps k v) ≡ add_earlier_key k (earlier_keys keys doc ps)
 before_more Replace doc ps k v = refl
 before_more Refuse true ps k v = ap (λ ks. Some ks) (keys_back_more ps [] k v)
 before_more Refuse false ps k v = refl
 
--- what is read behind the pairs that are done, put behind them, is the whole
+-- what is read after the pairs that are done, written after them, is the whole
 pub record ListLeft (keys : DuplicateKeys) (doc : Bool) (d : ℕ) (ps : Pairs) (rest : List ℕ) (total : Read) : Type 0 where
   pub turns : ℕ
   pub enough : length rest ≤ turns
@@ -103,13 +103,13 @@ list_end keys doc d ps rest total t a i e z =
 pub list_more : (keys : DuplicateKeys) (doc : Bool) (d : ℕ) (ps : Pairs) (rest : List ℕ) (total : Read) (t : ℕ) (a : List ℕ)
     (k : ElementType) (s b : List ℕ) (v : Value) (c : List ℕ) → ListLeft keys doc d ps rest total → length c < length rest
     → read_byte rest ≡ Ok (t, a) → (t ≡ 0 → ⊥) → type_of_tag t ≡ Some k → read_key (earlier_keys keys doc ps) a ≡ Ok (s, b)
-    → read_value_in keys (read_document_in keys d) k b ≡ Ok (v, c) → ListLeft keys doc d (with_pair ps s v) c total
+    → read_value_in keys (read_document_in keys d) k b ≡ Ok (v, c) → ListLeft keys doc d (with_last_pair ps s v) c total
 list_more keys doc d ps rest total t a k s b v c i lt e n k-is h w =
     let g = one_more keys d (earlier_keys keys doc ps) i.turns rest t a k s b v c i.enough lt e n k-is h w in
     record {
       turns = g.turns;
       enough = g.enough;
-      read = onto_then ps s v (elements keys d (earlier_keys keys doc (with_pair ps s v)) g.turns c)
+      read = onto_then ps s v (elements keys d (earlier_keys keys doc (with_last_pair ps s v)) g.turns c)
           ∙ ap (λ (before : EarlierKeys). onto ps (elements keys d before g.turns c >>= then_pairs s v)) (before_more keys doc ps s v)
           ∙ ap (onto ps) (sym g.read) ∙ i.read;
     }
@@ -161,6 +161,6 @@ scope_fault inner bytes n a s b f size text read = rw (size, text, read) refl
 
 pub scope_short : (inner : List ℕ → Read) (bytes : List ℕ) (n : ℕ) (a s b : List ℕ) (ps : Pairs) (rest : List ℕ)
     → read_length bytes ≡ Ok (n, a) → read_string a ≡ Ok (s, b) → insert_pairs_read no_pairs (inner b) ≡ Ok (ps, rest)
-    → (n + length rest ≡ length bytes → ⊥) → read_code_with_scope inner bytes ≡ Err (at Length bytes)
+    → (n + length rest ≡ length bytes → ⊥) → read_code_with_scope inner bytes ≡ Err (fault_at Length bytes)
 unfolding read_code_with_scope
 scope_short inner bytes n a s b ps rest size text read k = rw (size, text, read, ne_eqb (n + length rest) (length bytes) k) refl

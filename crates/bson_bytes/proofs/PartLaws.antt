@@ -14,8 +14,8 @@ use Rattle.std.proofs.lemmas.Nat.{le_bytes_4, le_bytes_8, from_le_bytes-to_le_by
 use Rattle.bson_bytes.specs.declared.fault.Fault.{Fault}
 use Rattle.bson_bytes.specs.declared.fault.FaultKind.{FaultKind}
 use Rattle.bson_bytes.specs.declared.fault.FaultKind.TheVariants.{Short, Length, Utf8, End}
-use Rattle.bson_bytes.specs.Fault.{at, ◌>>=◌, or_error}
-use Rattle.bson_bytes.specs.Grammar.{little_endian, IsName, NoZero}
+use Rattle.bson_bytes.specs.Fault.{fault_at, ◌>>=◌, some_or_fault}
+use Rattle.bson_bytes.specs.Grammar.{little_endian, IsName, HasNoNulByte}
 use Rattle.bson_bytes.specs.Reading.{read_byte, read_bytes, read_integer, read_length, read_nul, split_at_nul, prepend_byte, check_utf8}
 use Rattle.bson_bytes.specs.Reading.{read_name, read_string}
 
@@ -63,7 +63,7 @@ done x = Ok x
 pub ok_is : {A : Type 0} (x y : A) → done x ≡ done y → x ≡ y
 ok_is x y e = cc
 
-pub or_fault_ok : {A : Type 0} (o : Option A) (w : FaultKind) (bytes : List ℕ) (x : A) → or_error o w bytes ≡ Ok x → o ≡ Some x
+pub or_fault_ok : {A : Type 0} (o : Option A) (w : FaultKind) (bytes : List ℕ) (x : A) → some_or_fault o w bytes ≡ Ok x → o ≡ Some x
 or_fault_ok (Some y) w bytes x e = ap Some (ok_is y x e)
 or_fault_ok None w bytes x e = absurd cc
 
@@ -110,7 +110,7 @@ IsNumber w limit front n = (front ≡ little_endian w n) × (n < limit)
 pub number_takes : (w : Width) (limit : ℕ) → IsWide w limit → (bytes : List ℕ) (n : ℕ) (rest : List ℕ) → IsBytes bytes → read_integer w bytes ≡ Ok (n, rest) → Takes (IsNumber w limit) bytes n rest
 unfolding little_endian
 number_takes w limit wide bytes n rest fits e =
-    let g = unless_ok (ltb (length bytes) (byte_len w)) (at Short bytes) (Ok (from_le_bytes w (take (byte_len w) bytes), drop (byte_len w) bytes)) (n, rest) e in
+    let g = unless_ok (ltb (length bytes) (byte_len w)) (fault_at Short bytes) (Ok (from_le_bytes w (take (byte_len w) bytes), drop (byte_len w) bytes)) (n, rest) e in
     let long : byte_len w ≤ length bytes = ltb-false _ _ g.0 in
     let same = ok_is (from_le_bytes w (take (byte_len w) bytes), drop (byte_len w) bytes) (n, rest) g.1 in
     let n-is : from_le_bytes w (take (byte_len w) bytes) ≡ n = ap (λ (p : ℕ × List ℕ). p.0) same in
@@ -135,8 +135,8 @@ number_again w limit wide n rest lt =
 pub size_takes : (bytes : List ℕ) (n : ℕ) (rest : List ℕ) → IsBytes bytes → read_length bytes ≡ Ok (n, rest) → Takes (IsNumber w32 (2 ^ 31)) bytes n rest
 unfolding read_length
 size_takes bytes n rest fits e =
-    let b = bind_ok (read_integer w32 bytes) (λ n. cond (ltb n.0 (2 ^ 31)) (Ok n) (Err (at Length bytes))) (n, rest) e in
-    let g = if_ok (ltb b.0.0 (2 ^ 31)) (Ok b.0) (at Length bytes) (n, rest) b.2 in
+    let b = bind_ok (read_integer w32 bytes) (λ n. cond (ltb n.0 (2 ^ 31)) (Ok n) (Err (fault_at Length bytes))) (n, rest) e in
+    let g = if_ok (ltb b.0.0 (2 ^ 31)) (Ok b.0) (fault_at Length bytes) (n, rest) b.2 in
     let small : b.0.0 < 2 ^ 31 = ltb-true _ _ g.0 in
     let t = number_takes w32 (2 ^ 32) wide32 bytes b.0.0 b.0.1 fits b.1 in
     let made : Takes (IsNumber w32 (2 ^ 31)) bytes b.0.0 b.0.1 = record { front = t.front; spelled = (t.spelled.0, small); parts = t.parts; rest_bytes = t.rest_bytes } in
@@ -150,7 +150,7 @@ size_again n rest lt = rw (number_again w32 (2 ^ 32) wide32 n rest (omega arith)
 
 pub bytes_takes : (n : ℕ) (bytes s rest : List ℕ) → IsBytes bytes → read_bytes n bytes ≡ Ok (s, rest) → Takes (λ front x. (front ≡ x) × (length x ≡ n)) bytes s rest
 bytes_takes n bytes s rest fits e =
-    let g = unless_ok (ltb (length bytes) n) (at Short bytes) (Ok (take n bytes, drop n bytes)) (s, rest) e in
+    let g = unless_ok (ltb (length bytes) n) (fault_at Short bytes) (Ok (take n bytes, drop n bytes)) (s, rest) e in
     let long : n ≤ length bytes = ltb-false _ _ g.0 in
     let made : Takes (λ front x. (front ≡ x) × (length x ≡ n)) bytes (take n bytes) (drop n bytes) = record { front = take n bytes; spelled = (refl, omega (arith, length-take n bytes)); parts = sym (take-append-drop n bytes); rest_bytes = IsBytes-drop n bytes fits } in
     subst (λ (p : List ℕ × List ℕ). Takes (λ front x. (front ≡ x) × (length x ≡ n)) bytes p.0 p.1) (ok_is (take n bytes, drop n bytes) (s, rest) g.1) made
@@ -169,28 +169,28 @@ byte_takes (c ∷ bytes) b rest e = ap (λ (p : ℕ × List ℕ). p.0 ∷ p.1) (
 pub zero_takes : (bytes rest : List ℕ) → read_nul bytes ≡ Ok rest → bytes ≡ 0 ∷ rest
 zero_takes [] rest e = absurd cc
 zero_takes (b ∷ bytes) rest e =
-    let g = if_ok (eqb b 0) (Ok bytes) (at End (b ∷ bytes)) rest e in
+    let g = if_ok (eqb b 0) (Ok bytes) (fault_at End (b ∷ bytes)) rest e in
     rw (eqb-true b 0 g.0, ok_is bytes rest g.1) refl
 
 -- ---- UTF-8
 
 pub utf8_takes : (s bytes t : List ℕ) → check_utf8 s bytes ≡ Ok t → (s ≡ t) × (is_utf8 t ≡ true)
 utf8_takes s bytes t e =
-    let g = if_ok (is_utf8 s) (Ok s) (at Utf8 bytes) t e in
+    let g = if_ok (is_utf8 s) (Ok s) (fault_at Utf8 bytes) t e in
     let same = ok_is s t g.1 in
     (same, rw (← same) g.0)
 
 pub utf8_again : (s bytes : List ℕ) → is_utf8 s ≡ true → check_utf8 s bytes ≡ Ok s
 utf8_again s bytes h = rw h refl
 
-pub utf8_refused : (s bytes : List ℕ) → (IsUtf8 s → ⊥) → check_utf8 s bytes ≡ Err (at Utf8 bytes)
+pub utf8_refused : (s bytes : List ℕ) → (IsUtf8 s → ⊥) → check_utf8 s bytes ≡ Err (fault_at Utf8 bytes)
 utf8_refused s bytes n = rw (false_from_ne_true (is_utf8 s) (λ h. n (IsUtf8-from_is_utf8 s h))) refl
 
 -- ---- names
 
--- the text is the front, with no 0, and behind it the 0 stands
+-- the text is the front, with no 0, and after it the 0 is
 abbrev pub Splits : List ℕ → List ℕ → List ℕ → Type 0
-Splits bytes k rest = NoZero k × (bytes ≡ k ++ 0 ∷ rest)
+Splits bytes k rest = HasNoNulByte k × (bytes ≡ k ++ 0 ∷ rest)
 
 -- one byte more, where the rest splits
 split_more : (b : ℕ) (bytes k rest : List ℕ) (o : Option (List ℕ × List ℕ)) → (b ≡ 0 → ⊥)
@@ -212,14 +212,14 @@ split_takes (b ∷ bytes) k rest e =
       | inr n ↦ split_more b bytes k rest (split_at_nul bytes) (eqb-false b 0 n.0) (λ j r h. split_takes bytes j r h) n.1
     ]
 
-pub split_again : (k rest : List ℕ) → NoZero k → split_at_nul (k ++ 0 ∷ rest) ≡ Some (k, rest)
+pub split_again : (k rest : List ℕ) → HasNoNulByte k → split_at_nul (k ++ 0 ∷ rest) ≡ Some (k, rest)
 split_again [] rest h = refl
 split_again (b ∷ k) rest h = rw (ne_eqb b 0 h.0, split_again k rest h.1) refl
 
 pub name_takes : (bytes k rest : List ℕ) → read_name bytes ≡ Ok (k, rest) → IsName k × (bytes ≡ k ++ 0 ∷ rest)
 unfolding read_name
 name_takes bytes k rest e =
-    let b = bind_ok (or_error (split_at_nul bytes) Short bytes) (λ p. check_utf8 p.0 bytes >>= λ s. Ok (s, p.1)) (k, rest) e in
+    let b = bind_ok (some_or_fault (split_at_nul bytes) Short bytes) (λ p. check_utf8 p.0 bytes >>= λ s. Ok (s, p.1)) (k, rest) e in
     let c = bind_ok (check_utf8 b.0.0 bytes) (λ s. Ok (s, b.0.1)) (k, rest) b.2 in
     let u = utf8_takes b.0.0 bytes c.0 c.1 in
     let t = split_takes bytes b.0.0 b.0.1 (or_fault_ok (split_at_nul bytes) Short bytes b.0 b.1) in
@@ -245,9 +245,9 @@ IsTextBytes front s = (front ≡ little_endian w32 (length s + 1) ++ (s ++ 0 ∷
 pub text_takes : (bytes s rest : List ℕ) → IsBytes bytes → read_string bytes ≡ Ok (s, rest) → Takes IsTextBytes bytes s rest
 unfolding read_string
 text_takes bytes s rest fits e =
-    let b = bind_ok (read_length bytes) (λ n. cond (eqb n.0 0) (Err (at Length bytes)) (read_bytes (n.0 - 1) n.1 >>= λ s. read_nul s.1 >>= λ rest. check_utf8 s.0 n.1 >>= λ t. Ok (t, rest))) (s, rest) e in
+    let b = bind_ok (read_length bytes) (λ n. cond (eqb n.0 0) (Err (fault_at Length bytes)) (read_bytes (n.0 - 1) n.1 >>= λ s. read_nul s.1 >>= λ rest. check_utf8 s.0 n.1 >>= λ t. Ok (t, rest))) (s, rest) e in
     let n = b.0 in
-    let g = unless_ok (eqb n.0 0) (at Length bytes) (read_bytes (n.0 - 1) n.1 >>= λ s. read_nul s.1 >>= λ rest. check_utf8 s.0 n.1 >>= λ t. Ok (t, rest)) (s, rest) b.2 in
+    let g = unless_ok (eqb n.0 0) (fault_at Length bytes) (read_bytes (n.0 - 1) n.1 >>= λ s. read_nul s.1 >>= λ rest. check_utf8 s.0 n.1 >>= λ t. Ok (t, rest)) (s, rest) b.2 in
     let some = eqb-false n.0 0 g.0 in
     let c = bind_ok (read_bytes (n.0 - 1) n.1) (λ s. read_nul s.1 >>= λ rest. check_utf8 s.0 n.1 >>= λ t. Ok (t, rest)) (s, rest) g.1 in
     let d = bind_ok (read_nul c.0.1) (λ rest. check_utf8 c.0.0 n.1 >>= λ t. Ok (t, rest)) (s, rest) c.2 in
@@ -282,7 +282,7 @@ none_from b None e = refl
 none_from b (Some p) e = absurd cc
 
 -- a text whose bytes don't split has no 0
-pub no_zero_from : (k : List ℕ) → split_at_nul k ≡ None → NoZero k
+pub no_zero_from : (k : List ℕ) → split_at_nul k ≡ None → HasNoNulByte k
 no_zero_from [] e = tt
 no_zero_from (b ∷ k) e =
     elim (chosen (eqb b 0) (Some ([], k)) (option_map (prepend_byte b) (split_at_nul k)) None e) [
@@ -290,6 +290,6 @@ no_zero_from (b ∷ k) e =
       | inr n ↦ (eqb-false b 0 n.0, no_zero_from k (none_from b (split_at_nul k) n.1))
     ]
 
-pub none_from_no_zero : (k : List ℕ) → NoZero k → split_at_nul k ≡ None
+pub none_from_no_zero : (k : List ℕ) → HasNoNulByte k → split_at_nul k ≡ None
 none_from_no_zero [] h = refl
 none_from_no_zero (b ∷ k) h = rw (ne_eqb b 0 h.0, none_from_no_zero k h.1) refl

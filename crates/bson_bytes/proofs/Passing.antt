@@ -8,10 +8,10 @@ use Rattle.bson_types.specs.ElementTags.{tag_of}
 use Rattle.bson_types.specs.declared.spec.ElementType.{ElementType}
 use Rattle.bson_model.specs.Value.{Pairs, no_pairs}
 use Rattle.bson_bytes.specs.Reading.{split_at_nul}
-use Rattle.bson_bytes.specs.TypeTags.{type_of_tag, named, all_types}
+use Rattle.bson_bytes.specs.TypeTags.{type_of_tag, type_with_tag, all_types}
 use Rattle.bson_bytes.specs.ReadElements.{BeginsWithElements}
 use Rattle.bson_bytes.specs.Skip.{value_size, skip_value_of_size, skip_value, skip_name, skip_regex, first_element_of, IsNameAndRest}
-use Rattle.bson_bytes.specs.declared.skip_value.Size.{Size}
+use Rattle.bson_bytes.specs.declared.skip_value.ValueSize.{ValueSize}
 use Rattle.bson_bytes.proofs.Skips.{first_is, rest_is, follows_length, Lookahead, lookahead_then, split_follows, split_lookahead, name_split}
 use Rattle.bson_bytes.proofs.Steps.{document_skips, list_step, none_at, none_left, some_is}
 
@@ -22,9 +22,9 @@ named_if : (z : Bool) (t : ℕ) (j k : ElementType) (o : Option ElementType) →
 named_if true t j k o z f e = ap tag_of (sym (some_is j k e)) ∙ sym (eqb-true t (tag_of j) z)
 named_if false t j k o z f e = f e
 
-named_tag : (t : ℕ) (ks : List ElementType) (k : ElementType) → named t ks ≡ Some k → tag_of k ≡ t
+named_tag : (t : ℕ) (ks : List ElementType) (k : ElementType) → type_with_tag t ks ≡ Some k → tag_of k ≡ t
 named_tag t [] k e = absurd cc
-named_tag t (j ∷ ks) k e = named_if (eqb t (tag_of j)) t j k (named t ks) refl (λ h. named_tag t ks k h) e
+named_tag t (j ∷ ks) k e = named_if (eqb t (tag_of j)) t j k (type_with_tag t ks) refl (λ h. named_tag t ks k h) e
 
 pub kind_tag : (t : ℕ) (k : ElementType) → type_of_tag t ≡ Some k → tag_of k ≡ t
 unfolding type_of_tag
@@ -96,8 +96,8 @@ some_len bytes o n h is = sym h ∙ ap (option_map (λ (i : ℕ). (take i bytes,
 pub value_within : (bytes : List ℕ) (at : ℕ) (s b : List ℕ) → at < length bytes
     → split_at_nul (take (length bytes - (at + 1)) (drop (at + 1) bytes)) ≡ Some (s, b) → at + length s + 2 ≤ length bytes
 value_within bytes at s b lt split =
-    let named : split_at_nul (drop (at + 1) bytes) ≡ Some (s, b) = ap split_at_nul (sym (sliced bytes (at + 1) (omega arith))) ∙ split in
-    omega (arith, lt, length-drop (at + 1) bytes, (split_follows (drop (at + 1) bytes) s b named).1)
+    let type_with_tag : split_at_nul (drop (at + 1) bytes) ≡ Some (s, b) = ap split_at_nul (sym (sliced bytes (at + 1) (omega arith))) ∙ split in
+    omega (arith, lt, length-drop (at + 1) bytes, (split_follows (drop (at + 1) bytes) s b type_with_tag).1)
 
 pub later_within : (has : Bool) (at n : ℕ) (found later_position : Option ℕ) → later_position ≡ cond has (Some at) found → at ≤ n
     → IfSome found (λ i. i ≤ n) → IfSome later_position (λ i. i ≤ n)
@@ -110,7 +110,7 @@ passed_some ps bytes s next o e h = subst (λ (p : Option (List ℕ)). IsNameAnd
 
 -- a name, and a value of the size that its tag says
 passed_by : (d t : ℕ) (r : List ℕ) (ps : Pairs) → BeginsWithElements d (t ∷ r) ps → (t ≡ 0 → ⊥) → (s b : List ℕ)
-    → split_at_nul r ≡ Some (s, b) → (size : Size) → ((k : ElementType) → tag_of k ≡ t → size ≡ value_size k) → (o : Option (List ℕ))
+    → split_at_nul r ≡ Some (s, b) → (size : ValueSize) → ((k : ElementType) → tag_of k ≡ t → size ≡ value_size k) → (o : Option (List ℕ))
     → o ≡ skip_value_of_size size b → IsNameAndRest ps (t ∷ r) (option_map (λ x. (s, x)) o)
 passed_by d t r ps h some s b split size is o skips =
     elim (list_step d (document_skips d) (length r) (t ∷ r) ps h.0 h.1) [
@@ -125,17 +125,17 @@ passed_by d t r ps h some s b split size is o skips =
           let value : turn.after ≡ b = ap (λ (p : List ℕ × List ℕ). p.1) parts in
           let next : skip_value turn.type b ≡ Some turn.next = ap (skip_value turn.type) (sym value) ∙ turn.skips.0 in
           let found = turn.found ∙ ap (λ (p : List ℕ × List ℕ). Some (turn.type, p.0, p.1)) parts in
-          passed_some ps (t ∷ r) s turn.next o (skips ∙ ap (λ (z : Size). skip_value_of_size z b) same ∙ next) (turn.type, b, found, next)
+          passed_some ps (t ∷ r) s turn.next o (skips ∙ ap (λ (z : ValueSize). skip_value_of_size z b) same ∙ next) (turn.type, b, found, next)
     ]
 
 pub passes : (d : ℕ) (bytes : List ℕ) (at : ℕ) (ps : Pairs) → BeginsWithElements d (drop at bytes) ps → at < length bytes
     → (get_or bytes at 0 ≡ 0 → ⊥) → (s b : List ℕ) → split_at_nul (take (length bytes - (at + 1)) (drop (at + 1) bytes)) ≡ Some (s, b)
-    → (size : Size)
+    → (size : ValueSize)
     → ((k : ElementType) → tag_of k ≡ get_or bytes at 0 → size ≡ value_size k) → (o : Option ℕ)
     → option_map (λ i. drop i bytes) o ≡ skip_value_of_size size (drop (at + length s + 2) bytes)
     → IsNameAndRest ps (drop at bytes) (option_map (λ x. (s, x)) (option_map (λ i. drop i bytes) o))
-passes d bytes at ps h lt some s b named size is o skips =
-    let split : split_at_nul (drop (at + 1) bytes) ≡ Some (s, b) = ap split_at_nul (sym (sliced bytes (at + 1) (omega arith))) ∙ named in
+passes d bytes at ps h lt some s b type_with_tag size is o skips =
+    let split : split_at_nul (drop (at + 1) bytes) ≡ Some (s, b) = ap split_at_nul (sym (sliced bytes (at + 1) (omega arith))) ∙ type_with_tag in
     let t = get_or bytes at 0 in
     let r = drop (at + 1) bytes in
     let whole : drop at bytes ≡ t ∷ r = drop_more bytes at 0 lt in

@@ -7,7 +7,7 @@ use Rattle.bson_types.specs.declared.spec.ElementType.{ElementType}
 use Rattle.bson_model.specs.Value.{Value, Pairs, no_pairs, pair, code_scope}
 use Rattle.bson_bytes.specs.declared.fault.Fault.{Fault}
 use Rattle.bson_bytes.specs.declared.fault.FaultKind.TheVariants.{Short, Tag, Length, Depth}
-use Rattle.bson_bytes.specs.Fault.{at, ◌>>=◌}
+use Rattle.bson_bytes.specs.Fault.{fault_at, ◌>>=◌}
 use Rattle.bson_bytes.specs.Reading.{read_string, read_code_with_scope, read_byte, read_key, read_length, map_pairs_read, insert_pairs_read, read_value_in, read_elements}
 use Rattle.bson_bytes.specs.Reading.{check_length, read_document_in, EarlierKeys, no_earlier_keys, add_earlier_key}
 use Rattle.bson_bytes.specs.declared.duplicate_keys.DuplicateKeys.{DuplicateKeys}
@@ -35,8 +35,8 @@ err_is f g e = cc
 
 pub bad_byte : (keys : DuplicateKeys) (d : ℕ) (before : EarlierKeys) (m : ℕ) (rest : List ℕ) (f : Fault) → read_byte rest ≡ Err f → elements keys d before m rest ≡ Err f
 unfolding read_elements
-bad_byte keys d before zero [] f e = ap Err (err_is (at Short []) f e)
-bad_byte keys d before (suc m) [] f e = ap Err (err_is (at Short []) f e)
+bad_byte keys d before zero [] f e = ap Err (err_is (fault_at Short []) f e)
+bad_byte keys d before (suc m) [] f e = ap Err (err_is (fault_at Short []) f e)
 bad_byte keys d before m (b ∷ rest) f e = absurd cc
 
 pub no_more : (keys : DuplicateKeys) (d : ℕ) (before : EarlierKeys) (m : ℕ) (rest : List ℕ) (t : ℕ) (a : List ℕ) → length rest ≤ m → read_byte rest ≡ Ok (t, a) → t ≡ 0 → elements keys d before m rest ≡ Ok (no_pairs, a)
@@ -44,7 +44,7 @@ unfolding read_elements
 no_more keys d before zero rest t a little_endian e z = absurd (omega (arith, ap length (byte_takes rest t a e)))
 no_more keys d before (suc m) rest t a little_endian e z = rw (e, eq-eqb t 0 z) refl
 
-pub bad_tag : (keys : DuplicateKeys) (d : ℕ) (before : EarlierKeys) (m : ℕ) (rest : List ℕ) (t : ℕ) (a : List ℕ) → length rest ≤ m → read_byte rest ≡ Ok (t, a) → (t ≡ 0 → ⊥) → type_of_tag t ≡ None → elements keys d before m rest ≡ Err (at Tag rest)
+pub bad_tag : (keys : DuplicateKeys) (d : ℕ) (before : EarlierKeys) (m : ℕ) (rest : List ℕ) (t : ℕ) (a : List ℕ) → length rest ≤ m → read_byte rest ≡ Ok (t, a) → (t ≡ 0 → ⊥) → type_of_tag t ≡ None → elements keys d before m rest ≡ Err (fault_at Tag rest)
 unfolding read_elements
 bad_tag keys d before zero rest t a little_endian e n k = absurd (omega (arith, ap length (byte_takes rest t a e)))
 bad_tag keys d before (suc m) rest t a little_endian e n k = rw (e, ne_eqb t 0 n, k) refl
@@ -75,7 +75,7 @@ one_more keys d before (suc m) rest t a k s b v c little_endian lt e n k-is h w 
 
 -- ---- a document
 
-pub too_deep : (keys : DuplicateKeys) (d : ℕ) (before : EarlierKeys) (bytes : List ℕ) → d ≡ 0 → read_document_in keys d before bytes ≡ Err (at Depth bytes)
+pub too_deep : (keys : DuplicateKeys) (d : ℕ) (before : EarlierKeys) (bytes : List ℕ) → d ≡ 0 → read_document_in keys d before bytes ≡ Err (fault_at Depth bytes)
 unfolding read_document_in
 too_deep keys zero before bytes z = refl
 too_deep keys (suc d) before bytes z = absurd (omega arith)
@@ -103,7 +103,7 @@ pub document_done : (keys : DuplicateKeys) (d : ℕ) (before : EarlierKeys) (byt
 document_done keys d before bytes n list ps rest h s x k = sized_as keys d before bytes n list h s ∙ ap (λ (r : Read). r >>= check_length n bytes) x ∙ rw (eq-eqb _ _ k) refl
 
 pub document_wrong : (keys : DuplicateKeys) (d : ℕ) (before : EarlierKeys) (bytes : List ℕ) (n : ℕ) (list : List ℕ) (ps : Pairs) (rest : List ℕ) → (d ≡ 0 → ⊥) → read_length bytes ≡ Ok (n, list) → elements keys (d - 1) before (length list) list ≡ Ok (ps, rest)
-    → (n + length rest ≡ length bytes → ⊥) → read_document_in keys d before bytes ≡ Err (at Length bytes)
+    → (n + length rest ≡ length bytes → ⊥) → read_document_in keys d before bytes ≡ Err (fault_at Length bytes)
 document_wrong keys d before bytes n list ps rest h s x k = sized_as keys d before bytes n list h s ∙ ap (λ (r : Read). r >>= check_length n bytes) x ∙ rw (ne_eqb _ _ k) refl
 
 pub unmapped : {A : Type 0} (f : Pairs → A) (r : Read) (x : Fault) → map_pairs_read f r ≡ Err x → r ≡ Err x
@@ -129,7 +129,7 @@ mapped_done f keys d before bytes n list y rest h s x k =
     ap (map_pairs_read f) (document_done keys d before bytes n list v.pairs rest h s v.read k) ∙ ap (λ z. Ok (z, rest)) v.is
 
 pub mapped_wrong : {A : Type 0} (f : Pairs → A) (keys : DuplicateKeys) (d : ℕ) (before : EarlierKeys) (bytes : List ℕ) (n : ℕ) (list : List ℕ) (y : A) (rest : List ℕ) → (d ≡ 0 → ⊥) → read_length bytes ≡ Ok (n, list) → map_pairs_read f (elements keys (d - 1) before (length list) list) ≡ Ok (y, rest)
-    → (n + length rest ≡ length bytes → ⊥) → map_pairs_read f (read_document_in keys d before bytes) ≡ Err (at Length bytes)
+    → (n + length rest ≡ length bytes → ⊥) → map_pairs_read f (read_document_in keys d before bytes) ≡ Err (fault_at Length bytes)
 mapped_wrong f keys d before bytes n list y rest h s x k =
     let v = of_mapped f (elements keys (d - 1) before (length list) list) y rest x in
     ap (map_pairs_read f) (document_wrong keys d before bytes n list v.pairs rest h s v.read k)

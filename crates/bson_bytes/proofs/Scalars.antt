@@ -6,7 +6,7 @@ use Rattle.bson_model.specs.Value.{Value, no_pairs, code_scope, document, array}
 use Rattle.bson_bytes.specs.declared.fault.Fault.{Fault}
 use Rattle.bson_bytes.specs.declared.fault.FaultKind.TheVariants.{Length}
 use Rattle.bson_bytes.specs.declared.duplicate_keys.DuplicateKeys.TheVariants.{Replace}
-use Rattle.bson_bytes.specs.Fault.{at, ◌>>=◌}
+use Rattle.bson_bytes.specs.Fault.{fault_at, ◌>>=◌}
 use Rattle.bson_bytes.specs.Reading.{read_value_in, read_document_in, read_code_with_scope, read_length, read_string, insert_pairs_read, map_pairs_read}
 use Rattle.bson_bytes.specs.Grammar.{pair_values}
 use Rattle.bson_bytes.specs.NestedValues.{IsNested, is_nested_type}
@@ -22,10 +22,10 @@ scope_nested : (d : ℕ) (bytes : List ℕ) (v : Value) (rest : List ℕ) → re
     → IsNested v
 unfolding read_code_with_scope
 scope_nested d bytes v rest e =
-    let b = bind_ok (read_length bytes) (λ n. read_string n.1 >>= λ s. insert_pairs_read no_pairs (read_document_in Replace d None s.1) >>= λ x. cond (eqb (n.0 + length x.1) (length bytes)) (Ok (code_scope s.0 x.0, x.1)) (Err (at Length bytes))) (v, rest) e in
-    let s = bind_ok (read_string b.0.1) (λ s. insert_pairs_read no_pairs (read_document_in Replace d None s.1) >>= λ x. cond (eqb (b.0.0 + length x.1) (length bytes)) (Ok (code_scope s.0 x.0, x.1)) (Err (at Length bytes))) (v, rest) b.2 in
-    let x = bind_ok (insert_pairs_read no_pairs (read_document_in Replace d None s.0.1)) (λ x. cond (eqb (b.0.0 + length x.1) (length bytes)) (Ok (code_scope s.0.0 x.0, x.1)) (Err (at Length bytes))) (v, rest) s.2 in
-    let g = if_ok (eqb (b.0.0 + length x.0.1) (length bytes)) (Ok (code_scope s.0.0 x.0.0, x.0.1)) (at Length bytes) (v, rest) x.2 in
+    let b = bind_ok (read_length bytes) (λ n. read_string n.1 >>= λ s. insert_pairs_read no_pairs (read_document_in Replace d None s.1) >>= λ x. cond (eqb (n.0 + length x.1) (length bytes)) (Ok (code_scope s.0 x.0, x.1)) (Err (fault_at Length bytes))) (v, rest) e in
+    let s = bind_ok (read_string b.0.1) (λ s. insert_pairs_read no_pairs (read_document_in Replace d None s.1) >>= λ x. cond (eqb (b.0.0 + length x.1) (length bytes)) (Ok (code_scope s.0 x.0, x.1)) (Err (fault_at Length bytes))) (v, rest) b.2 in
+    let x = bind_ok (insert_pairs_read no_pairs (read_document_in Replace d None s.0.1)) (λ x. cond (eqb (b.0.0 + length x.1) (length bytes)) (Ok (code_scope s.0.0 x.0, x.1)) (Err (fault_at Length bytes))) (v, rest) s.2 in
+    let g = if_ok (eqb (b.0.0 + length x.0.1) (length bytes)) (Ok (code_scope s.0.0 x.0.0, x.0.1)) (fault_at Length bytes) (v, rest) x.2 in
     subst IsNested (first_is (code_scope s.0.0 x.0.0) x.0.1 v rest g.1) tt
 
 nested_read : (d : ℕ) (k : ElementType) (bytes : List ℕ) (v : Value) (rest : List ℕ) → is_nested_type k ≡ true

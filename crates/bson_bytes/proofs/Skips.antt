@@ -15,12 +15,12 @@ use Rattle.bson_bytes.specs.declared.fault.Fault.{Fault}
 use Rattle.bson_bytes.specs.declared.fault.FaultKind.{FaultKind}
 use Rattle.bson_bytes.specs.declared.fault.FaultKind.TheVariants.{Short, Length, Utf8, Boolean}
 use Rattle.bson_bytes.specs.declared.duplicate_keys.DuplicateKeys.TheVariants.{Replace}
-use Rattle.bson_bytes.specs.Fault.{at, ◌>>=◌, or_error}
+use Rattle.bson_bytes.specs.Fault.{fault_at, ◌>>=◌, some_or_fault}
 use Rattle.bson_bytes.specs.Grammar.{pair_values, deduplicated_onto}
 use Rattle.bson_bytes.specs.Reading.{read_byte, read_bytes, read_integer, read_length, read_nul, split_at_nul, prepend_byte, check_utf8, read_name}
 use Rattle.bson_bytes.specs.Reading.{read_string, read_old_binary, read_plain_binary, read_binary, read_boolean, read_regex, read_pointer}
 use Rattle.bson_bytes.specs.Reading.{read_timestamp, map_pairs_read, insert_pairs_read, read_code_with_scope, read_value_in, read_document_in}
-use Rattle.bson_bytes.specs.Skip.{skip, length_at, skip_sized, skip_regex, skip_value}
+use Rattle.bson_bytes.specs.Skip.{skip_bytes, length_prefix, skip_length_prefixed, skip_regex, skip_value}
 
 -- ---- steps
 
@@ -45,7 +45,7 @@ pub if_ok : {A : Type 0} (b : Bool) (r : Result A Fault) (d : Fault) (y : A) →
 if_ok true r d y e = (refl, e)
 if_ok false r d y e = absurd cc
 
-pub or_fault_ok : {A : Type 0} (o : Option A) (w : FaultKind) (bytes : List ℕ) (x : A) → or_error o w bytes ≡ Ok x
+pub or_fault_ok : {A : Type 0} (o : Option A) (w : FaultKind) (bytes : List ℕ) (x : A) → some_or_fault o w bytes ≡ Ok x
     → o ≡ Some x
 or_fault_ok (Some y) w bytes x e = ap Some (ok_is y x e)
 or_fault_ok None w bytes x e = absurd cc
@@ -77,7 +77,7 @@ pub follows_then : (n m : ℕ) (a b c : List ℕ) → Follows n a b → Follows 
 follows_then n m a b c h g =
     (g.0 ∙ ap (drop m) h.0 ∙ drop-drop m n a, omega (arith, h.1, g.1, follows_length n a b h))
 
-skip_follows : (n : ℕ) (bytes rest : List ℕ) → Follows n bytes rest → skip n bytes ≡ Some rest
+skip_follows : (n : ℕ) (bytes rest : List ℕ) → Follows n bytes rest → skip_bytes n bytes ≡ Some rest
 skip_follows n bytes rest h = rw (le-ltb (length bytes) n h.1, h.0) refl
 
 pub byte_follows : (bytes : List ℕ) (b : ℕ) (rest : List ℕ) → read_byte bytes ≡ Ok (b, rest) → Follows 1 bytes rest
@@ -90,32 +90,32 @@ zero_follows (b ∷ bytes) rest e = (sym (ok_is bytes rest (if_ok (eqb b 0) (Ok 
 
 bytes_follow : (n : ℕ) (bytes s rest : List ℕ) → read_bytes n bytes ≡ Ok (s, rest) → Follows n bytes rest
 bytes_follow n bytes s rest e =
-    let g = unless_ok (ltb (length bytes) n) (at Short bytes) (Ok (take n bytes, drop n bytes)) (s, rest) e in
+    let g = unless_ok (ltb (length bytes) n) (fault_at Short bytes) (Ok (take n bytes, drop n bytes)) (s, rest) e in
     (sym (rest_is (take n bytes) (drop n bytes) s rest g.1), ltb-false _ _ g.0)
 
 number_follows : (w : Width) (bytes : List ℕ) (n : ℕ) (rest : List ℕ) → read_integer w bytes ≡ Ok (n, rest)
     → Follows (byte_len w) bytes rest
 number_follows w bytes n rest e =
     let read = from_le_bytes w (take (byte_len w) bytes) in
-    let g = unless_ok (ltb (length bytes) (byte_len w)) (at Short bytes) (Ok (read, drop (byte_len w) bytes)) (n, rest) e in
+    let g = unless_ok (ltb (length bytes) (byte_len w)) (fault_at Short bytes) (Ok (read, drop (byte_len w) bytes)) (n, rest) e in
     (sym (rest_is read (drop (byte_len w) bytes) n rest g.1), ltb-false _ _ g.0)
 
 -- the length that was read
 pub size_follows : (bytes : List ℕ) (n : ℕ) (rest : List ℕ) → read_length bytes ≡ Ok (n, rest)
-    → (length_at bytes ≡ Some n) × Follows 4 bytes rest
+    → (length_prefix bytes ≡ Some n) × Follows 4 bytes rest
 unfolding read_length
 size_follows bytes n rest e =
-    let b = bind_ok (read_integer w32 bytes) (λ n. cond (ltb n.0 (2 ^ 31)) (Ok n) (Err (at Length bytes))) (n, rest) e in
-    let same = ok_is b.0 (n, rest) (if_ok (ltb b.0.0 (2 ^ 31)) (Ok b.0) (at Length bytes) (n, rest) b.2).1 in
+    let b = bind_ok (read_integer w32 bytes) (λ n. cond (ltb n.0 (2 ^ 31)) (Ok n) (Err (fault_at Length bytes))) (n, rest) e in
+    let same = ok_is b.0 (n, rest) (if_ok (ltb b.0.0 (2 ^ 31)) (Ok b.0) (fault_at Length bytes) (n, rest) b.2).1 in
     let read : read_integer w32 bytes ≡ Ok (n, rest) = b.1 ∙ ap Ok same in
     let first = from_le_bytes w32 (take 4 bytes) in
-    let g = unless_ok (ltb (length bytes) 4) (at Short bytes) (Ok (first, drop 4 bytes)) (n, rest) read in
+    let g = unless_ok (ltb (length bytes) 4) (fault_at Short bytes) (Ok (first, drop 4 bytes)) (n, rest) read in
     let n-is : first ≡ n = first_is first (drop 4 bytes) n rest g.1 in
     (rw g.0 (ap Some n-is), number_follows w32 bytes n rest read)
 
-pub sized_follows : (n more : ℕ) (bytes rest : List ℕ) → length_at bytes ≡ Some n → Follows (n + more) bytes rest
-    → skip_sized more bytes ≡ Some rest
-sized_follows n more bytes rest e h = ap (option_and_then (λ n. skip (n + more) bytes)) e ∙ skip_follows (n + more) bytes rest h
+pub sized_follows : (n more : ℕ) (bytes rest : List ℕ) → length_prefix bytes ≡ Some n → Follows (n + more) bytes rest
+    → skip_length_prefixed more bytes ≡ Some rest
+sized_follows n more bytes rest e h = ap (option_and_then (λ n. skip_bytes (n + more) bytes)) e ∙ skip_follows (n + more) bytes rest h
 
 -- ---- names and texts
 
@@ -157,9 +157,9 @@ pub name_split : (bytes k rest : List ℕ) → read_name bytes ≡ Ok (k, rest)
     → (split_at_nul bytes ≡ Some (k, rest)) × (is_utf8 k ≡ true) × Lookahead bytes rest
 unfolding read_name
 name_split bytes k rest e =
-    let b = bind_ok (or_error (split_at_nul bytes) Short bytes) (λ p. check_utf8 p.0 bytes >>= λ s. Ok (s, p.1)) (k, rest) e in
+    let b = bind_ok (some_or_fault (split_at_nul bytes) Short bytes) (λ p. check_utf8 p.0 bytes >>= λ s. Ok (s, p.1)) (k, rest) e in
     let c = bind_ok (check_utf8 b.0.0 bytes) (λ s. Ok (s, b.0.1)) (k, rest) b.2 in
-    let u = if_ok (is_utf8 b.0.0) (Ok b.0.0) (at Utf8 bytes) c.0 c.1 in
+    let u = if_ok (is_utf8 b.0.0) (Ok b.0.0) (fault_at Utf8 bytes) c.0 c.1 in
     let same : ◌≡◌ {A = List ℕ × List ℕ} b.0 (k, rest) =
     ap (λ (s : List ℕ). (s, b.0.1)) (ok_is b.0.0 c.0 u.1) ∙ ok_is (c.0, b.0.1) (k, rest) c.2 in
     let split : split_at_nul bytes ≡ Some (k, rest) = or_fault_ok (split_at_nul bytes) Short bytes b.0 b.1 ∙ ap Some same in
@@ -171,17 +171,17 @@ Skips k bytes rest = (skip_value k bytes ≡ Some rest) × Lookahead bytes rest
 
 -- a length, so many bytes, and some more
 abbrev pub Sized : ℕ → List ℕ → List ℕ → Type 0
-Sized more bytes rest = (n : ℕ) × (length_at bytes ≡ Some n) × Follows (n + more) bytes rest
+Sized more bytes rest = (n : ℕ) × (length_prefix bytes ≡ Some n) × Follows (n + more) bytes rest
 
 sized_skips : (more : ℕ) (bytes rest : List ℕ) → Sized more bytes rest
-    → (skip_sized more bytes ≡ Some rest) × Lookahead bytes rest
+    → (skip_length_prefixed more bytes ≡ Some rest) × Lookahead bytes rest
 sized_skips more bytes rest h = (sized_follows h.0 more bytes rest h.1 h.2, (h.0 + more, h.2))
 
-fixed_skips : (n : ℕ) (bytes rest : List ℕ) → Follows n bytes rest → (skip n bytes ≡ Some rest) × Lookahead bytes rest
+fixed_skips : (n : ℕ) (bytes rest : List ℕ) → Follows n bytes rest → (skip_bytes n bytes ≡ Some rest) × Lookahead bytes rest
 fixed_skips n bytes rest h = (skip_follows n bytes rest h, (n, h))
 
 none_skips : (bytes rest : List ℕ) (v w : Value) → done {A = Value × List ℕ} (v, bytes) ≡ done (w, rest)
-    → (skip 0 bytes ≡ Some rest) × Lookahead bytes rest
+    → (skip_bytes 0 bytes ≡ Some rest) × Lookahead bytes rest
 none_skips bytes rest v w e = fixed_skips 0 bytes rest (sym (rest_is v bytes w rest e), omega arith)
 
 one_less : (n : ℕ) → (n ≡ 0 → ⊥) → 4 + (n - 1 + 1) ≡ n + 4
@@ -191,9 +191,9 @@ one_less (suc n) h = omega arith
 pub text_sized : (bytes s rest : List ℕ) → read_string bytes ≡ Ok (s, rest) → Sized 4 bytes rest
 unfolding read_string
 text_sized bytes s rest e =
-    let b = bind_ok (read_length bytes) (λ n. cond (eqb n.0 0) (Err (at Length bytes)) (read_bytes (n.0 - 1) n.1 >>= λ s. read_nul s.1 >>= λ rest. check_utf8 s.0 n.1 >>= λ t. Ok (t, rest))) (s, rest) e in
+    let b = bind_ok (read_length bytes) (λ n. cond (eqb n.0 0) (Err (fault_at Length bytes)) (read_bytes (n.0 - 1) n.1 >>= λ s. read_nul s.1 >>= λ rest. check_utf8 s.0 n.1 >>= λ t. Ok (t, rest))) (s, rest) e in
     let n = b.0 in
-    let g = unless_ok (eqb n.0 0) (at Length bytes) (read_bytes (n.0 - 1) n.1 >>= λ s. read_nul s.1 >>= λ rest. check_utf8 s.0 n.1 >>= λ t. Ok (t, rest)) (s, rest) b.2 in
+    let g = unless_ok (eqb n.0 0) (fault_at Length bytes) (read_bytes (n.0 - 1) n.1 >>= λ s. read_nul s.1 >>= λ rest. check_utf8 s.0 n.1 >>= λ t. Ok (t, rest)) (s, rest) b.2 in
     let c = bind_ok (read_bytes (n.0 - 1) n.1) (λ s. read_nul s.1 >>= λ rest. check_utf8 s.0 n.1 >>= λ t. Ok (t, rest)) (s, rest) g.1 in
     let d = bind_ok (read_nul c.0.1) (λ rest. check_utf8 c.0.0 n.1 >>= λ t. Ok (t, rest)) (s, rest) c.2 in
     let u = bind_ok (check_utf8 c.0.0 n.1) (λ t. Ok (t, d.0)) (s, rest) d.2 in
@@ -204,7 +204,7 @@ text_sized bytes s rest e =
     (n.0, size.0, subst (λ (k : ℕ). Follows k bytes rest) (one_less n.0 (eqb-false n.0 0 g.0)) whole)
 
 text_skips : (f : List ℕ → Value) (bytes : List ℕ) (v : Value) (rest : List ℕ)
-    → made f (read_string bytes) ≡ Ok (v, rest) → (skip_sized 4 bytes ≡ Some rest) × Lookahead bytes rest
+    → made f (read_string bytes) ≡ Ok (v, rest) → (skip_length_prefixed 4 bytes ≡ Some rest) × Lookahead bytes rest
 text_skips f bytes v rest e =
     let s = stepped f (read_string bytes) v rest e in
     sized_skips 4 bytes rest (text_sized bytes s.0 rest s.1)
@@ -212,13 +212,13 @@ text_skips f bytes v rest e =
 -- ---- other scalars
 
 number_skips : (w : Width) (f : ℕ → Value) (bytes : List ℕ) (v : Value) (rest : List ℕ)
-    → made f (read_integer w bytes) ≡ Ok (v, rest) → (skip (byte_len w) bytes ≡ Some rest) × Lookahead bytes rest
+    → made f (read_integer w bytes) ≡ Ok (v, rest) → (skip_bytes (byte_len w) bytes ≡ Some rest) × Lookahead bytes rest
 number_skips w f bytes v rest e =
     let n = stepped f (read_integer w bytes) v rest e in
     fixed_skips (byte_len w) bytes rest (number_follows w bytes n.0 rest n.1)
 
 bytes_skip : (n : ℕ) (f : List ℕ → Value) (bytes : List ℕ) (v : Value) (rest : List ℕ)
-    → made f (read_bytes n bytes) ≡ Ok (v, rest) → (skip n bytes ≡ Some rest) × Lookahead bytes rest
+    → made f (read_bytes n bytes) ≡ Ok (v, rest) → (skip_bytes n bytes ≡ Some rest) × Lookahead bytes rest
 bytes_skip n f bytes v rest e =
     let s = stepped f (read_bytes n bytes) v rest e in
     fixed_skips n bytes rest (bytes_follow n bytes s.0 rest s.1)
@@ -226,8 +226,8 @@ bytes_skip n f bytes v rest e =
 binary_by : (old : Bool) (b n : ℕ) (bytes : List ℕ) (v : Value) (rest : List ℕ)
     → cond old (read_old_binary n bytes) (read_plain_binary b n bytes) ≡ Ok (v, rest) → Follows n bytes rest
 binary_by true b n bytes v rest e =
-    let m = bind_ok (read_length bytes) (λ m. cond (eqb (m.0 + 4) n) (read_bytes m.0 m.1 >>= λ s. Ok (scalar (kind.binary (subtype_of 2) s.0), s.1)) (Err (at Length bytes))) (v, rest) e in
-    let g = if_ok (eqb (m.0.0 + 4) n) (read_bytes m.0.0 m.0.1 >>= λ s. Ok (scalar (kind.binary (subtype_of 2) s.0), s.1)) (at Length bytes) (v, rest) m.2 in
+    let m = bind_ok (read_length bytes) (λ m. cond (eqb (m.0 + 4) n) (read_bytes m.0 m.1 >>= λ s. Ok (scalar (kind.binary (subtype_of 2) s.0), s.1)) (Err (fault_at Length bytes))) (v, rest) e in
+    let g = if_ok (eqb (m.0.0 + 4) n) (read_bytes m.0.0 m.0.1 >>= λ s. Ok (scalar (kind.binary (subtype_of 2) s.0), s.1)) (fault_at Length bytes) (v, rest) m.2 in
     let s = stepped (λ s. scalar (kind.binary (subtype_of 2) s)) (read_bytes m.0.0 m.0.1) v rest g.1 in
     let whole = follows_then 4 m.0.0 bytes m.0.1 rest (size_follows bytes m.0.0 m.0.1 m.1).1 (bytes_follow m.0.0 m.0.1 s.0 rest s.1) in
     subst (λ (k : ℕ). Follows k bytes rest) (omega (arith, eqb-true (m.0.0 + 4) n g.0)) whole
@@ -236,7 +236,7 @@ binary_by false b n bytes v rest e =
     bytes_follow n bytes s.0 rest s.1
 
 binary_skips : (bytes : List ℕ) (v : Value) (rest : List ℕ) → read_binary bytes ≡ Ok (v, rest)
-    → (skip_sized 5 bytes ≡ Some rest) × Lookahead bytes rest
+    → (skip_length_prefixed 5 bytes ≡ Some rest) × Lookahead bytes rest
 unfolding read_binary
 binary_skips bytes v rest e =
     let b = bind_ok (read_length bytes) (λ n. read_byte n.1 >>= λ b. cond (eqb b.0 2) (read_old_binary n.0 b.1) (read_plain_binary b.0 n.0 b.1)) (v, rest) e in
@@ -247,17 +247,17 @@ binary_skips bytes v rest e =
     sized_skips 5 bytes rest (b.0.0, size.0, subst (λ (k : ℕ). Follows k bytes rest) (omega arith) (follows_then 5 b.0.0 bytes c.0.1 rest front inner))
 
 boolean_by : (a b : Bool) (x bytes : List ℕ) (v : Value) (rest : List ℕ)
-    → cond {A = Result (Value × List ℕ) Fault} a (Ok (scalar (kind.boolean false), x)) (cond b (Ok (scalar (kind.boolean true), x)) (Err (at Boolean bytes))) ≡ Ok (v, rest)
+    → cond {A = Result (Value × List ℕ) Fault} a (Ok (scalar (kind.boolean false), x)) (cond b (Ok (scalar (kind.boolean true), x)) (Err (fault_at Boolean bytes))) ≡ Ok (v, rest)
     → x ≡ rest
 boolean_by true b x bytes v rest e = rest_is (scalar (kind.boolean false)) x v rest e
 boolean_by false true x bytes v rest e = rest_is (scalar (kind.boolean true)) x v rest e
 boolean_by false false x bytes v rest e = absurd cc
 
 boolean_skips : (bytes : List ℕ) (v : Value) (rest : List ℕ) → read_boolean bytes ≡ Ok (v, rest)
-    → (skip 1 bytes ≡ Some rest) × Lookahead bytes rest
+    → (skip_bytes 1 bytes ≡ Some rest) × Lookahead bytes rest
 unfolding read_boolean
 boolean_skips bytes v rest e =
-    let b = bind_ok (read_byte bytes) (λ b. cond (eqb b.0 0) (Ok (scalar (kind.boolean false), b.1)) (cond (eqb b.0 1) (Ok (scalar (kind.boolean true), b.1)) (Err (at Boolean bytes)))) (v, rest) e in
+    let b = bind_ok (read_byte bytes) (λ b. cond (eqb b.0 0) (Ok (scalar (kind.boolean false), b.1)) (cond (eqb b.0 1) (Ok (scalar (kind.boolean true), b.1)) (Err (fault_at Boolean bytes)))) (v, rest) e in
     let same : b.0.1 ≡ rest = boolean_by (eqb b.0.0 0) (eqb b.0.0 1) b.0.1 bytes v rest b.2 in
     fixed_skips 1 bytes rest (subst (Follows 1 bytes) same (byte_follows bytes b.0.0 b.0.1 b.1))
 
@@ -272,7 +272,7 @@ regex_skips bytes v rest e =
     (rw (first.0, second.0) refl, lookahead_then first.2.0 bytes a.0.1 rest first.2.1 second.2)
 
 pointer_skips : (bytes : List ℕ) (v : Value) (rest : List ℕ) → read_pointer bytes ≡ Ok (v, rest)
-    → (skip_sized 16 bytes ≡ Some rest) × Lookahead bytes rest
+    → (skip_length_prefixed 16 bytes ≡ Some rest) × Lookahead bytes rest
 unfolding read_pointer
 pointer_skips bytes v rest e =
     let a = bind_ok (read_string bytes) (λ a. read_bytes 12 a.1 >>= λ id. Ok (scalar (kind.db_pointer a.0 id.0), id.1)) (v, rest) e in
@@ -282,7 +282,7 @@ pointer_skips bytes v rest e =
     sized_skips 16 bytes rest (text.0, text.1, subst (λ (k : ℕ). Follows k bytes rest) (omega arith) whole)
 
 timestamp_skips : (bytes : List ℕ) (v : Value) (rest : List ℕ) → read_timestamp bytes ≡ Ok (v, rest)
-    → (skip 8 bytes ≡ Some rest) × Lookahead bytes rest
+    → (skip_bytes 8 bytes ≡ Some rest) × Lookahead bytes rest
 unfolding read_timestamp
 timestamp_skips bytes v rest e =
     let i = bind_ok (read_integer w32 bytes) (λ i. read_integer w32 i.1 >>= λ t. Ok (scalar (kind.timestamp t.0 i.0), t.1)) (v, rest) e in
@@ -303,10 +303,10 @@ scope_sized : (d : ℕ) → DocumentSkips d → (bytes : List ℕ) (v : Value) (
     → read_code_with_scope (read_document_in Replace d None) bytes ≡ Ok (v, rest) → Sized 0 bytes rest
 unfolding read_code_with_scope
 scope_sized d h bytes v rest e =
-    let b = bind_ok (read_length bytes) (λ n. read_string n.1 >>= λ s. insert_pairs_read no_pairs (read_document_in Replace d None s.1) >>= λ x. cond (eqb (n.0 + length x.1) (length bytes)) (Ok (code_scope s.0 x.0, x.1)) (Err (at Length bytes))) (v, rest) e in
-    let s = bind_ok (read_string b.0.1) (λ s. insert_pairs_read no_pairs (read_document_in Replace d None s.1) >>= λ x. cond (eqb (b.0.0 + length x.1) (length bytes)) (Ok (code_scope s.0 x.0, x.1)) (Err (at Length bytes))) (v, rest) b.2 in
-    let x = bind_ok (insert_pairs_read no_pairs (read_document_in Replace d None s.0.1)) (λ x. cond (eqb (b.0.0 + length x.1) (length bytes)) (Ok (code_scope s.0.0 x.0, x.1)) (Err (at Length bytes))) (v, rest) s.2 in
-    let g = if_ok (eqb (b.0.0 + length x.0.1) (length bytes)) (Ok (code_scope s.0.0 x.0.0, x.0.1)) (at Length bytes) (v, rest) x.2 in
+    let b = bind_ok (read_length bytes) (λ n. read_string n.1 >>= λ s. insert_pairs_read no_pairs (read_document_in Replace d None s.1) >>= λ x. cond (eqb (n.0 + length x.1) (length bytes)) (Ok (code_scope s.0 x.0, x.1)) (Err (fault_at Length bytes))) (v, rest) e in
+    let s = bind_ok (read_string b.0.1) (λ s. insert_pairs_read no_pairs (read_document_in Replace d None s.1) >>= λ x. cond (eqb (b.0.0 + length x.1) (length bytes)) (Ok (code_scope s.0 x.0, x.1)) (Err (fault_at Length bytes))) (v, rest) b.2 in
+    let x = bind_ok (insert_pairs_read no_pairs (read_document_in Replace d None s.0.1)) (λ x. cond (eqb (b.0.0 + length x.1) (length bytes)) (Ok (code_scope s.0.0 x.0, x.1)) (Err (fault_at Length bytes))) (v, rest) s.2 in
+    let g = if_ok (eqb (b.0.0 + length x.0.1) (length bytes)) (Ok (code_scope s.0.0 x.0.0, x.0.1)) (fault_at Length bytes) (v, rest) x.2 in
     let same : x.0.1 ≡ rest = rest_is (code_scope s.0.0 x.0.0) x.0.1 v rest g.1 in
     let read = stepped (deduplicated_onto no_pairs) (read_document_in Replace d None s.0.1) x.0.0 x.0.1 x.1 in
     let size = size_follows bytes b.0.0 b.0.1 b.1 in
@@ -322,7 +322,7 @@ scope_sized d h bytes v rest e =
 -- an array or a document that is a value
 inner_skips : {A : Type 0} (d : ℕ) → DocumentSkips d → (f : Pairs → A) (g : A → Value) (bytes : List ℕ) (v : Value) (rest : List ℕ)
     → made g (map_pairs_read f (read_document_in Replace d None bytes)) ≡ Ok (v, rest)
-    → (skip_sized 0 bytes ≡ Some rest) × Lookahead bytes rest
+    → (skip_length_prefixed 0 bytes ≡ Some rest) × Lookahead bytes rest
 inner_skips d h f g bytes v rest e =
     let x = stepped g (map_pairs_read f (read_document_in Replace d None bytes)) v rest e in
     let read = stepped f (read_document_in Replace d None bytes) x.0 rest x.1 in

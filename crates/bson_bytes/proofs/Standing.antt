@@ -1,4 +1,4 @@
--- Keys that may stand behind others.
+-- Keys that may follow others.
 use Rattle.std.proofs.Common.{◌≡◌, ℕ, Bool, true, false, cond, List, [], ◌∷◌, Some, None, Ok, Err, refl, subst, ◌∙◌}
 use Rattle.std.specs.Str.{bytes_eq}
 use Rattle.std.proofs.lemmas.Bool.{false_from_ne_true}
@@ -7,20 +7,20 @@ use Rattle.bson_model.specs.Value.{Value, Pairs, no_pairs, pair}
 use Rattle.bson_bytes.specs.declared.fault.FaultKind.TheVariants.{DuplicateKey}
 use Rattle.bson_bytes.specs.declared.duplicate_keys.DuplicateKeys.{DuplicateKeys}
 use Rattle.bson_bytes.specs.declared.duplicate_keys.DuplicateKeys.TheVariants.{Replace, Refuse}
-use Rattle.bson_bytes.specs.Fault.{at}
-use Rattle.bson_bytes.specs.Grammar.{IsNew, Once, AreAllowedKeys}
-use Rattle.bson_bytes.specs.Reading.{EarlierKeys, no_earlier_keys, add_earlier_key, is_new, read_key, read_name}
+use Rattle.bson_bytes.specs.Fault.{fault_at}
+use Rattle.bson_bytes.specs.Grammar.{IsNewKey, KeysOccurOnce, AreAllowedKeys}
+use Rattle.bson_bytes.specs.Reading.{EarlierKeys, no_earlier_keys, add_earlier_key, is_new_key, read_key, read_name}
 use Rattle.bson_bytes.proofs.PartLaws.{bind_ok, if_ok, ok_is}
 
--- the keys of the pairs may stand behind those
+-- the keys of the pairs may follow those
 abbrev pub Stand : EarlierKeys → Pairs → Type 0
 Stand None ps = Unit {0}
-Stand (Some ks) ps = Once ks ps
+Stand (Some ks) ps = KeysOccurOnce ks ps
 
 -- the key may
 abbrev pub Fresh : EarlierKeys → List ℕ → Type 0
 Fresh None k = Unit {0}
-Fresh (Some ks) k = IsNew ks k
+Fresh (Some ks) k = IsNewKey ks k
 
 pub stand_none : (before : EarlierKeys) → Stand before no_pairs
 stand_none None = tt
@@ -59,13 +59,13 @@ neither : (b c : Bool) → cond b false c ≡ true → (b ≡ false) × (c ≡ t
 neither true c e = absurd cc
 neither false c e = (refl, e)
 
-pub new_from : (k : List ℕ) (ks : List (List ℕ)) → is_new k ks ≡ true → IsNew ks k
+pub new_from : (k : List ℕ) (ks : List (List ℕ)) → is_new_key k ks ≡ true → IsNewKey ks k
 new_from k [] e = tt
 new_from k (l ∷ ks) e =
-    let both = neither (bytes_eq k l) (is_new k ks) e in
+    let both = neither (bytes_eq k l) (is_new_key k ks) e in
     (unequal k l both.0, new_from k ks both.1)
 
-pub new_again : (k : List ℕ) (ks : List (List ℕ)) → IsNew ks k → is_new k ks ≡ true
+pub new_again : (k : List ℕ) (ks : List (List ℕ)) → IsNewKey ks k → is_new_key k ks ≡ true
 new_again k [] h = refl
 new_again k (l ∷ ks) h =
     let apart : bytes_eq k l ≡ false = false_from_ne_true (bytes_eq k l) (λ t. h.0 ((bytes_eq-Decides k l).0 t)) in
@@ -75,10 +75,10 @@ pub key_takes : (before : EarlierKeys) (bytes s rest : List ℕ) → read_key be
     → (read_name bytes ≡ Ok (s, rest)) × Fresh before s
 key_takes None bytes s rest e = (e, tt)
 key_takes (Some ks) bytes s rest e =
-    let b = bind_ok (read_name bytes) (λ n. cond (is_new n.0 ks) (Ok n) (Err (at DuplicateKey bytes))) (s, rest) e in
-    let g = if_ok (is_new b.0.0 ks) (Ok b.0) (at DuplicateKey bytes) (s, rest) b.2 in
+    let b = bind_ok (read_name bytes) (λ n. cond (is_new_key n.0 ks) (Ok n) (Err (fault_at DuplicateKey bytes))) (s, rest) e in
+    let g = if_ok (is_new_key b.0.0 ks) (Ok b.0) (fault_at DuplicateKey bytes) (s, rest) b.2 in
     let same : b.0 ≡ (s, rest) = ok_is b.0 (s, rest) g.1 in
-    (b.1 ∙ g.1, subst (λ (n : List ℕ × List ℕ). IsNew ks n.0) same (new_from b.0.0 ks g.0))
+    (b.1 ∙ g.1, subst (λ (n : List ℕ × List ℕ). IsNewKey ks n.0) same (new_from b.0.0 ks g.0))
 
 pub key_again : (before : EarlierKeys) (bytes s rest : List ℕ) → read_name bytes ≡ Ok (s, rest) → Fresh before s
     → read_key before bytes ≡ Ok (s, rest)

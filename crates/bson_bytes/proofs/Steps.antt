@@ -9,7 +9,7 @@ use Rattle.bson_model.specs.Value.{Value, Pairs, no_pairs, pair}
 use Rattle.bson_bytes.specs.declared.fault.Fault.{Fault}
 use Rattle.bson_bytes.specs.declared.fault.FaultKind.TheVariants.{Tag, Length}
 use Rattle.bson_bytes.specs.declared.duplicate_keys.DuplicateKeys.TheVariants.{Replace}
-use Rattle.bson_bytes.specs.Fault.{at, ◌>>=◌, or_error}
+use Rattle.bson_bytes.specs.Fault.{fault_at, ◌>>=◌, some_or_fault}
 use Rattle.bson_bytes.specs.Reading.{read_byte, read_length, split_at_nul, read_name, read_value_in, read_elements, check_length, read_document_in}
 use Rattle.bson_bytes.specs.TypeTags.{type_of_tag}
 use Rattle.bson_bytes.proofs.Offered.{elements, then_pairs, no_more, one_more}
@@ -67,7 +67,7 @@ none_at (c ∷ bytes) a e =
 
 -- what is read after a tag that is not 0
 abbrev after_tag : ℕ → ℕ → List ℕ → ℕ → List ℕ → Result (Pairs × List ℕ) Fault
-after_tag d m bytes t a = or_error (type_of_tag t) Tag bytes >>= λ k. read_name a >>= λ s. read_value_in Replace (read_document_in Replace d) k s.1
+after_tag d m bytes t a = some_or_fault (type_of_tag t) Tag bytes >>= λ k. read_name a >>= λ s. read_value_in Replace (read_document_in Replace d) k s.1
     >>= λ v. elements Replace d None m v.1 >>= λ x. Ok (pair s.0 v.0 x.0, x.1)
 
 turn_of : (d : ℕ) → DocumentSkips d → (m : ℕ) (bytes : List ℕ) (t : ℕ) (a : List ℕ) (ps : Pairs) (rest : List ℕ)
@@ -76,7 +76,7 @@ turn_of : (d : ℕ) → DocumentSkips d → (m : ℕ) (bytes : List ℕ) (t : �
     → Cursor d m bytes ps rest
 turn_of d h m bytes t a ps rest byte some e =
     let value = read_value_in Replace (read_document_in Replace d) in
-    let k = bind_ok (or_error (type_of_tag t) Tag bytes) (λ k. read_name a >>= λ s. value k s.1 >>= λ v. elements Replace d None m v.1 >>= λ x. Ok (pair s.0 v.0 x.0, x.1)) (ps, rest) e in
+    let k = bind_ok (some_or_fault (type_of_tag t) Tag bytes) (λ k. read_name a >>= λ s. value k s.1 >>= λ v. elements Replace d None m v.1 >>= λ x. Ok (pair s.0 v.0 x.0, x.1)) (ps, rest) e in
     let s = bind_ok (read_name a) (λ s. value k.0 s.1 >>= λ v. elements Replace d None m v.1 >>= λ x. Ok (pair s.0 v.0 x.0, x.1)) (ps, rest) k.2 in
     let v = bind_ok (value k.0 s.0.1) (λ v. elements Replace d None m v.1 >>= λ x. Ok (pair s.0.0 v.0 x.0, x.1)) (ps, rest) s.2 in
     let x = bind_ok (elements Replace d None m v.0.1) (λ x. Ok (pair s.0.0 v.0.0 x.0, x.1)) (ps, rest) v.2 in
@@ -126,7 +126,7 @@ pub list_step : (d : ℕ) → DocumentSkips d → (m : ℕ) (bytes : List ℕ) (
 unfolding read_elements
 list_step d h m bytes ps rest e =
     let value = read_value_in Replace (read_document_in Replace d) in
-    let b = bind_ok (read_byte bytes) (λ t. cond (eqb t.0 0) (Ok (no_pairs, t.1)) (or_error (type_of_tag t.0) Tag bytes >>= λ k. read_name t.1 >>= λ s. value k s.1 >>= λ v. elements Replace d None m v.1 >>= λ x. Ok (pair s.0 v.0 x.0, x.1))) (ps, rest) e in
+    let b = bind_ok (read_byte bytes) (λ t. cond (eqb t.0 0) (Ok (no_pairs, t.1)) (some_or_fault (type_of_tag t.0) Tag bytes >>= λ k. read_name t.1 >>= λ s. value k s.1 >>= λ v. elements Replace d None m v.1 >>= λ x. Ok (pair s.0 v.0 x.0, x.1))) (ps, rest) e in
     step_by d h m (eqb b.0.0 0) bytes b.0.0 b.0.1 ps rest refl b.1 b.2
 
 no_turns : (d : ℕ) (bytes : List ℕ) (ps : Pairs) (rest : List ℕ) → elements Replace d None zero bytes ≡ Ok (ps, rest) → ⊥
@@ -149,7 +149,7 @@ document_skips zero bytes ps rest e = absurd cc
 document_skips (suc d) bytes ps rest e =
     let b = bind_ok (read_length bytes) (λ n. elements Replace d None (length n.1) n.1 >>= λ x. check_length n.0 bytes x) (ps, rest) e in
     let x = bind_ok (elements Replace d None (length b.0.1) b.0.1) (λ x. check_length b.0.0 bytes x) (ps, rest) b.2 in
-    let g = if_ok (eqb (b.0.0 + length x.0.1) (length bytes)) (Ok x.0) (at Length bytes) (ps, rest) x.2 in
+    let g = if_ok (eqb (b.0.0 + length x.0.1) (length bytes)) (Ok x.0) (fault_at Length bytes) (ps, rest) x.2 in
     let size = size_follows bytes b.0.0 b.0.1 b.1 in
     let list = list_lookahead d (document_skips d) (length b.0.1) b.0.1 x.0.0 x.0.1 x.1 in
     let whole = follows_then 4 list.0 bytes b.0.1 x.0.1 size.1 list.1 in
@@ -193,7 +193,7 @@ opened zero bytes ps rest e = absurd cc
 opened (suc d) bytes ps rest e =
     let b = bind_ok (read_length bytes) (λ n. elements Replace d None (length n.1) n.1 >>= λ x. check_length n.0 bytes x) (ps, rest) e in
     let x = bind_ok (elements Replace d None (length b.0.1) b.0.1) (λ x. check_length b.0.0 bytes x) (ps, rest) b.2 in
-    let g = if_ok (eqb (b.0.0 + length x.0.1) (length bytes)) (Ok x.0) (at Length bytes) (ps, rest) x.2 in
+    let g = if_ok (eqb (b.0.0 + length x.0.1) (length bytes)) (Ok x.0) (fault_at Length bytes) (ps, rest) x.2 in
     record {
       deep = omega arith;
       list = b.0.1;

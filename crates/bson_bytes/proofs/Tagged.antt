@@ -5,13 +5,13 @@ use Rattle.std.proofs.lemmas.Bool.{eqb-true}
 use Rattle.bson_types.specs.declared.spec.ElementType.{ElementType}
 use Rattle.bson_types.specs.declared.spec.ElementType.TheVariants as kind
 use Rattle.bson_types.specs.ElementTags.{tag_of}
-use Rattle.bson_bytes.specs.TypeTags.{named, all_types, type_of_tag}
+use Rattle.bson_bytes.specs.TypeTags.{type_with_tag, all_types, type_of_tag}
 use Rattle.bson_bytes.proofs.PartLaws.{chosen}
 
-named_from : (t : ℕ) (ks : List ElementType) (k : ElementType) → named t ks ≡ Some k → tag_of k ≡ t
+named_from : (t : ℕ) (ks : List ElementType) (k : ElementType) → type_with_tag t ks ≡ Some k → tag_of k ≡ t
 named_from t [] k e = absurd cc
 named_from t (j ∷ ks) k e =
-    elim (chosen (eqb t (tag_of j)) (Some j) (named t ks) (Some k) e) [
+    elim (chosen (eqb t (tag_of j)) (Some j) (type_with_tag t ks) (Some k) e) [
       | inl y ↦ let same : j ≡ k = cc in ap tag_of (sym same) ∙ sym (eqb-true t (tag_of j) y.0)
       | inr m ↦ named_from t ks k m.1
     ]

@@ -11,16 +11,16 @@ use Rattle.bson_types.specs.declared.spec.ElementType.TheVariants as tag
 use Rattle.bson_types.specs.BinarySubtypes.{subtype_of}
 use Rattle.bson_scalar.specs.Scalar as kind
 use Rattle.bson_bytes.proofs.Tagged.{tag_from}
-use Rattle.bson_bytes.specs.Fault.{at, ◌>>=◌, or_error}
+use Rattle.bson_bytes.specs.Fault.{fault_at, ◌>>=◌, some_or_fault}
 use Rattle.bson_types.specs.ElementTags.{tag_of}
 use Rattle.bson_bytes.specs.TypeTags.{type_of_tag}
 use Rattle.bson_model.specs.Value.{Value, Pairs, no_pairs, pair}
 use Rattle.bson_model.specs.Value as model
 use Rattle.bson_bytes.specs.Grammar.{little_endian, IsDocument, is_document, IsElementList, is_empty, is_element, IsValue}
-use Rattle.bson_bytes.specs.Grammar.{is_double, is_text, is_embedded, is_array, is_binary, is_false, is_true, is_null}
+use Rattle.bson_bytes.specs.Grammar.{is_double, is_text, is_embedded_document, is_array, is_binary, is_false, is_true, is_null}
 use Rattle.bson_bytes.specs.Grammar.{is_int32, is_int64, is_old_binary, is_undefined, is_object_id, is_date, is_regex}
-use Rattle.bson_bytes.specs.Grammar.{is_pointer, is_code, is_symbol, is_scope, is_timestamp, is_decimal, is_max}
-use Rattle.bson_bytes.specs.Grammar.{is_min}
+use Rattle.bson_bytes.specs.Grammar.{is_pointer, is_code, is_symbol, is_scope, is_timestamp, is_decimal, is_max_key}
+use Rattle.bson_bytes.specs.Grammar.{is_min_key}
 use Rattle.bson_bytes.specs.Grammar.{pair_values, deduplicated_onto, text_bytes, IsText}
 use Rattle.bson_bytes.specs.Reading.{read_byte, read_bytes, read_integer, read_length, read_name, read_string, read_binary, read_boolean}
 use Rattle.bson_bytes.specs.Reading.{read_value_in, read_elements, check_length, read_document_in, map_pairs_read, insert_pairs_read, read_regex, read_pointer}
@@ -32,7 +32,7 @@ use Rattle.bson_bytes.proofs.PartLaws.{IsBytes, IsBytes-rest, Takes, bind_ok, if
 use Rattle.bson_bytes.proofs.PartLaws.{IsNumber, wide32, wide64, length-little_endian, number_takes, size_takes, bytes_takes}
 use Rattle.bson_bytes.proofs.PartLaws.{byte_takes, name_takes, text_takes, IsTextBytes, regroup as end_behind}
 
--- a value and the bytes behind it, as the reader gives them
+-- a value and the bytes after it, as the reader gives them
 abbrev pub Of : (ℕ → Kind → List ℕ → Value → Type 0) → ℕ → Kind → List ℕ → Value × List ℕ → Type 0
 Of W d t bytes p = Takes (W d t) bytes p.0 p.1
 
@@ -41,7 +41,7 @@ pub retold : {keys : DuplicateKeys} {A : Type 0} (W : List ℕ → A → Type 0)
     → (bytes : List ℕ) (x : A) (rest : List ℕ) → Takes W bytes x rest → Takes (IsValue keys d t) bytes (f x) rest
 retold W d t f g bytes x rest h = record { front = h.front; spelled = g h.front x h.spelled; parts = h.parts; rest_bytes = h.rest_bytes }
 
--- the same, through the step that a reader takes
+-- the same, through a step of the reader
 pub stepped : {keys : DuplicateKeys} {A : Type 0} (W : List ℕ → A → Type 0) (d : ℕ) (t : Kind) (f : A → Value) → ((front : List ℕ) (x : A) → W front x → IsValue keys d t front (f x))
     → (bytes : List ℕ) (r : Result (A × List ℕ) Fault) (p : Value × List ℕ)
     → ((x : A) (rest : List ℕ) → r ≡ Ok (x, rest) → Takes W bytes x rest)
@@ -76,7 +76,7 @@ bytes_part n d t f g bytes p fits e = stepped (Is n) d t f (λ front s w. rw w.0
 empty_part : {keys : DuplicateKeys} (d : ℕ) (t : Kind) (v : Value) → IsValue keys d t [] v → (bytes : List ℕ) (p : Value × List ℕ) → IsBytes bytes → done (v, bytes) ≡ done p → Of (IsValue keys) d t bytes p
 empty_part {keys} d t v w bytes p fits e = subst (λ (q : Value × List ℕ). Of (IsValue keys) d t bytes q) (ok_is (v, bytes) p e) record { front = []; spelled = w; parts = refl; rest_bytes = fits }
 
--- two parts, one behind the other
+-- two parts, one after the other
 two_parts : {keys : DuplicateKeys} (d : ℕ) (t : Kind) (bytes a middle b rest : List ℕ) (v : Value) (p : Value × List ℕ) → bytes ≡ a ++ middle → middle ≡ b ++ rest → IsBytes rest → IsValue keys d t (a ++ b) v → done (v, rest) ≡ done p → Of (IsValue keys) d t bytes p
 two_parts {keys} d t bytes a middle b rest v p e f fits w h =
     subst (λ (q : Value × List ℕ). Of (IsValue keys) d t bytes q) (ok_is (v, rest) p h)
@@ -93,8 +93,8 @@ binary_takes d bytes p fits e =
     let behind = IsBytes-rest c.0.0 c.0.1 more in
     elim (chosen (eqb c.0.0 2) (read_old_binary b.0.0 c.0.1) (read_plain_binary c.0.0 b.0.0 c.0.1) (Ok p) c.2) [
       | inl old ↦
-          let n = bind_ok (read_length c.0.1) (λ n. cond (eqb (n.0 + 4) b.0.0) (read_bytes n.0 n.1 >>= λ s. Ok (model.scalar (kind.binary (subtype_of 2) s.0), s.1)) (Err (at Length c.0.1))) p old.1 in
-          let g = if_ok (eqb (n.0.0 + 4) b.0.0) (read_bytes n.0.0 n.0.1 >>= λ s. Ok (model.scalar (kind.binary (subtype_of 2) s.0), s.1)) (at Length c.0.1) p n.2 in
+          let n = bind_ok (read_length c.0.1) (λ n. cond (eqb (n.0 + 4) b.0.0) (read_bytes n.0 n.1 >>= λ s. Ok (model.scalar (kind.binary (subtype_of 2) s.0), s.1)) (Err (fault_at Length c.0.1))) p old.1 in
+          let g = if_ok (eqb (n.0.0 + 4) b.0.0) (read_bytes n.0.0 n.0.1 >>= λ s. Ok (model.scalar (kind.binary (subtype_of 2) s.0), s.1)) (fault_at Length c.0.1) p n.2 in
           let s = bind_ok (read_bytes n.0.0 n.0.1) (λ s. Ok (model.scalar (kind.binary (subtype_of 2) s.0), s.1)) p g.1 in
           let inner = size_takes c.0.1 n.0.0 n.0.1 behind n.1 in
           let held = bytes_takes n.0.0 n.0.1 s.0.0 s.0.1 inner.rest_bytes s.1 in
@@ -118,19 +118,19 @@ binary_takes d bytes p fits e =
 boolean_takes : {keys : DuplicateKeys} (d : ℕ) (bytes : List ℕ) (p : Value × List ℕ) → IsBytes bytes → read_boolean bytes ≡ Ok p → Of (IsValue keys) d tag.Boolean bytes p
 unfolding read_boolean
 boolean_takes {keys} d bytes p fits e =
-    let b = bind_ok (read_byte bytes) (λ b. cond (eqb b.0 0) (Ok (model.scalar (kind.boolean false), b.1)) (cond (eqb b.0 1) (Ok (model.scalar (kind.boolean true), b.1)) (Err (at Boolean bytes)))) p e in
+    let b = bind_ok (read_byte bytes) (λ b. cond (eqb b.0 0) (Ok (model.scalar (kind.boolean false), b.1)) (cond (eqb b.0 1) (Ok (model.scalar (kind.boolean true), b.1)) (Err (fault_at Boolean bytes)))) p e in
     let byte = byte_takes bytes b.0.0 b.0.1 b.1 in
     let rest = IsBytes-rest b.0.0 b.0.1 (subst IsBytes byte fits) in
-    elim (chosen (eqb b.0.0 0) (Ok (model.scalar (kind.boolean false), b.0.1)) (cond (eqb b.0.0 1) (Ok (model.scalar (kind.boolean true), b.0.1)) (Err (at Boolean bytes))) (Ok p) b.2) [
+    elim (chosen (eqb b.0.0 0) (Ok (model.scalar (kind.boolean false), b.0.1)) (cond (eqb b.0.0 1) (Ok (model.scalar (kind.boolean true), b.0.1)) (Err (fault_at Boolean bytes))) (Ok p) b.2) [
       | inl z ↦ subst (λ (q : Value × List ℕ). Of (IsValue keys) d tag.Boolean bytes q) (ok_is (model.scalar (kind.boolean false), b.0.1) p z.1)
           record { front = 0 ∷ []; spelled = is_false d; parts = byte ∙ ap (λ (x : ℕ). x ∷ b.0.1) (eqb-true b.0.0 0 z.0); rest_bytes = rest }
       | inr n ↦
-          let o = if_ok (eqb b.0.0 1) (Ok (model.scalar (kind.boolean true), b.0.1)) (at Boolean bytes) p n.1 in
+          let o = if_ok (eqb b.0.0 1) (Ok (model.scalar (kind.boolean true), b.0.1)) (fault_at Boolean bytes) p n.1 in
           subst (λ (q : Value × List ℕ). Of (IsValue keys) d tag.Boolean bytes q) (ok_is (model.scalar (kind.boolean true), b.0.1) p o.1)
           record { front = 1 ∷ []; spelled = is_true d; parts = byte ∙ ap (λ (x : ℕ). x ∷ b.0.1) (eqb-true b.0.0 1 o.0); rest_bytes = rest }
     ]
 
--- the bytes of a document whose keys may stand behind those
+-- the bytes of a document whose keys may follow those
 abbrev pub StandsBehind : DuplicateKeys → ℕ → EarlierKeys → List ℕ → Pairs → Type 0
 StandsBehind keys d before front ps = IsDocument keys d front ps × Stand before ps
 
@@ -185,10 +185,10 @@ mapped_takes {keys} {A} before f d h bytes y rest fits e =
 scope_takes : {keys : DuplicateKeys} (d : ℕ) → DocumentTakes keys d → (bytes : List ℕ) (p : Value × List ℕ) → IsBytes bytes → read_code_with_scope (read_document_in keys d (no_earlier_keys keys)) bytes ≡ Ok p → Of (IsValue keys) d tag.JavaScriptCodeWithScope bytes p
 unfolding read_code_with_scope
 scope_takes {keys} d h bytes p fits e =
-    let b = bind_ok (read_length bytes) (λ n. read_string n.1 >>= λ s. insert_pairs_read no_pairs (read_document_in keys d (no_earlier_keys keys) s.1) >>= λ x. cond (eqb (n.0 + length x.1) (length bytes)) (Ok (model.code_scope s.0 x.0, x.1)) (Err (at Length bytes))) p e in
-    let s = bind_ok (read_string b.0.1) (λ s. insert_pairs_read no_pairs (read_document_in keys d (no_earlier_keys keys) s.1) >>= λ x. cond (eqb (b.0.0 + length x.1) (length bytes)) (Ok (model.code_scope s.0 x.0, x.1)) (Err (at Length bytes))) p b.2 in
-    let x = bind_ok (insert_pairs_read no_pairs (read_document_in keys d (no_earlier_keys keys) s.0.1)) (λ x. cond (eqb (b.0.0 + length x.1) (length bytes)) (Ok (model.code_scope s.0.0 x.0, x.1)) (Err (at Length bytes))) p s.2 in
-    let g = if_ok (eqb (b.0.0 + length x.0.1) (length bytes)) (Ok (model.code_scope s.0.0 x.0.0, x.0.1)) (at Length bytes) p x.2 in
+    let b = bind_ok (read_length bytes) (λ n. read_string n.1 >>= λ s. insert_pairs_read no_pairs (read_document_in keys d (no_earlier_keys keys) s.1) >>= λ x. cond (eqb (n.0 + length x.1) (length bytes)) (Ok (model.code_scope s.0 x.0, x.1)) (Err (fault_at Length bytes))) p e in
+    let s = bind_ok (read_string b.0.1) (λ s. insert_pairs_read no_pairs (read_document_in keys d (no_earlier_keys keys) s.1) >>= λ x. cond (eqb (b.0.0 + length x.1) (length bytes)) (Ok (model.code_scope s.0 x.0, x.1)) (Err (fault_at Length bytes))) p b.2 in
+    let x = bind_ok (insert_pairs_read no_pairs (read_document_in keys d (no_earlier_keys keys) s.0.1)) (λ x. cond (eqb (b.0.0 + length x.1) (length bytes)) (Ok (model.code_scope s.0.0 x.0, x.1)) (Err (fault_at Length bytes))) p s.2 in
+    let g = if_ok (eqb (b.0.0 + length x.0.1) (length bytes)) (Ok (model.code_scope s.0.0 x.0.0, x.0.1)) (fault_at Length bytes) p x.2 in
     let size = size_takes bytes b.0.0 b.0.1 fits b.1 in
     let text = text_takes b.0.1 s.0.0 s.0.1 size.rest_bytes s.1 in
     let doc = mapped_takes (no_earlier_keys keys) (deduplicated_onto no_pairs) d h s.0.1 x.0.0 x.0.1 text.rest_bytes x.1 in
@@ -209,7 +209,7 @@ value_takes d h tag.Double bytes p fits e =
     stepped (IsNumber w64 (2 ^ 64)) d tag.Double (λ n. model.scalar (kind.double n)) (λ front n w. rw w.0 (is_double d n w.1)) bytes (read_integer w64 bytes) p (λ n rest r. number_takes w64 (2 ^ 64) wide64 bytes n rest fits r) e
 value_takes d h tag.String bytes p fits e = text_part d tag.String (λ s. model.scalar (kind.text s)) (λ s w. is_text d s w) bytes p fits e
 value_takes {keys} d h tag.EmbeddedDocument bytes p fits e =
-    stepped (IsOf keys (no_earlier_keys keys) (deduplicated_onto no_pairs) d) d tag.EmbeddedDocument (λ ps. model.document ps) (λ front ps w. rw w.2 (is_embedded d front w.0 w.1.0 (may_stand keys w.0 w.1.1))) bytes (insert_pairs_read no_pairs (read_document_in keys d (no_earlier_keys keys) bytes)) p (λ ps rest r. mapped_takes (no_earlier_keys keys) (deduplicated_onto no_pairs) d h bytes ps rest fits r) e
+    stepped (IsOf keys (no_earlier_keys keys) (deduplicated_onto no_pairs) d) d tag.EmbeddedDocument (λ ps. model.document ps) (λ front ps w. rw w.2 (is_embedded_document d front w.0 w.1.0 (may_stand keys w.0 w.1.1))) bytes (insert_pairs_read no_pairs (read_document_in keys d (no_earlier_keys keys) bytes)) p (λ ps rest r. mapped_takes (no_earlier_keys keys) (deduplicated_onto no_pairs) d h bytes ps rest fits r) e
 value_takes {keys} d h tag.Array bytes p fits e =
     stepped (IsOf keys None pair_values d) d tag.Array (λ vs. model.array vs) (λ front vs w. rw w.2 (is_array d front w.0 w.1.0)) bytes (map_pairs_read pair_values (read_document_in keys d None bytes)) p (λ vs rest r. mapped_takes None pair_values d h bytes vs rest fits r) e
 value_takes d h tag.Binary bytes p fits e = binary_takes d bytes p fits e
@@ -230,10 +230,10 @@ value_takes d h tag.Timestamp bytes p fits e = timestamp_takes d bytes p fits e
 value_takes d h tag.Int64 bytes p fits e =
     stepped (IsNumber w64 (2 ^ 64)) d tag.Int64 (λ n. model.scalar (kind.int64 (cast_signed w64 n))) (λ front n w. rw w.0 (is_int64 d n w.1)) bytes (read_integer w64 bytes) p (λ n rest r. number_takes w64 (2 ^ 64) wide64 bytes n rest fits r) e
 value_takes d h tag.Decimal128 bytes p fits e = bytes_part 16 d tag.Decimal128 (λ s. model.scalar (kind.decimal s)) (λ s w. is_decimal d s w) bytes p fits e
-value_takes d h tag.MaxKey bytes p fits e = empty_part d tag.MaxKey (model.scalar kind.max_key) (is_max d) bytes p fits e
-value_takes d h tag.MinKey bytes p fits e = empty_part d tag.MinKey (model.scalar kind.min_key) (is_min d) bytes p fits e
+value_takes d h tag.MaxKey bytes p fits e = empty_part d tag.MaxKey (model.scalar kind.max_key) (is_max_key d) bytes p fits e
+value_takes d h tag.MinKey bytes p fits e = empty_part d tag.MinKey (model.scalar kind.min_key) (is_min_key d) bytes p fits e
 
--- a list, the byte 0, and the bytes behind it
+-- a list, the byte 0, and the bytes after it
 pub record TakesList (keys : DuplicateKeys) (d : ℕ) (before : EarlierKeys) (bytes : List ℕ) (ps : Pairs) (rest : List ℕ) : Type 0 where
   pub list : List ℕ
   pub spelled : IsElementList keys d list ps
@@ -246,15 +246,15 @@ unfolding read_elements
 list_takes d h before zero bytes p fits e = absurd cc
 list_takes {keys} d h before (suc m) bytes p fits e =
     let element = read_value_in keys (read_document_in keys d) in
-    let b = bind_ok (read_byte bytes) (λ t. cond (eqb t.0 0) (Ok (no_pairs, t.1)) (or_error (type_of_tag t.0) Tag bytes >>= λ k. read_key before t.1 >>= λ s. element k s.1 >>= λ v. read_elements element (add_earlier_key s.0 before) m v.1 >>= λ x. Ok (pair s.0 v.0 x.0, x.1))) p e in
+    let b = bind_ok (read_byte bytes) (λ t. cond (eqb t.0 0) (Ok (no_pairs, t.1)) (some_or_fault (type_of_tag t.0) Tag bytes >>= λ k. read_key before t.1 >>= λ s. element k s.1 >>= λ v. read_elements element (add_earlier_key s.0 before) m v.1 >>= λ x. Ok (pair s.0 v.0 x.0, x.1))) p e in
     let t = b.0 in
     let byte = byte_takes bytes t.0 t.1 b.1 in
     let fits1 = IsBytes-rest t.0 t.1 (subst IsBytes byte fits) in
-    elim (chosen (eqb t.0 0) (Ok (no_pairs, t.1)) (or_error (type_of_tag t.0) Tag bytes >>= λ k. read_key before t.1 >>= λ s. element k s.1 >>= λ v. read_elements element (add_earlier_key s.0 before) m v.1 >>= λ x. Ok (pair s.0 v.0 x.0, x.1)) (Ok p) b.2) [
+    elim (chosen (eqb t.0 0) (Ok (no_pairs, t.1)) (some_or_fault (type_of_tag t.0) Tag bytes >>= λ k. read_key before t.1 >>= λ s. element k s.1 >>= λ v. read_elements element (add_earlier_key s.0 before) m v.1 >>= λ x. Ok (pair s.0 v.0 x.0, x.1)) (Ok p) b.2) [
       | inl z ↦ subst (λ (q : Pairs × List ℕ). TakesList keys d before bytes q.0 q.1) (ok_is (no_pairs, t.1) p z.1)
           record { list = []; spelled = is_empty d; stand = stand_none before; parts = byte ∙ ap (λ (x : ℕ). x ∷ t.1) (eqb-true t.0 0 z.0); rest_bytes = fits1 }
       | inr n ↦
-          let k = bind_ok (or_error (type_of_tag t.0) Tag bytes) (λ k. read_key before t.1 >>= λ s. element k s.1 >>= λ v. read_elements element (add_earlier_key s.0 before) m v.1 >>= λ x. Ok (pair s.0 v.0 x.0, x.1)) p n.1 in
+          let k = bind_ok (some_or_fault (type_of_tag t.0) Tag bytes) (λ k. read_key before t.1 >>= λ s. element k s.1 >>= λ v. read_elements element (add_earlier_key s.0 before) m v.1 >>= λ x. Ok (pair s.0 v.0 x.0, x.1)) p n.1 in
           let s = bind_ok (read_key before t.1) (λ s. element k.0 s.1 >>= λ v. read_elements element (add_earlier_key s.0 before) m v.1 >>= λ x. Ok (pair s.0 v.0 x.0, x.1)) p k.2 in
           let v = bind_ok (element k.0 s.0.1) (λ v. read_elements element (add_earlier_key s.0.0 before) m v.1 >>= λ x. Ok (pair s.0.0 v.0 x.0, x.1)) p s.2 in
           let x = bind_ok (read_elements element (add_earlier_key s.0.0 before) m v.0.1) (λ x. Ok (pair s.0.0 v.0.0 x.0, x.1)) p v.2 in
@@ -284,7 +284,7 @@ document_takes keys zero before bytes ps rest fits e = absurd cc
 document_takes keys (suc d) before bytes ps rest fits e =
     let b = bind_ok (read_length bytes) (λ n. read_elements (read_value_in keys (read_document_in keys d)) before (length n.1) n.1 >>= λ x. check_length n.0 bytes x) (ps, rest) e in
     let x = bind_ok (read_elements (read_value_in keys (read_document_in keys d)) before (length b.0.1) b.0.1) (λ x. check_length b.0.0 bytes x) (ps, rest) b.2 in
-    let g = if_ok (eqb (b.0.0 + length x.0.1) (length bytes)) (Ok x.0) (at Length bytes) (ps, rest) x.2 in
+    let g = if_ok (eqb (b.0.0 + length x.0.1) (length bytes)) (Ok x.0) (fault_at Length bytes) (ps, rest) x.2 in
     let size = size_takes bytes b.0.0 b.0.1 fits b.1 in
     let list = list_takes d (document_takes keys d) before (length b.0.1) b.0.1 x.0 size.rest_bytes x.1 in
     let whole : bytes ≡ little_endian w32 b.0.0 ++ (list.list ++ 0 ∷ x.0.1) = size.parts ∙ ap (λ (a : List ℕ). a ++ b.0.1) size.spelled.0 ∙ ap (λ (a : List ℕ). little_endian w32 b.0.0 ++ a) list.parts in

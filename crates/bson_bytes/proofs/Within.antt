@@ -1,4 +1,4 @@
--- What was read leaves no more bytes than there were, and a fault stands in those bytes or at their end.
+-- What was read leaves no more bytes than there were, and a fault is in those bytes or at their end.
 use Rattle.std.proofs.Common.{◌≡◌, ℕ, zero, suc, ◌+◌, ◌-◌, ◌^◌, ◌≤◌, Bool, true, false, cond, ltb, eqb, List, [], ◌∷◌, length}
 use Rattle.std.proofs.Common.{take, drop, Option, Some, None, Result, Ok, Err, refl, subst, ap, arith}
 use Rattle.std.specs.Int.{Width, w32, w64, byte_len, from_le_bytes, cast_signed}
@@ -14,19 +14,19 @@ use Rattle.bson_bytes.specs.declared.fault.FaultKind.{FaultKind}
 use Rattle.bson_bytes.specs.declared.fault.FaultKind.TheVariants.{Short, Length, Tag, Utf8, Boolean, End}
 use Rattle.bson_bytes.specs.declared.fault.FaultKind.TheVariants.{Trailing, DuplicateKey}
 use Rattle.bson_bytes.specs.declared.duplicate_keys.DuplicateKeys.{DuplicateKeys}
-use Rattle.bson_bytes.specs.Fault.{at, ◌>>=◌, or_error}
+use Rattle.bson_bytes.specs.Fault.{fault_at, ◌>>=◌, some_or_fault}
 use Rattle.bson_bytes.specs.Grammar.{deduplicated_onto, pair_values}
 use Rattle.bson_bytes.specs.Reading.{read_byte, read_bytes, read_integer, read_length, read_nul, split_at_nul, check_utf8, read_name}
 use Rattle.bson_bytes.specs.Reading.{read_string, read_old_binary, read_plain_binary, read_binary, read_boolean, read_regex}
 use Rattle.bson_bytes.specs.Reading.{read_pointer, read_timestamp, map_pairs_read, insert_pairs_read, read_code_with_scope, read_value_in, read_elements, check_length}
-use Rattle.bson_bytes.specs.Reading.{read_document_in, reads_bytes_in, EarlierKeys, no_earlier_keys, add_earlier_key, is_new, read_key}
+use Rattle.bson_bytes.specs.Reading.{read_document_in, reads_bytes_in, EarlierKeys, no_earlier_keys, add_earlier_key, is_new_key, read_key}
 use Rattle.bson_bytes.specs.TypeTags.{type_of_tag}
 use Rattle.bson_bytes.proofs.PartLaws.{split_takes}
 
--- no more than n by size is left, or the fault stands at most n before the end
+-- no more than n by size is left, or the fault is at most n before the end
 abbrev pub Within : {A : Type 0} → (A → ℕ) → ℕ → Result A Fault → Type 0
 Within size n (Ok x) = size x ≤ n
-Within size n (Err f) = f.left ≤ n
+Within size n (Err f) = f.bytes_to_end ≤ n
 
 abbrev pub left_by : {A : Type 0} → A × List ℕ → ℕ
 left_by x = length x.1
@@ -53,7 +53,7 @@ onto n (Ok x) f h = h
 onto n (Err e) f h = h
 
 or_within : {A : Type 0} (size : A → ℕ) (n : ℕ) (o : Option A) (w : FaultKind) (bytes : List ℕ) → length bytes ≤ n
-    → ((x : A) → o ≡ Some x → size x ≤ n) → Within size n (or_error o w bytes)
+    → ((x : A) → o ≡ Some x → size x ≤ n) → Within size n (some_or_fault o w bytes)
 or_within size n (Some x) w bytes little_endian h = h x refl
 or_within size n None w bytes little_endian h = little_endian
 
@@ -65,29 +65,29 @@ byte_within n (b ∷ bytes) little_endian = omega (arith, little_endian)
 
 bytes_within : (n k : ℕ) (bytes : List ℕ) → length bytes ≤ n → Within left_by n (read_bytes k bytes)
 bytes_within n k bytes little_endian =
-    either_way left_by n (ltb (length bytes) k) (Err (at Short bytes)) (Ok (take k bytes, drop k bytes)) little_endian
+    either_way left_by n (ltb (length bytes) k) (Err (fault_at Short bytes)) (Ok (take k bytes, drop k bytes)) little_endian
     (omega (arith, little_endian, length-drop k bytes))
 
 number_within : (n : ℕ) (w : Width) (bytes : List ℕ) → length bytes ≤ n → Within left_by n (read_integer w bytes)
 number_within n w bytes little_endian =
-    either_way left_by n (ltb (length bytes) (byte_len w)) (Err (at Short bytes))
+    either_way left_by n (ltb (length bytes) (byte_len w)) (Err (fault_at Short bytes))
     (Ok (from_le_bytes w (take (byte_len w) bytes), drop (byte_len w) bytes)) little_endian
     (omega (arith, little_endian, length-drop (byte_len w) bytes))
 
 size_within : (n : ℕ) (bytes : List ℕ) → length bytes ≤ n → Within left_by n (read_length bytes)
 unfolding read_length
 size_within n bytes little_endian =
-    step left_by left_by n (read_integer w32 bytes) (λ k. cond (ltb k.0 (2 ^ 31)) (Ok k) (Err (at Length bytes)))
+    step left_by left_by n (read_integer w32 bytes) (λ k. cond (ltb k.0 (2 ^ 31)) (Ok k) (Err (fault_at Length bytes)))
     (number_within n w32 bytes little_endian)
-    (λ k h. either_way left_by n (ltb k.0 (2 ^ 31)) (Ok k) (Err (at Length bytes)) h little_endian)
+    (λ k h. either_way left_by n (ltb k.0 (2 ^ 31)) (Ok k) (Err (fault_at Length bytes)) h little_endian)
 
 zero_within : (n : ℕ) (bytes : List ℕ) → length bytes ≤ n → Within length n (read_nul bytes)
 zero_within n [] little_endian = little_endian
 zero_within n (b ∷ bytes) little_endian =
-    either_way length n (eqb b 0) (Ok bytes) (Err (at End (b ∷ bytes))) (omega (arith, little_endian)) little_endian
+    either_way length n (eqb b 0) (Ok bytes) (Err (fault_at End (b ∷ bytes))) (omega (arith, little_endian)) little_endian
 
 utf8_within : (n : ℕ) (s bytes : List ℕ) → length bytes ≤ n → Within none n (check_utf8 s bytes)
-utf8_within n s bytes little_endian = either_way none n (is_utf8 s) (Ok s) (Err (at Utf8 bytes)) (omega arith) little_endian
+utf8_within n s bytes little_endian = either_way none n (is_utf8 s) (Ok s) (Err (fault_at Utf8 bytes)) (omega arith) little_endian
 
 split_shorter : (bytes : List ℕ) (p : List ℕ × List ℕ) → split_at_nul bytes ≡ Some p → length p.1 ≤ length bytes
 split_shorter bytes p e =
@@ -96,24 +96,24 @@ split_shorter bytes p e =
 name_within : (n : ℕ) (bytes : List ℕ) → length bytes ≤ n → Within left_by n (read_name bytes)
 unfolding read_name
 name_within n bytes little_endian =
-    step left_by left_by n (or_error (split_at_nul bytes) Short bytes) (λ p. check_utf8 p.0 bytes >>= λ s. Ok (s, p.1))
+    step left_by left_by n (some_or_fault (split_at_nul bytes) Short bytes) (λ p. check_utf8 p.0 bytes >>= λ s. Ok (s, p.1))
     (or_within left_by n (split_at_nul bytes) Short bytes little_endian (λ p e. omega (arith, little_endian, split_shorter bytes p e)))
     (λ p h. step none left_by n (check_utf8 p.0 bytes) (λ s. Ok (s, p.1)) (utf8_within n p.0 bytes little_endian) (λ s i. h))
 
 key_within : (n : ℕ) (before : EarlierKeys) (bytes : List ℕ) → length bytes ≤ n → Within left_by n (read_key before bytes)
 key_within n None bytes little_endian = name_within n bytes little_endian
 key_within n (Some ks) bytes little_endian =
-    step left_by left_by n (read_name bytes) (λ s. cond (is_new s.0 ks) (Ok s) (Err (at DuplicateKey bytes)))
+    step left_by left_by n (read_name bytes) (λ s. cond (is_new_key s.0 ks) (Ok s) (Err (fault_at DuplicateKey bytes)))
     (name_within n bytes little_endian)
-    (λ s h. either_way left_by n (is_new s.0 ks) (Ok s) (Err (at DuplicateKey bytes)) h little_endian)
+    (λ s h. either_way left_by n (is_new_key s.0 ks) (Ok s) (Err (fault_at DuplicateKey bytes)) h little_endian)
 
 text_within : (n : ℕ) (bytes : List ℕ) → length bytes ≤ n → Within left_by n (read_string bytes)
 unfolding read_string
 text_within n bytes little_endian =
     let held = λ (k : ℕ × List ℕ).
     read_bytes (k.0 - 1) k.1 >>= λ s. read_nul s.1 >>= λ rest. check_utf8 s.0 k.1 >>= λ t. Ok (t, rest) in
-    step left_by left_by n (read_length bytes) (λ k. cond (eqb k.0 0) (Err (at Length bytes)) (held k)) (size_within n bytes little_endian)
-    (λ k h. either_way left_by n (eqb k.0 0) (Err (at Length bytes)) (held k) little_endian
+    step left_by left_by n (read_length bytes) (λ k. cond (eqb k.0 0) (Err (fault_at Length bytes)) (held k)) (size_within n bytes little_endian)
+    (λ k h. either_way left_by n (eqb k.0 0) (Err (fault_at Length bytes)) (held k) little_endian
     (step left_by left_by n (read_bytes (k.0 - 1) k.1)
     (λ s. read_nul s.1 >>= λ rest. check_utf8 s.0 k.1 >>= λ t. Ok (t, rest)) (bytes_within n (k.0 - 1) k.1 h)
     (λ s i. step length left_by n (read_nul s.1) (λ rest. check_utf8 s.0 k.1 >>= λ t. Ok (t, rest)) (zero_within n s.1 i)
@@ -124,9 +124,9 @@ text_within n bytes little_endian =
 old_binary_within : (n size : ℕ) (bytes : List ℕ) → length bytes ≤ n → Within left_by n (read_old_binary size bytes)
 old_binary_within n size bytes little_endian =
     let held = λ (k : ℕ × List ℕ). read_bytes k.0 k.1 >>= λ s. Ok (scalar (kind.binary (subtype_of 2) s.0), s.1) in
-    step left_by left_by n (read_length bytes) (λ k. cond (eqb (k.0 + 4) size) (held k) (Err (at Length bytes)))
+    step left_by left_by n (read_length bytes) (λ k. cond (eqb (k.0 + 4) size) (held k) (Err (fault_at Length bytes)))
     (size_within n bytes little_endian)
-    (λ k h. either_way left_by n (eqb (k.0 + 4) size) (held k) (Err (at Length bytes))
+    (λ k h. either_way left_by n (eqb (k.0 + 4) size) (held k) (Err (fault_at Length bytes))
     (onto n (read_bytes k.0 k.1) (λ s. scalar (kind.binary (subtype_of 2) s)) (bytes_within n k.0 k.1 h)) little_endian)
 
 binary_within : (n : ℕ) (bytes : List ℕ) → length bytes ≤ n → Within left_by n (read_binary bytes)
@@ -142,11 +142,11 @@ binary_within n bytes little_endian =
 boolean_within : (n : ℕ) (bytes : List ℕ) → length bytes ≤ n → Within left_by n (read_boolean bytes)
 unfolding read_boolean
 boolean_within n bytes little_endian =
-    let yes = λ (b : ℕ × List ℕ). cond (eqb b.0 1) (Ok (scalar (kind.boolean true), b.1)) (Err (at Boolean bytes)) in
+    let yes = λ (b : ℕ × List ℕ). cond (eqb b.0 1) (Ok (scalar (kind.boolean true), b.1)) (Err (fault_at Boolean bytes)) in
     step left_by left_by n (read_byte bytes) (λ b. cond (eqb b.0 0) (Ok (scalar (kind.boolean false), b.1)) (yes b))
     (byte_within n bytes little_endian)
     (λ b h. either_way left_by n (eqb b.0 0) (Ok (scalar (kind.boolean false), b.1)) (yes b) h
-    (either_way left_by n (eqb b.0 1) (Ok (scalar (kind.boolean true), b.1)) (Err (at Boolean bytes)) h little_endian))
+    (either_way left_by n (eqb b.0 1) (Ok (scalar (kind.boolean true), b.1)) (Err (fault_at Boolean bytes)) h little_endian))
 
 regex_within : (n : ℕ) (bytes : List ℕ) → length bytes ≤ n → Within left_by n (read_regex bytes)
 unfolding read_regex
@@ -179,7 +179,7 @@ scope_within : (keys : DuplicateKeys) (d : ℕ) → DocumentWithin keys d → (n
 unfolding read_code_with_scope
 scope_within keys d doc n bytes little_endian =
     let held = λ (k : ℕ × List ℕ) (s : List ℕ × List ℕ) (x : Pairs × List ℕ).
-    cond (eqb (k.0 + length x.1) (length bytes)) (Ok (code_scope s.0 x.0, x.1)) (Err (at Length bytes)) in
+    cond (eqb (k.0 + length x.1) (length bytes)) (Ok (code_scope s.0 x.0, x.1)) (Err (fault_at Length bytes)) in
     step left_by left_by n (read_length bytes) (λ k. read_string k.1 >>= λ s. insert_pairs_read no_pairs (read_document_in keys d (no_earlier_keys keys) s.1) >>= held k s)
     (size_within n bytes little_endian)
     (λ k h. step left_by left_by n (read_string k.1) (λ s. insert_pairs_read no_pairs (read_document_in keys d (no_earlier_keys keys) s.1) >>= held k s)
@@ -187,7 +187,7 @@ scope_within keys d doc n bytes little_endian =
     (λ s i. step left_by left_by n (insert_pairs_read no_pairs (read_document_in keys d (no_earlier_keys keys) s.1)) (held k s)
     (onto n (read_document_in keys d (no_earlier_keys keys) s.1) (deduplicated_onto no_pairs) (doc (no_earlier_keys keys) n s.1 i))
     (λ x j. either_way left_by n (eqb (k.0 + length x.1) (length bytes)) (Ok (code_scope s.0 x.0, x.1))
-    (Err (at Length bytes)) j little_endian)))
+    (Err (fault_at Length bytes)) j little_endian)))
 
 value_within : (keys : DuplicateKeys) (d : ℕ) → DocumentWithin keys d → (t : ElementType) (n : ℕ) (bytes : List ℕ) → length bytes ≤ n
     → Within left_by n (read_value_in keys (read_document_in keys d) t bytes)
@@ -234,10 +234,10 @@ list_within keys d doc before (suc m) n bytes little_endian =
     let others = λ (s : List ℕ × List ℕ) (v : Value × List ℕ).
     read_elements element (add_earlier_key s.0 before) m v.1 >>= λ x. Ok (pair s.0 v.0 x.0, x.1) in
     let named = λ (t : ℕ × List ℕ) (k : ElementType). read_key before t.1 >>= λ s. element k s.1 >>= others s in
-    let typed = λ (t : ℕ × List ℕ). or_error (type_of_tag t.0) Tag bytes >>= named t in
+    let typed = λ (t : ℕ × List ℕ). some_or_fault (type_of_tag t.0) Tag bytes >>= named t in
     step left_by left_by n (read_byte bytes) (λ t. cond (eqb t.0 0) (Ok (no_pairs, t.1)) (typed t)) (byte_within n bytes little_endian)
     (λ t h. either_way left_by n (eqb t.0 0) (Ok (no_pairs, t.1)) (typed t) h
-    (step none left_by n (or_error (type_of_tag t.0) Tag bytes) (named t)
+    (step none left_by n (some_or_fault (type_of_tag t.0) Tag bytes) (named t)
     (or_within none n (type_of_tag t.0) Tag bytes little_endian (λ k e. omega arith))
     (λ k z. step left_by left_by n (read_key before t.1) (λ s. element k s.1 >>= others s) (key_within n before t.1 h)
     (λ s i. step left_by left_by n (element k s.1) (others s) (value_within keys d doc k n s.1 i)
@@ -252,7 +252,7 @@ document_within keys (suc d) before n bytes little_endian =
     step left_by left_by n (read_length bytes) (λ k. read_elements element before (length k.1) k.1 >>= check_length k.0 bytes) (size_within n bytes little_endian)
     (λ k h. step left_by left_by n (read_elements element before (length k.1) k.1) (check_length k.0 bytes)
     (list_within keys d (document_within keys d) before (length k.1) n k.1 h)
-    (λ x i. either_way left_by n (eqb (k.0 + length x.1) (length bytes)) (Ok x) (Err (at Length bytes)) i little_endian))
+    (λ x i. either_way left_by n (eqb (k.0 + length x.1) (length bytes)) (Ok x) (Err (fault_at Length bytes)) i little_endian))
 
 settled_within : (keys : DuplicateKeys) (d : ℕ) (bytes : List ℕ)
     → Within left_by (length bytes) (insert_pairs_read no_pairs (read_document_in keys d (no_earlier_keys keys) bytes))
@@ -262,22 +262,22 @@ settled_within keys d bytes =
 
 -- ---- the place of a fault
 
-placed : {A : Type 0} (size : A → ℕ) (n : ℕ) (r : Result A Fault) (f : Fault) → Within size n r → r ≡ Err f → f.left ≤ n
+placed : {A : Type 0} (size : A → ℕ) (n : ℕ) (r : Result A Fault) (f : Fault) → Within size n r → r ≡ Err f → f.bytes_to_end ≤ n
 placed size n r f h e = subst (Within size n) e h
 
 pub front_fault : (keys : DuplicateKeys) (d : ℕ) (bytes : List ℕ) (f : Fault)
-    → insert_pairs_read no_pairs (read_document_in keys d (no_earlier_keys keys) bytes) ≡ Err f → f.left ≤ length bytes
+    → insert_pairs_read no_pairs (read_document_in keys d (no_earlier_keys keys) bytes) ≡ Err f → f.bytes_to_end ≤ length bytes
 front_fault keys d bytes f e =
     placed left_by (length bytes) (insert_pairs_read no_pairs (read_document_in keys d (no_earlier_keys keys) bytes)) f
     (settled_within keys d bytes) e
 
 pub fault_stands : (keys : DuplicateKeys) (d : ℕ) (bytes : List ℕ) (f : Fault) → reads_bytes_in keys d bytes ≡ Err f
-    → f.left ≤ length bytes
+    → f.bytes_to_end ≤ length bytes
 unfolding reads_bytes_in
 fault_stands keys d bytes f e =
     let n = length bytes in
     let read = insert_pairs_read no_pairs (read_document_in keys d (no_earlier_keys keys) bytes) in
-    let test = λ (x : Pairs × List ℕ). cond (eqb (length x.1) 0) (Ok x.0) (Err (at Trailing x.1)) in
+    let test = λ (x : Pairs × List ℕ). cond (eqb (length x.1) 0) (Ok x.0) (Err (fault_at Trailing x.1)) in
     placed none n (read >>= test) f
     (step left_by none n read test (settled_within keys d bytes)
-    (λ x h. either_way none n (eqb (length x.1) 0) (Ok x.0) (Err (at Trailing x.1)) (omega arith) h)) e
+    (λ x h. either_way none n (eqb (length x.1) 0) (Ok x.0) (Err (fault_at Trailing x.1)) (omega arith) h)) e

@@ -5,7 +5,7 @@ use Rattle.bson_types.specs.declared.spec.ElementType.TheVariants.{EmbeddedDocum
 use Rattle.bson_model.specs.Value.{Value, scalar}
 
 abbrev pub IsNested : Value → Type 0
-IsNested (scalar s) = ⊥
+IsNested (scalar scalar_value) = ⊥
 IsNested _ = Unit {0}
 
 abbrev pub is_nested_type : ElementType → Bool

@@ -7,9 +7,10 @@ use Rattle.bson_scalar.specs.declared.form.Form.{Form}
 use Rattle.bson_model.specs.Normal.{PairsInRange}
 use Rattle.bson_model.specs.Value.{Pairs}
 use Rattle.bson_model.specs.DistinctKeys.{PairKeysDistinct}
-use Rattle.bson_model.specs.OrderedWriting.{pairs_in_order}
+use Rattle.bson_model.specs.OrderedWriting.{writes_pairs_in_order}
 
 -- it is the text of the document's tree, and the document has each key once and its numbers in range
-abbrev pub IsPrintedText : Form → Pairs → List ℕ → Type 0
-IsPrintedText f ps text = (us : Members) × ((pairs_in_order Finite f ps ≡ Ok us) × PairsInRange ps × PairKeysDistinct ps)
-    × (text ≡ text_of (object us))
+abbrev pub IsPrintedText : Form → Pairs → (text : List ℕ) → Type 0
+IsPrintedText form pairs text = (members : Members)
+    × ((writes_pairs_in_order Finite form pairs ≡ Ok members) × PairsInRange pairs × PairKeysDistinct pairs)
+    × (text ≡ text_of (object members))

@@ -7,13 +7,13 @@ use Rattle.bson_bytes.specs.declared.raw_document.RawDocument.{RawDocument}
 use Rattle.bson_bytes.specs.declared.raw_document.RawArray.{RawArray}
 
 -- the elements in the order of the bytes, in which a key may occur twice
-abbrev pub elements_of : RawDocument → Pairs
-elements_of d = pairs_or_none (read_first_document d.depth d.bytes.now)
+abbrev pub raw_elements : RawDocument → Pairs
+raw_elements document = pairs_or_none (read_first_document document.depth document.bytes.now)
 
 -- one pair for each key: its last value, at its first position
 abbrev pub raw_contents : RawDocument → Pairs
-raw_contents d = deduplicated (elements_of d)
+raw_contents document = deduplicated (raw_elements document)
 
 -- the values of an array
-abbrev pub items : RawArray → Values
-items a = pair_values (elements_of a.elements)
+abbrev pub raw_array_values : RawArray → Values
+raw_array_values array = pair_values (raw_elements array.elements)

@@ -9,34 +9,38 @@ use Rattle.bson_bytes.specs.declared.raw_element.RawElement.{RawElement}
 
 -- the number of bytes of the element's value
 abbrev pub value_length : RawElement → ℕ
-value_length e = length e.value.now - length e.rest.now
+value_length element = length element.value.now - length element.rest.now
 
 -- so many bytes are read as this value
-abbrev pub HasValue : ℕ → RawElement → Value → Type 0
-HasValue d e v = read_value_in Replace (read_document_in Replace d) e.kind e.value.now ≡ Ok (v, drop (value_length e) e.value.now)
+abbrev pub HasValue : (depth : ℕ) → RawElement → Value → Type 0
+HasValue depth element value =
+    read_value_in Replace (read_document_in Replace depth) element.kind element.value.now
+    ≡ Ok (value, drop (value_length element) element.value.now)
 
 -- the element is the first of these, and the bytes after it begin with the others
-pub record IsElement (d : ℕ) (e : RawElement) (ps : Pairs) : Type 0 where
+pub record IsElement (depth : ℕ) (element : RawElement) (element_pairs : Pairs) : Type 0 where
   pub value : Value
-  pub others : Pairs
-  pub pairs : ps ≡ pair e.key.now value others
-  pub utf8 : is_utf8 e.key.now ≡ true
-  pub read : HasValue d e value
-  pub more : BeginsWithElements d e.rest.now others
+  pub later_pairs : Pairs
+  pub pairs : element_pairs ≡ pair element.key.now value later_pairs
+  pub utf8 : is_utf8 element.key.now ≡ true
+  pub read : HasValue depth element value
+  pub later_elements : BeginsWithElements depth element.rest.now later_pairs
 
 -- there is no element, or the first is this one
-abbrev pub IsFirstElement : ℕ → Option RawElement → Pairs → Type 0
-IsFirstElement d None ps = ps ≡ no_pairs
-IsFirstElement d (Some e) ps = IsElement d e ps
+abbrev pub IsFirstElement : (depth : ℕ) → Option RawElement → Pairs → Type 0
+IsFirstElement depth None element_pairs = element_pairs ≡ no_pairs
+IsFirstElement depth (Some element) element_pairs = IsElement depth element element_pairs
 
 -- there is no value, or it is the value of this element
-abbrev pub IsValueOfElement : ℕ → Option RawElement → Option Value → Type 0
-IsValueOfElement d None o = o ≡ None
-IsValueOfElement d (Some e) o = (v : Value) × (o ≡ Some v) × HasValue d e v
+abbrev pub IsValueOfElement : (depth : ℕ) → Option RawElement → (found_value : Option Value) → Type 0
+IsValueOfElement depth None found_value = found_value ≡ None
+IsValueOfElement depth (Some element) found_value =
+    (value : Value) × (found_value ≡ Some value) × HasValue depth element value
 
 -- ---- for private clauses
 
 -- no bytes are kept and there is no value, or the bytes begin with elements of which the first has the value
-abbrev pub IsValueOfFirstElement : ℕ → Option (List ℕ) → Option Value → Type 0
-IsValueOfFirstElement d None o = o ≡ None
-IsValueOfFirstElement d (Some bytes) o = (k : List ℕ) × (v : Value) × (ps : Pairs) × (o ≡ Some v) × BeginsWithElements d bytes (pair k v ps)
+abbrev pub IsValueOfFirstElement : (depth : ℕ) → (bytes : Option (List ℕ)) → (found_value : Option Value) → Type 0
+IsValueOfFirstElement depth None found_value = found_value ≡ None
+IsValueOfFirstElement depth (Some bytes) found_value = (key : List ℕ) × (value : Value) × (other_pairs : Pairs)
+    × (found_value ≡ Some value) × BeginsWithElements depth bytes (pair key value other_pairs)

@@ -7,27 +7,29 @@ use Rattle.bson_bytes.specs.declared.duplicate_keys.DuplicateKeys.{DuplicateKeys
 use Rattle.bson_bytes.specs.declared.duplicate_keys.DuplicateKeys.TheVariants.{Replace}
 
 -- the bytes are those of a document with these pairs, each key once; it has no duplicate key if those are rejected
-pub record IsReadIn (keys : DuplicateKeys) (d : ℕ) (bytes : List ℕ) (ps : Pairs) : Type 0 where
+pub record IsReadAsDocumentIn (keys : DuplicateKeys) (depth : ℕ) (bytes : List ℕ)
+    (document_pairs : Pairs) : Type 0 where
   pub elements : Pairs
-  pub grammar : IsDocument keys d bytes elements
-  pub once : AreAllowedKeys keys elements
-  pub pairs : ps ≡ deduplicated elements
+  pub grammar : IsDocument keys depth bytes elements
+  pub keys_allowed : AreAllowedKeys keys elements
+  pub pairs : document_pairs ≡ deduplicated elements
 
 -- the same, if duplicate keys are allowed
-abbrev pub IsRead : ℕ → List ℕ → Pairs → Type 0
-IsRead d bytes ps = IsReadIn Replace d bytes ps
+abbrev pub IsReadAsDocument : (depth : ℕ) → (bytes : List ℕ) → Pairs → Type 0
+IsReadAsDocument depth bytes document_pairs = IsReadAsDocumentIn Replace depth bytes document_pairs
 
 -- the bytes begin with such a document, and the rest follows
-pub record IsFirstDocumentIn (keys : DuplicateKeys) (d : ℕ) (bytes : List ℕ) (ps : Pairs) (rest : List ℕ) : Type 0 where
+pub record IsFirstDocumentIn (keys : DuplicateKeys) (depth : ℕ) (bytes : List ℕ) (document_pairs : Pairs)
+    (rest : List ℕ) : Type 0 where
   pub front : List ℕ
-  pub read : IsReadIn keys d front ps
+  pub read : IsReadAsDocumentIn keys depth front document_pairs
   pub parts : bytes ≡ front ++ rest
 
-abbrev pub IsFirstDocument : ℕ → List ℕ → Pairs → List ℕ → Type 0
-IsFirstDocument d bytes ps rest = IsFirstDocumentIn Replace d bytes ps rest
+abbrev pub IsFirstDocument : (depth : ℕ) → (bytes : List ℕ) → Pairs → (rest : List ℕ) → Type 0
+IsFirstDocument depth bytes document_pairs rest = IsFirstDocumentIn Replace depth bytes document_pairs rest
 
 -- and they are the bytes that this document is written as
-pub record IsCanonical (d : ℕ) (bytes : List ℕ) (ps : Pairs) : Type 0 where
-  pub read : IsRead d bytes ps
-  pub fits : FitsDocument ps
-  pub written : bytes ≡ document_bytes ps
+pub record IsCanonical (depth : ℕ) (bytes : List ℕ) (document_pairs : Pairs) : Type 0 where
+  pub read : IsReadAsDocument depth bytes document_pairs
+  pub fits : FitsDocument document_pairs
+  pub written : bytes ≡ document_bytes document_pairs

@@ -9,26 +9,28 @@ use Rattle.bson_bytes.specs.declared.duplicate_keys.DuplicateKeys.TheVariants.{R
 
 -- the pairs that were read, or none if reading fails
 abbrev pub pairs_or_none : Result (Pairs × List ℕ) Fault → Pairs
-pairs_or_none (Ok x) = x.0
-pairs_or_none (Err f) = no_pairs
+pairs_or_none (Ok pairs_and_rest) = pairs_and_rest.0
+pairs_or_none (Err fault) = no_pairs
 
 -- what was read, without the bytes after it
-abbrev pub without_rest : {A : Type 0} → Result (A × List ℕ) Fault → Result A Fault
-without_rest read = read >>= λ x. Ok x.0
+abbrev pub without_rest : {A : Type 0} → (read_result : Result (A × List ℕ) Fault) → Result A Fault
+without_rest read_result = read_result >>= λ value_and_rest. Ok value_and_rest.0
 
 -- the elements at the front of the bytes, to the byte 0
-abbrev pub elements_from_bytes : ℕ → List ℕ → Result (Pairs × List ℕ) Fault
-elements_from_bytes d bytes = read_elements (read_value_in Replace (read_document_in Replace d)) None (length bytes) bytes
+abbrev pub elements_from_bytes : (depth : ℕ) → (bytes : List ℕ) → Result (Pairs × List ℕ) Fault
+elements_from_bytes depth bytes =
+    read_elements (read_value_in Replace (read_document_in Replace depth)) None (length bytes) bytes
 
 -- the value of the last pair with the key, or this one if no pair has the key
-abbrev pub last_value : List ℕ → Option Value → Pairs → Option Value
-last_value k o no_pairs = o
-last_value k o (pair l v ps) = last_value k (cond (bytes_eq k l) (Some v) o) ps
+abbrev pub last_value : (key : List ℕ) → (found_value : Option Value) → Pairs → Option Value
+last_value key found_value no_pairs = found_value
+last_value key found_value (pair first_key first_value other_pairs) =
+    last_value key (cond (bytes_eq key first_key) (Some first_value) found_value) other_pairs
 
 -- the bytes begin with these elements, and with the byte 0 after them
-abbrev pub BeginsWithElements : ℕ → List ℕ → Pairs → Type 0
-BeginsWithElements d bytes ps = (rest : List ℕ) × (elements_from_bytes d bytes ≡ Ok (ps, rest))
+abbrev pub BeginsWithElements : (depth : ℕ) → (bytes : List ℕ) → Pairs → Type 0
+BeginsWithElements depth bytes pairs = (rest : List ℕ) × (elements_from_bytes depth bytes ≡ Ok (pairs, rest))
 
 -- the bytes begin with a document of these elements, in which a key may occur twice
-abbrev pub BeginsWithDocument : ℕ → List ℕ → Pairs → Type 0
-BeginsWithDocument d bytes ps = (rest : List ℕ) × (read_first_document d bytes ≡ Ok (ps, rest))
+abbrev pub BeginsWithDocument : (depth : ℕ) → (bytes : List ℕ) → Pairs → Type 0
+BeginsWithDocument depth bytes pairs = (rest : List ℕ) × (read_first_document depth bytes ≡ Ok (pairs, rest))

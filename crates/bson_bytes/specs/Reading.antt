@@ -17,50 +17,52 @@ use Rattle.bson_bytes.specs.declared.fault.FaultKind.TheVariants.{Trailing, Dupl
 use Rattle.bson_bytes.specs.declared.fault.Fault.{Fault}
 use Rattle.bson_bytes.specs.declared.duplicate_keys.DuplicateKeys.{DuplicateKeys}
 use Rattle.bson_bytes.specs.declared.duplicate_keys.DuplicateKeys.TheVariants.{Replace, Refuse}
-use Rattle.bson_bytes.specs.Fault.{at, ◌>>=◌, or_error}
+use Rattle.bson_bytes.specs.Fault.{fault_at, ◌>>=◌, some_or_fault}
 use Rattle.bson_bytes.specs.Grammar.{deduplicated_onto, pair_values}
 use Rattle.bson_bytes.specs.TypeTags.{type_of_tag}
 
-abbrev pub read_byte : List ℕ → Result (ℕ × List ℕ) Fault
-read_byte [] = Err (at Short [])
-read_byte (b ∷ bytes) = Ok (b, bytes)
+abbrev pub read_byte : (bytes : List ℕ) → Result (ℕ × List ℕ) Fault
+read_byte [] = Err (fault_at Short [])
+read_byte (byte ∷ bytes) = Ok (byte, bytes)
 
-abbrev pub read_bytes : ℕ → List ℕ → Result (List ℕ × List ℕ) Fault
-read_bytes n bytes = if nat_lt (length bytes) n then Err (at Short bytes) else Ok (take n bytes, drop n bytes)
+abbrev pub read_bytes : (count : ℕ) → (bytes : List ℕ) → Result (List ℕ × List ℕ) Fault
+read_bytes count bytes =
+    if nat_lt (length bytes) count then Err (fault_at Short bytes) else Ok (take count bytes, drop count bytes)
 
-abbrev pub read_integer : Width → List ℕ → Result (ℕ × List ℕ) Fault
-read_integer w bytes = if nat_lt (length bytes) (byte_len w) then Err (at Short bytes)
-    else Ok (from_le_bytes w (take (byte_len w) bytes), drop (byte_len w) bytes)
+abbrev pub read_integer : Width → (bytes : List ℕ) → Result (ℕ × List ℕ) Fault
+read_integer width bytes = if nat_lt (length bytes) (byte_len width) then Err (fault_at Short bytes)
+    else Ok (from_le_bytes width (take (byte_len width) bytes), drop (byte_len width) bytes)
 
 -- an int32 that is not negative
-unfoldable pub read_length : List ℕ → Result (ℕ × List ℕ) Fault
+unfoldable pub read_length : (bytes : List ℕ) → Result (ℕ × List ℕ) Fault
 read_length bytes = do
-  n ← read_integer w32 bytes
-  if nat_lt n.0 (2 ^ 31) then Ok n else Err (at Length bytes)
+  size ← read_integer w32 bytes
+  if nat_lt size.0 (2 ^ 31) then Ok size else Err (fault_at Length bytes)
 
 -- the byte 0
-abbrev pub read_nul : List ℕ → Result (List ℕ) Fault
-read_nul [] = Err (at Short [])
-read_nul (b ∷ bytes) = if b == 0 then Ok bytes else Err (at End (b ∷ bytes))
+abbrev pub read_nul : (bytes : List ℕ) → Result (List ℕ) Fault
+read_nul [] = Err (fault_at Short [])
+read_nul (byte ∷ bytes) = if byte == 0 then Ok bytes else Err (fault_at End (byte ∷ bytes))
 
 -- the byte before the first of the two
-abbrev pub prepend_byte : ℕ → List ℕ × List ℕ → List ℕ × List ℕ
-prepend_byte b p = (b ∷ p.0, p.1)
+abbrev pub prepend_byte : (byte : ℕ) → (split : List ℕ × List ℕ) → List ℕ × List ℕ
+prepend_byte byte split = (byte ∷ split.0, split.1)
 
 -- the bytes before the first 0, and those after it
-abbrev pub split_at_nul : List ℕ → Option (List ℕ × List ℕ)
+abbrev pub split_at_nul : (bytes : List ℕ) → Option (List ℕ × List ℕ)
 split_at_nul [] = None
-split_at_nul (b ∷ bytes) = if b == 0 then Some ([], bytes) else option_map (prepend_byte b) (split_at_nul bytes)
+split_at_nul (byte ∷ bytes) =
+    if byte == 0 then Some ([], bytes) else option_map (prepend_byte byte) (split_at_nul bytes)
 
 -- the bytes if they are UTF-8, or the error at this position
-abbrev pub check_utf8 : List ℕ → List ℕ → Result (List ℕ) Fault
-check_utf8 s bytes = if is_utf8 s then Ok s else Err (at Utf8 bytes)
+abbrev pub check_utf8 : (text bytes : List ℕ) → Result (List ℕ) Fault
+check_utf8 text bytes = if is_utf8 text then Ok text else Err (fault_at Utf8 bytes)
 
-unfoldable pub read_name : List ℕ → Result (List ℕ × List ℕ) Fault
+unfoldable pub read_name : (bytes : List ℕ) → Result (List ℕ × List ℕ) Fault
 read_name bytes = do
-  p ← or_error (split_at_nul bytes) Short bytes
-  s ← check_utf8 p.0 bytes
-  Ok (s, p.1)
+  split ← some_or_fault (split_at_nul bytes) Short bytes
+  name ← check_utf8 split.0 bytes
+  Ok (name, split.1)
 
 -- the earlier keys of a document, if duplicate keys are rejected; None if they are allowed
 abbrev pub EarlierKeys : Type 0
@@ -70,170 +72,183 @@ abbrev pub no_earlier_keys : DuplicateKeys → EarlierKeys
 no_earlier_keys Replace = None
 no_earlier_keys Refuse = Some []
 
-abbrev pub add_earlier_key : List ℕ → EarlierKeys → EarlierKeys
-add_earlier_key k None = None
-add_earlier_key k (Some ks) = Some (k ∷ ks)
+abbrev pub add_earlier_key : (key : List ℕ) → EarlierKeys → EarlierKeys
+add_earlier_key key None = None
+add_earlier_key key (Some keys) = Some (key ∷ keys)
 
 -- whether the key is not one of these
-abbrev pub is_new : List ℕ → List (List ℕ) → Bool
-is_new k [] = true
-is_new k (l ∷ ks) = cond (bytes_eq k l) false (is_new k ks)
+abbrev pub is_new_key : (key : List ℕ) → (earlier_keys : List (List ℕ)) → Bool
+is_new_key key [] = true
+is_new_key key (earlier_key ∷ earlier_keys) = cond (bytes_eq key earlier_key) false (is_new_key key earlier_keys)
 
 -- a name that is allowed after these
-abbrev pub read_key : EarlierKeys → List ℕ → Result (List ℕ × List ℕ) Fault
+abbrev pub read_key : EarlierKeys → (bytes : List ℕ) → Result (List ℕ × List ℕ) Fault
 read_key None bytes = read_name bytes
-read_key (Some ks) bytes = read_name bytes >>= λ s. if is_new s.0 ks then Ok s else Err (at DuplicateKey bytes)
+read_key (Some earlier_keys) bytes =
+    read_name bytes >>= λ key. if is_new_key key.0 earlier_keys then Ok key else Err (fault_at DuplicateKey bytes)
 
-unfoldable pub read_string : List ℕ → Result (List ℕ × List ℕ) Fault
+unfoldable pub read_string : (bytes : List ℕ) → Result (List ℕ × List ℕ) Fault
 read_string bytes = do
-  n ← read_length bytes
-  if n.0 == 0 then Err (at Length bytes) else do
-    s ← read_bytes (n.0 - 1) n.1
-    rest ← read_nul s.1
-    t ← check_utf8 s.0 n.1
-    Ok (t, rest)
+  size ← read_length bytes
+  if size.0 == 0 then Err (fault_at Length bytes) else do
+    content ← read_bytes (size.0 - 1) size.1
+    rest ← read_nul content.1
+    text ← check_utf8 content.0 size.1
+    Ok (text, rest)
 
 -- bytes under a subtype; those of the subtype 2 have a length of their own before them
-abbrev pub read_old_binary : ℕ → List ℕ → Result (Value × List ℕ) Fault
-read_old_binary size bytes = read_length bytes >>= λ n.
-    if n.0 + 4 == size then (read_bytes n.0 n.1 >>= λ s. Ok (scalar (kind.binary (subtype_of 2) s.0), s.1))
-    else Err (at Length bytes)
+abbrev pub read_old_binary : (size : ℕ) → (bytes : List ℕ) → Result (Value × List ℕ) Fault
+read_old_binary size bytes = read_length bytes >>= λ inner_size.
+    if inner_size.0 + 4 == size
+    then (read_bytes inner_size.0 inner_size.1
+    >>= λ content. Ok (scalar (kind.binary (subtype_of 2) content.0), content.1))
+    else Err (fault_at Length bytes)
 
-abbrev pub read_plain_binary : ℕ → ℕ → List ℕ → Result (Value × List ℕ) Fault
-read_plain_binary b size bytes = read_bytes size bytes >>= λ s. Ok (scalar (kind.binary (subtype_of b) s.0), s.1)
+abbrev pub read_plain_binary : (subtype size : ℕ) → (bytes : List ℕ) → Result (Value × List ℕ) Fault
+read_plain_binary subtype size bytes =
+    read_bytes size bytes >>= λ content. Ok (scalar (kind.binary (subtype_of subtype) content.0), content.1)
 
-unfoldable pub read_binary : List ℕ → Result (Value × List ℕ) Fault
+unfoldable pub read_binary : (bytes : List ℕ) → Result (Value × List ℕ) Fault
 read_binary bytes = do
-  n ← read_length bytes
-  b ← read_byte n.1
-  if b.0 == 2 then read_old_binary n.0 b.1 else read_plain_binary b.0 n.0 b.1
+  size ← read_length bytes
+  subtype ← read_byte size.1
+  if subtype.0 == 2 then read_old_binary size.0 subtype.1 else read_plain_binary subtype.0 size.0 subtype.1
 
-unfoldable pub read_boolean : List ℕ → Result (Value × List ℕ) Fault
+unfoldable pub read_boolean : (bytes : List ℕ) → Result (Value × List ℕ) Fault
 read_boolean bytes = do
-  b ← read_byte bytes
-  if b.0 == 0 then Ok (scalar (kind.boolean false), b.1)
-      else if b.0 == 1 then Ok (scalar (kind.boolean true), b.1)
-      else Err (at Boolean bytes)
+  byte ← read_byte bytes
+  if byte.0 == 0 then Ok (scalar (kind.boolean false), byte.1)
+      else if byte.0 == 1 then Ok (scalar (kind.boolean true), byte.1)
+      else Err (fault_at Boolean bytes)
 
-unfoldable pub read_regex : List ℕ → Result (Value × List ℕ) Fault
+unfoldable pub read_regex : (bytes : List ℕ) → Result (Value × List ℕ) Fault
 read_regex bytes = do
-  p ← read_name bytes
-  o ← read_name p.1
-  Ok (scalar (kind.regex p.0 o.0), o.1)
+  pattern ← read_name bytes
+  options ← read_name pattern.1
+  Ok (scalar (kind.regex pattern.0 options.0), options.1)
 
-unfoldable pub read_pointer : List ℕ → Result (Value × List ℕ) Fault
+unfoldable pub read_pointer : (bytes : List ℕ) → Result (Value × List ℕ) Fault
 read_pointer bytes = do
-  s ← read_string bytes
-  id ← read_bytes 12 s.1
-  Ok (scalar (kind.db_pointer s.0 id.0), id.1)
+  namespace ← read_string bytes
+  id ← read_bytes 12 namespace.1
+  Ok (scalar (kind.db_pointer namespace.0 id.0), id.1)
 
-unfoldable pub read_timestamp : List ℕ → Result (Value × List ℕ) Fault
+unfoldable pub read_timestamp : (bytes : List ℕ) → Result (Value × List ℕ) Fault
 read_timestamp bytes = do
-  i ← read_integer w32 bytes
-  t ← read_integer w32 i.1
-  Ok (scalar (kind.timestamp t.0 i.0), t.1)
+  increment ← read_integer w32 bytes
+  time ← read_integer w32 increment.1
+  Ok (scalar (kind.timestamp time.0 increment.0), time.1)
 
--- what was read, by f
-abbrev pub map_pairs_read : {A : Type 0} → (Pairs → A) → Result (Pairs × List ℕ) Fault → Result (A × List ℕ) Fault
-map_pairs_read f read = read >>= λ x. Ok (f x.0, x.1)
+-- what was read, converted
+abbrev pub map_pairs_read : {A : Type 0} → (convert : Pairs → A) → Result (Pairs × List ℕ) Fault
+    → Result (A × List ℕ) Fault
+map_pairs_read convert read_result = read_result >>= λ pairs. Ok (convert pairs.0, pairs.1)
 
 -- the bytes after what was read
-abbrev pub passed : {A : Type 0} → Result (A × List ℕ) Fault → Result (List ℕ) Fault
-passed read = read >>= λ x. Ok x.1
+abbrev pub bytes_after : {A : Type 0} → (read_result : Result (A × List ℕ) Fault) → Result (List ℕ) Fault
+bytes_after read_result = read_result >>= λ value_and_rest. Ok value_and_rest.1
 
 -- the first pairs, with the pairs that were read inserted
-abbrev pub insert_pairs_read : Pairs → Result (Pairs × List ℕ) Fault → Result (Pairs × List ℕ) Fault
-insert_pairs_read done read = map_pairs_read (deduplicated_onto done) read
+abbrev pub insert_pairs_read : (first_pairs : Pairs) → Result (Pairs × List ℕ) Fault → Result (Pairs × List ℕ) Fault
+insert_pairs_read first_pairs read_result = map_pairs_read (deduplicated_onto first_pairs) read_result
 
 -- code and a document, whose length together is the number before them
-unfoldable pub read_code_with_scope : (List ℕ → Result (Pairs × List ℕ) Fault) → List ℕ → Result (Value × List ℕ) Fault
-read_code_with_scope inner bytes = do
-  n ← read_length bytes
-  s ← read_string n.1
-  x ← insert_pairs_read no_pairs (inner s.1)
-  if n.0 + length x.1 == length bytes then Ok (code_scope s.0 x.0, x.1) else Err (at Length bytes)
+unfoldable pub read_code_with_scope : (read_scope : List ℕ → Result (Pairs × List ℕ) Fault) → (bytes : List ℕ)
+    → Result (Value × List ℕ) Fault
+read_code_with_scope read_scope bytes = do
+  size ← read_length bytes
+  code ← read_string size.1
+  scope ← insert_pairs_read no_pairs (read_scope code.1)
+  if size.0 + length scope.1 == length bytes then Ok (code_scope code.0 scope.0, scope.1)
+      else Err (fault_at Length bytes)
 
 -- a value, whose inner documents are read by this function
-unfoldable pub read_value_in : DuplicateKeys → (EarlierKeys → List ℕ → Result (Pairs × List ℕ) Fault) → ElementType → List ℕ
+unfoldable pub read_value_in : DuplicateKeys → (read_inner : EarlierKeys → List ℕ → Result (Pairs × List ℕ) Fault)
+    → ElementType → (bytes : List ℕ)
     → Result (Value × List ℕ) Fault
-read_value_in keys inner tag.Double bytes = do
-  n ← read_integer w64 bytes
-  Ok (scalar (kind.double n.0), n.1)
-read_value_in keys inner tag.String bytes = do
-  s ← read_string bytes
-  Ok (scalar (kind.text s.0), s.1)
-read_value_in keys inner tag.EmbeddedDocument bytes = do
-  x ← insert_pairs_read no_pairs (inner (no_earlier_keys keys) bytes)
-  Ok (document x.0, x.1)
-read_value_in keys inner tag.Array bytes = do
-  x ← map_pairs_read pair_values (inner None bytes)
-  Ok (array x.0, x.1)
-read_value_in keys inner tag.Binary bytes = read_binary bytes
-read_value_in keys inner tag.Undefined bytes = Ok (scalar kind.undefined, bytes)
-read_value_in keys inner tag.ObjectId bytes = do
-  s ← read_bytes 12 bytes
-  Ok (scalar (kind.object_id s.0), s.1)
-read_value_in keys inner tag.Boolean bytes = read_boolean bytes
-read_value_in keys inner tag.DateTime bytes = do
-  n ← read_integer w64 bytes
-  Ok (scalar (kind.date (cast_signed w64 n.0)), n.1)
-read_value_in keys inner tag.Null bytes = Ok (scalar kind.null, bytes)
-read_value_in keys inner tag.RegularExpression bytes = read_regex bytes
-read_value_in keys inner tag.DbPointer bytes = read_pointer bytes
-read_value_in keys inner tag.JavaScriptCode bytes = do
-  s ← read_string bytes
-  Ok (scalar (kind.code s.0), s.1)
-read_value_in keys inner tag.Symbol bytes = do
-  s ← read_string bytes
-  Ok (scalar (kind.symbol s.0), s.1)
-read_value_in keys inner tag.JavaScriptCodeWithScope bytes = read_code_with_scope (inner (no_earlier_keys keys)) bytes
-read_value_in keys inner tag.Int32 bytes = do
-  n ← read_integer w32 bytes
-  Ok (scalar (kind.int32 (cast_signed w32 n.0)), n.1)
-read_value_in keys inner tag.Timestamp bytes = read_timestamp bytes
-read_value_in keys inner tag.Int64 bytes = do
-  n ← read_integer w64 bytes
-  Ok (scalar (kind.int64 (cast_signed w64 n.0)), n.1)
-read_value_in keys inner tag.Decimal128 bytes = do
-  s ← read_bytes 16 bytes
-  Ok (scalar (kind.decimal s.0), s.1)
-read_value_in keys inner tag.MaxKey bytes = Ok (scalar kind.max_key, bytes)
-read_value_in keys inner tag.MinKey bytes = Ok (scalar kind.min_key, bytes)
+read_value_in keys read_inner tag.Double bytes = do
+  number ← read_integer w64 bytes
+  Ok (scalar (kind.double number.0), number.1)
+read_value_in keys read_inner tag.String bytes = do
+  text ← read_string bytes
+  Ok (scalar (kind.text text.0), text.1)
+read_value_in keys read_inner tag.EmbeddedDocument bytes = do
+  pairs ← insert_pairs_read no_pairs (read_inner (no_earlier_keys keys) bytes)
+  Ok (document pairs.0, pairs.1)
+read_value_in keys read_inner tag.Array bytes = do
+  values ← map_pairs_read pair_values (read_inner None bytes)
+  Ok (array values.0, values.1)
+read_value_in keys read_inner tag.Binary bytes = read_binary bytes
+read_value_in keys read_inner tag.Undefined bytes = Ok (scalar kind.undefined, bytes)
+read_value_in keys read_inner tag.ObjectId bytes = do
+  id ← read_bytes 12 bytes
+  Ok (scalar (kind.object_id id.0), id.1)
+read_value_in keys read_inner tag.Boolean bytes = read_boolean bytes
+read_value_in keys read_inner tag.DateTime bytes = do
+  number ← read_integer w64 bytes
+  Ok (scalar (kind.date (cast_signed w64 number.0)), number.1)
+read_value_in keys read_inner tag.Null bytes = Ok (scalar kind.null, bytes)
+read_value_in keys read_inner tag.RegularExpression bytes = read_regex bytes
+read_value_in keys read_inner tag.DbPointer bytes = read_pointer bytes
+read_value_in keys read_inner tag.JavaScriptCode bytes = do
+  code ← read_string bytes
+  Ok (scalar (kind.code code.0), code.1)
+read_value_in keys read_inner tag.Symbol bytes = do
+  symbol ← read_string bytes
+  Ok (scalar (kind.symbol symbol.0), symbol.1)
+read_value_in keys read_inner tag.JavaScriptCodeWithScope bytes =
+    read_code_with_scope (read_inner (no_earlier_keys keys)) bytes
+read_value_in keys read_inner tag.Int32 bytes = do
+  number ← read_integer w32 bytes
+  Ok (scalar (kind.int32 (cast_signed w32 number.0)), number.1)
+read_value_in keys read_inner tag.Timestamp bytes = read_timestamp bytes
+read_value_in keys read_inner tag.Int64 bytes = do
+  number ← read_integer w64 bytes
+  Ok (scalar (kind.int64 (cast_signed w64 number.0)), number.1)
+read_value_in keys read_inner tag.Decimal128 bytes = do
+  bit_pattern ← read_bytes 16 bytes
+  Ok (scalar (kind.decimal bit_pattern.0), bit_pattern.1)
+read_value_in keys read_inner tag.MaxKey bytes = Ok (scalar kind.max_key, bytes)
+read_value_in keys read_inner tag.MinKey bytes = Ok (scalar kind.min_key, bytes)
 
 -- The elements to the byte 0. The number bounds the recursion: the count of the bytes is always enough.
-unfoldable pub read_elements : (ElementType → List ℕ → Result (Value × List ℕ) Fault) → EarlierKeys → ℕ → List ℕ
+unfoldable pub read_elements : (read_value : ElementType → List ℕ → Result (Value × List ℕ) Fault) → EarlierKeys
+    → (bound : ℕ) → (bytes : List ℕ)
     → Result (Pairs × List ℕ) Fault
-read_elements element before zero bytes = Err (at Short bytes)
-read_elements element before (suc n) bytes = do
-  t ← read_byte bytes
-  if t.0 == 0 then Ok (no_pairs, t.1) else do
-    k ← or_error (type_of_tag t.0) Tag bytes
-    s ← read_key before t.1
-    v ← element k s.1
-    x ← read_elements element (add_earlier_key s.0 before) n v.1
-    Ok (pair s.0 v.0 x.0, x.1)
+read_elements read_value earlier_keys zero bytes = Err (fault_at Short bytes)
+read_elements read_value earlier_keys (suc bound) bytes = do
+  tag_byte ← read_byte bytes
+  if tag_byte.0 == 0 then Ok (no_pairs, tag_byte.1) else do
+    element_type ← some_or_fault (type_of_tag tag_byte.0) Tag bytes
+    key ← read_key earlier_keys tag_byte.1
+    first_value ← read_value element_type key.1
+    other_pairs ← read_elements read_value (add_earlier_key key.0 earlier_keys) bound first_value.1
+    Ok (pair key.0 first_value.0 other_pairs.0, other_pairs.1)
 
 -- the pairs, if the document that begins with these bytes has this length
-abbrev pub check_length : ℕ → List ℕ → Pairs × List ℕ → Result (Pairs × List ℕ) Fault
-check_length n bytes x = if n + length x.1 == length bytes then Ok x else Err (at Length bytes)
+abbrev pub check_length : (size : ℕ) → (bytes : List ℕ) → (pairs_and_rest : Pairs × List ℕ)
+    → Result (Pairs × List ℕ) Fault
+check_length size bytes pairs_and_rest =
+    if size + length pairs_and_rest.1 == length bytes then Ok pairs_and_rest else Err (fault_at Length bytes)
 
 -- one document, and in it documents nested no deeper than the number
-unfoldable pub read_document_in : DuplicateKeys → ℕ → EarlierKeys → List ℕ → Result (Pairs × List ℕ) Fault
-read_document_in keys zero before bytes = Err (at Depth bytes)
-read_document_in keys (suc d) before bytes = do
-  n ← read_length bytes
-  x ← read_elements (read_value_in keys (read_document_in keys d)) before (length n.1) n.1
-  check_length n.0 bytes x
+unfoldable pub read_document_in : DuplicateKeys → (depth : ℕ) → EarlierKeys → (bytes : List ℕ)
+    → Result (Pairs × List ℕ) Fault
+read_document_in keys zero earlier_keys bytes = Err (fault_at Depth bytes)
+read_document_in keys (suc depth) earlier_keys bytes = do
+  size ← read_length bytes
+  elements ← read_elements (read_value_in keys (read_document_in keys depth)) earlier_keys (length size.1) size.1
+  check_length size.0 bytes elements
 
 -- all of the bytes
-unfoldable pub reads_bytes_in : DuplicateKeys → ℕ → List ℕ → Result Pairs Fault
-reads_bytes_in keys d bytes = do
-  x ← insert_pairs_read no_pairs (read_document_in keys d (no_earlier_keys keys) bytes)
-  if length x.1 == 0 then Ok x.0 else Err (at Trailing x.1)
+unfoldable pub reads_bytes_in : DuplicateKeys → (depth : ℕ) → (bytes : List ℕ) → Result Pairs Fault
+reads_bytes_in keys depth bytes = do
+  pairs ← insert_pairs_read no_pairs (read_document_in keys depth (no_earlier_keys keys) bytes)
+  if length pairs.1 == 0 then Ok pairs.0 else Err (fault_at Trailing pairs.1)
 
 -- the same, if duplicate keys are allowed
-abbrev pub read_first_document : ℕ → List ℕ → Result (Pairs × List ℕ) Fault
-read_first_document d = read_document_in Replace d None
+abbrev pub read_first_document : (depth : ℕ) → (bytes : List ℕ) → Result (Pairs × List ℕ) Fault
+read_first_document depth = read_document_in Replace depth None
 
-abbrev pub reads_bytes : ℕ → List ℕ → Result Pairs Fault
-reads_bytes d = reads_bytes_in Replace d
+abbrev pub reads_bytes : (depth : ℕ) → (bytes : List ℕ) → Result Pairs Fault
+reads_bytes depth = reads_bytes_in Replace depth

@@ -7,28 +7,28 @@ use Rattle.bson_types.specs.declared.spec.ElementType.TheVariants as tag
 use Rattle.bson_model.specs.Value.{Pairs, no_pairs}
 use Rattle.bson_bytes.specs.Reading.{split_at_nul}
 use Rattle.bson_bytes.specs.TypeTags.{type_of_tag}
-use Rattle.bson_bytes.specs.declared.skip_value.Size.{Size}
-use Rattle.bson_bytes.specs.declared.skip_value.Size.TheVariants.{Fixed, LengthPrefixed, TwoCStrings}
+use Rattle.bson_bytes.specs.declared.skip_value.ValueSize.{ValueSize}
+use Rattle.bson_bytes.specs.declared.skip_value.ValueSize.TheVariants.{Fixed, LengthPrefixed, TwoCStrings}
 
-abbrev pub skip : ℕ → List ℕ → Option (List ℕ)
-skip n bytes = if nat_lt (length bytes) n then None else Some (drop n bytes)
+abbrev pub skip_bytes : (count : ℕ) → (bytes : List ℕ) → Option (List ℕ)
+skip_bytes count bytes = if nat_lt (length bytes) count then None else Some (drop count bytes)
 
 -- the number of 32 bits at the front
-abbrev pub length_at : List ℕ → Option ℕ
-length_at bytes = if nat_lt (length bytes) 4 then None else Some (from_le_bytes w32 (take 4 bytes))
+abbrev pub length_prefix : (bytes : List ℕ) → Option ℕ
+length_prefix bytes = if nat_lt (length bytes) 4 then None else Some (from_le_bytes w32 (take 4 bytes))
 
 -- as many bytes as the number at their front says, and so many more
-abbrev pub skip_sized : ℕ → List ℕ → Option (List ℕ)
-skip_sized more bytes = option_and_then (λ n. skip (n + more) bytes) (length_at bytes)
+abbrev pub skip_length_prefixed : (extra : ℕ) → (bytes : List ℕ) → Option (List ℕ)
+skip_length_prefixed extra bytes = option_and_then (λ size. skip_bytes (size + extra) bytes) (length_prefix bytes)
 
-abbrev pub skip_name : List ℕ → Option (List ℕ)
-skip_name bytes = option_map (λ p. p.1) (split_at_nul bytes)
+abbrev pub skip_name : (bytes : List ℕ) → Option (List ℕ)
+skip_name bytes = option_map (λ name_and_rest. name_and_rest.1) (split_at_nul bytes)
 
-abbrev pub skip_regex : List ℕ → Option (List ℕ)
+abbrev pub skip_regex : (bytes : List ℕ) → Option (List ℕ)
 skip_regex bytes = option_and_then skip_name (skip_name bytes)
 
 -- how many bytes a value of each type has
-abbrev pub value_size : ElementType → Size
+abbrev pub value_size : ElementType → ValueSize
 value_size tag.Double = Fixed 8
 value_size tag.String = LengthPrefixed 4
 value_size tag.EmbeddedDocument = LengthPrefixed 0
@@ -52,21 +52,26 @@ value_size tag.MaxKey = Fixed 0
 value_size tag.MinKey = Fixed 0
 
 -- the bytes after so many
-abbrev pub skip_value_of_size : Size → List ℕ → Option (List ℕ)
-skip_value_of_size (Fixed n) bytes = skip n bytes
-skip_value_of_size (LengthPrefixed more) bytes = skip_sized more bytes
+abbrev pub skip_value_of_size : ValueSize → (bytes : List ℕ) → Option (List ℕ)
+skip_value_of_size (Fixed count) bytes = skip_bytes count bytes
+skip_value_of_size (LengthPrefixed extra) bytes = skip_length_prefixed extra bytes
 skip_value_of_size TwoCStrings bytes = skip_regex bytes
 
-abbrev pub skip_value : ElementType → List ℕ → Option (List ℕ)
-skip_value k bytes = skip_value_of_size (value_size k) bytes
+abbrev pub skip_value : ElementType → (bytes : List ℕ) → Option (List ℕ)
+skip_value element_type bytes = skip_value_of_size (value_size element_type) bytes
 
 -- the element at the front: its type, its name, and the bytes that begin with its value; None if there is no element
-abbrev pub first_element_of : List ℕ → Option (ElementType × List ℕ × List ℕ)
+abbrev pub first_element_of : (bytes : List ℕ) → Option (ElementType × List ℕ × List ℕ)
 first_element_of [] = None
-first_element_of (t ∷ bytes) = option_and_then (λ k. option_map (λ p. (k, p.0, p.1)) (split_at_nul bytes)) (type_of_tag t)
+first_element_of (tag_byte ∷ bytes) =
+    option_and_then
+    (λ element_type. option_map (λ name_and_rest. (element_type, name_and_rest.0, name_and_rest.1))
+    (split_at_nul bytes)) (type_of_tag tag_byte)
 
 -- no element is left, or these are the name of the first and the bytes after its value
-abbrev pub IsNameAndRest : Pairs → List ℕ → Option (List ℕ × List ℕ) → Type 0
-IsNameAndRest ps bytes None = ps ≡ no_pairs
-IsNameAndRest ps bytes (Some x) =
-    (k : ElementType) × (b : List ℕ) × (first_element_of bytes ≡ Some (k, x.0, b)) × (skip_value k b ≡ Some x.1)
+abbrev pub IsNameAndRest : Pairs → (bytes : List ℕ) → (name_and_rest : Option (List ℕ × List ℕ)) → Type 0
+IsNameAndRest pairs bytes None = pairs ≡ no_pairs
+IsNameAndRest pairs bytes (Some name_and_rest) =
+    (element_type : ElementType) × (value_bytes : List ℕ)
+    × (first_element_of bytes ≡ Some (element_type, name_and_rest.0, value_bytes))
+    × (skip_value element_type value_bytes ≡ Some name_and_rest.1)

@@ -9,39 +9,47 @@ use Rattle.bson_bytes.specs.declared.stop.Stop.{Stop}
 use Rattle.bson_bytes.specs.declared.stop.Stop.TheVariants as stops
 
 -- reading has this fault, or the sink stops for a reason that it may have
-abbrev pub StopsReadingFor : {Y : Type 0} → (Stop → Type 0) → Stop → Result Y Fault → Type 0
-StopsReadingFor May (stops.Fault f) read = read ≡ Err f
-StopsReadingFor May stops.PossibleDuplicate read = May stops.PossibleDuplicate
-StopsReadingFor May stops.OutOfMemory read = May stops.OutOfMemory
+abbrev pub StopsReadingFor : {Parsed : Type 0} → (MayStop : Stop → Type 0) → Stop → (read_result : Result Parsed Fault)
+    → Type 0
+StopsReadingFor MayStop (stops.Fault fault) read_result = read_result ≡ Err fault
+StopsReadingFor MayStop stops.PossibleDuplicate read_result = MayStop stops.PossibleDuplicate
+StopsReadingFor MayStop stops.OutOfMemory read_result = MayStop stops.OutOfMemory
 
 -- the bytes are read as a value, with these bytes left after it, and this holds for both the value and the result
-abbrev pub ReadsTo : {X Y : Type 0} → (Stop → Type 0) → (X → List ℕ) → (Y → X → Type 0) → Result X Stop
-    → Result (Y × List ℕ) Fault → Type 0
-ReadsTo {X} {Y} May rest Holds (Ok x) read = (y : Y) × (read ≡ Ok (y, rest x)) × Holds y x
-ReadsTo May rest Holds (Err e) read = StopsReadingFor May e read
+abbrev pub ReadsTo : {Returned Parsed : Type 0} → (MayStop : Stop → Type 0) → (rest : Returned → List ℕ)
+    → (Holds : Parsed → Returned → Type 0)
+    → Result Returned Stop
+    → (read_result : Result (Parsed × List ℕ) Fault) → Type 0
+ReadsTo {Returned} {Parsed} MayStop rest Holds (Ok returned) read_result =
+    (value_read : Parsed) × (read_result ≡ Ok (value_read, rest returned))
+    × Holds value_read returned
+ReadsTo MayStop rest Holds (Err stop) read_result = StopsReadingFor MayStop stop read_result
 
 -- all of the bytes are read as pairs, and this holds for both the pairs and the result
-abbrev pub ReadsAllTo : {X : Type 0} → (Stop → Type 0) → (Pairs → X → Type 0) → Result X Stop → Result Pairs Fault → Type 0
-ReadsAllTo May Holds (Ok x) read = (ps : Pairs) × (read ≡ Ok ps) × Holds ps x
-ReadsAllTo May Holds (Err e) read = StopsReadingFor May e read
+abbrev pub ReadsAllTo : {Returned : Type 0} → (MayStop : Stop → Type 0) → (Holds : Pairs → Returned → Type 0)
+    → Result Returned Stop
+    → (read_result : Result Pairs Fault) → Type 0
+ReadsAllTo MayStop Holds (Ok returned) read_result = (pairs : Pairs) × (read_result ≡ Ok pairs) × Holds pairs returned
+ReadsAllTo MayStop Holds (Err stop) read_result = StopsReadingFor MayStop stop read_result
 
 -- the reason is not a fault of the bytes
-abbrev pub IsNoFault : Stop → Type 0
-IsNoFault (stops.Fault f) = ⊥
-IsNoFault e = Unit {0}
+abbrev pub IsSinkStop : Stop → Type 0
+IsSinkStop (stops.Fault fault) = ⊥
+IsSinkStop stop = Unit {0}
 
 -- the pairs, and this one after them
-abbrev pub with_pair : Pairs → List ℕ → Value → Pairs
-with_pair no_pairs k v = pair k v no_pairs
-with_pair (pair l w ps) k v = pair l w (with_pair ps k v)
+abbrev pub with_last_pair : Pairs → (key : List ℕ) → (new_value : Value) → Pairs
+with_last_pair no_pairs key new_value = pair key new_value no_pairs
+with_last_pair (pair first_key first_value other_pairs) key new_value =
+    pair first_key first_value (with_last_pair other_pairs key new_value)
 
 -- the keys of the pairs, the last one first, before these
-abbrev pub reversed_keys : Pairs → List (List ℕ) → List (List ℕ)
-reversed_keys no_pairs ks = ks
-reversed_keys (pair k v ps) ks = reversed_keys ps (k ∷ ks)
+abbrev pub reversed_keys : Pairs → (later_keys : List (List ℕ)) → List (List ℕ)
+reversed_keys no_pairs later_keys = later_keys
+reversed_keys (pair key first_value other_pairs) later_keys = reversed_keys other_pairs (key ∷ later_keys)
 
 -- the keys that a document (true) of these pairs may not have again; an array may have any names
-abbrev pub earlier_keys : DuplicateKeys → Bool → Pairs → EarlierKeys
-earlier_keys Replace b ps = None
-earlier_keys Refuse true ps = Some (reversed_keys ps [])
-earlier_keys Refuse false ps = None
+abbrev pub earlier_keys : DuplicateKeys → (is_document : Bool) → Pairs → EarlierKeys
+earlier_keys Replace is_document pairs = None
+earlier_keys Refuse true pairs = Some (reversed_keys pairs [])
+earlier_keys Refuse false pairs = None

@@ -5,9 +5,10 @@ use Rattle.bson_types.specs.declared.spec.ElementType.TheVariants as tag
 use Rattle.bson_types.specs.ElementTags.{tag_of}
 
 -- the first of these types whose tag the byte is
-abbrev pub named : ℕ → List ElementType → Option ElementType
-named t [] = None
-named t (k ∷ ks) = if t == tag_of k then Some k else named t ks
+abbrev pub type_with_tag : (tag_byte : ℕ) → List ElementType → Option ElementType
+type_with_tag tag_byte [] = None
+type_with_tag tag_byte (first_type ∷ other_types) =
+    if tag_byte == tag_of first_type then Some first_type else type_with_tag tag_byte other_types
 
 abbrev pub all_types : List ElementType
 all_types =
@@ -16,5 +17,5 @@ all_types =
     ∷ tag.JavaScriptCodeWithScope ∷ tag.Int32 ∷ tag.Timestamp ∷ tag.Int64 ∷ tag.Decimal128 ∷ tag.MaxKey ∷ tag.MinKey
     ∷ []
 
-unfoldable pub type_of_tag : ℕ → Option ElementType
-type_of_tag t = named t all_types
+unfoldable pub type_of_tag : (tag_byte : ℕ) → Option ElementType
+type_of_tag tag_byte = type_with_tag tag_byte all_types

@@ -13,56 +13,56 @@ use Rattle.bson_bytes.specs.declared.raw_value.RawRegexRef.{RawRegexRef}
 
 -- the bit pattern of a double
 abbrev pub double_value : Value → Option ℕ
-double_value (scalar (kind.double p)) = Some p
+double_value (scalar (kind.double bit_pattern)) = Some bit_pattern
 double_value _ = None
 
 abbrev pub string_value : Value → Option (List ℕ)
-string_value (scalar (kind.text s)) = Some s
+string_value (scalar (kind.text text)) = Some text
 string_value _ = None
 
 abbrev pub array_value : Value → Option Values
-array_value (array vs) = Some vs
+array_value (array values) = Some values
 array_value _ = None
 
 abbrev pub document_value : Value → Option Pairs
-document_value (document ps) = Some ps
+document_value (document pairs) = Some pairs
 document_value _ = None
 
 abbrev pub boolean_value : Value → Option Bool
-boolean_value (scalar (kind.boolean b)) = Some b
+boolean_value (scalar (kind.boolean truth_value)) = Some truth_value
 boolean_value _ = None
 
 abbrev pub int32_value : Value → Option ℤ
-int32_value (scalar (kind.int32 z)) = Some z
+int32_value (scalar (kind.int32 number)) = Some number
 int32_value _ = None
 
 abbrev pub int64_value : Value → Option ℤ
-int64_value (scalar (kind.int64 z)) = Some z
+int64_value (scalar (kind.int64 number)) = Some number
 int64_value _ = None
 
 -- the time, and the increment
 abbrev pub timestamp_value : Value → Option (ℕ × ℕ)
-timestamp_value (scalar (kind.timestamp t i)) = Some (t, i)
+timestamp_value (scalar (kind.timestamp time increment)) = Some (time, increment)
 timestamp_value _ = None
 
 abbrev pub timestamp_parts : Timestamp → ℕ × ℕ
-timestamp_parts t = (t.time, t.increment)
+timestamp_parts timestamp = (timestamp.time, timestamp.increment)
 
 -- the subtype, and the bytes
-abbrev pub binary_of : Value → Option (BinarySubtype × List ℕ)
-binary_of (scalar (kind.binary b s)) = Some (b, s)
-binary_of _ = None
+abbrev pub binary_value : Value → Option (BinarySubtype × List ℕ)
+binary_value (scalar (kind.binary subtype bytes)) = Some (subtype, bytes)
+binary_value _ = None
 
 abbrev pub binary_parts : RawBinaryRef → BinarySubtype × List ℕ
-binary_parts b = (b.subtype, b.bytes.now)
+binary_parts binary = (binary.subtype, binary.bytes.now)
 
 -- the pattern, and the options
-abbrev pub regex_of : Value → Option (List ℕ × List ℕ)
-regex_of (scalar (kind.regex p o)) = Some (p, o)
-regex_of _ = None
+abbrev pub regex_value : Value → Option (List ℕ × List ℕ)
+regex_value (scalar (kind.regex pattern options)) = Some (pattern, options)
+regex_value _ = None
 
 abbrev pub regex_parts : RawRegexRef → List ℕ × List ℕ
-regex_parts r = (r.pattern.now, r.options.now)
+regex_parts regex = (regex.pattern.now, regex.options.now)
 
 -- the twelve bytes of an object id
 abbrev pub object_id_value : Value → Option (List ℕ)
@@ -71,29 +71,30 @@ object_id_value _ = None
 
 -- the milliseconds of a date-time
 abbrev pub date_value : Value → Option ℤ
-date_value (scalar (kind.date z)) = Some z
+date_value (scalar (kind.date millis)) = Some millis
 date_value _ = None
 
 -- the sixteen bytes of a decimal
 abbrev pub decimal_value : Value → Option (List ℕ)
-decimal_value (scalar (kind.decimal s)) = Some s
+decimal_value (scalar (kind.decimal bytes)) = Some bytes
 decimal_value _ = None
 
 -- what a getter returns for the value of the key
 abbrev pub raw_type_result : {T : Type 0} → Option T → Result T ValueAccessError
 raw_type_result None = Err UnexpectedType
-raw_type_result (Some x) = Ok x
+raw_type_result (Some value_found) = Ok value_found
 
 -- the same for a key that may be absent
-abbrev pub raw_access_result : {T : Type 0} → (Value → Option T) → Option Value → Result T ValueAccessError
-raw_access_result f None = Err NotPresent
-raw_access_result f (Some v) = raw_type_result (f v)
+abbrev pub raw_access_result : {T : Type 0} → (getter : Value → Option T) → Option Value → Result T ValueAccessError
+raw_access_result getter None = Err NotPresent
+raw_access_result getter (Some value_found) = raw_type_result (getter value_found)
 
 -- what a getter returns at a key of a document
-abbrev pub raw_value_at : {T : Type 0} → (Value → Option T) → List ℕ → RawDocument → Result T ValueAccessError
-raw_value_at f key d = raw_access_result f (value_at_key key (raw_contents d))
+abbrev pub raw_value_at : {T : Type 0} → (getter : Value → Option T) → (key : List ℕ) → RawDocument
+    → Result T ValueAccessError
+raw_value_at getter key raw_document = raw_access_result getter (value_at_key key (raw_contents raw_document))
 
 -- a result with what its value represents
-abbrev pub ok_view : {A B : Type 0} → (A → B) → Result A ValueAccessError → Result B ValueAccessError
-ok_view f (Ok x) = Ok (f x)
-ok_view f (Err e) = Err e
+abbrev pub ok_view : {A B : Type 0} → (view : A → B) → Result A ValueAccessError → Result B ValueAccessError
+ok_view view (Ok returned) = Ok (view returned)
+ok_view view (Err error) = Err error

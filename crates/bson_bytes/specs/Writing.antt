@@ -16,222 +16,238 @@ use Rattle.bson_scalar.specs.ElementType.{scalar_type}
 use Rattle.bson_model.specs.Normal.{map_scalars_of_pairs}
 use Rattle.bson_model.specs.Value.{Value, Values, no_values, value, Pairs, no_pairs, pair, scalar, code_scope, array}
 use Rattle.bson_model.specs.Value.{document}
-use Rattle.bson_bytes.specs.Grammar.{little_endian, NoZero, IsLength, text_bytes, binary_bytes, old_binary_bytes, scope_size}
-use Rattle.bson_bytes.specs.Grammar.{scope_bytes, document_of_elements, deduplicated}
+use Rattle.bson_bytes.specs.Grammar.{little_endian, HasNoNulByte, IsLength, text_bytes, binary_bytes, old_binary_bytes, code_with_scope_size}
+use Rattle.bson_bytes.specs.Grammar.{code_with_scope_bytes, document_of_elements, deduplicated}
 
 -- ---- bytes
 
-abbrev pub bool_byte : Bool → ℕ
+abbrev pub bool_byte : (truth_value : Bool) → ℕ
 bool_byte true = 1
 bool_byte false = 0
 
 -- the bytes of a binary whose subtype has the byte
-abbrev pub subtyped_bytes : ℕ → List ℕ → List ℕ
-subtyped_bytes b s = cond (nat_eq b 2) (old_binary_bytes s) (binary_bytes b s)
+abbrev pub subtyped_bytes : (subtype : ℕ) → (bytes : List ℕ) → List ℕ
+subtyped_bytes subtype bytes = cond (nat_eq subtype 2) (old_binary_bytes bytes) (binary_bytes subtype bytes)
 
-abbrev pub regex_bytes : List ℕ → List ℕ → List ℕ
-regex_bytes p o = p ++ 0 ∷ (o ++ 0 ∷ [])
+abbrev pub regex_bytes : (pattern options : List ℕ) → List ℕ
+regex_bytes pattern options = pattern ++ 0 ∷ (options ++ 0 ∷ [])
 
 abbrev pub scalar_bytes : Scalar → List ℕ
 scalar_bytes null = []
 scalar_bytes undefined = []
 scalar_bytes min_key = []
 scalar_bytes max_key = []
-scalar_bytes (boolean b) = bool_byte b ∷ []
-scalar_bytes (double p) = little_endian w64 p
-scalar_bytes (int32 z) = little_endian w32 (cast_unsigned w32 z)
-scalar_bytes (int64 z) = little_endian w64 (cast_unsigned w64 z)
-scalar_bytes (text s) = text_bytes s
-scalar_bytes (symbol s) = text_bytes s
-scalar_bytes (code s) = text_bytes s
-scalar_bytes (regex p o) = regex_bytes p o
-scalar_bytes (timestamp t i) = little_endian w32 i ++ little_endian w32 t
-scalar_bytes (binary k s) = subtyped_bytes (subtype_byte k) s
+scalar_bytes (boolean truth_value) = bool_byte truth_value ∷ []
+scalar_bytes (double bit_pattern) = little_endian w64 bit_pattern
+scalar_bytes (int32 number) = little_endian w32 (cast_unsigned w32 number)
+scalar_bytes (int64 number) = little_endian w64 (cast_unsigned w64 number)
+scalar_bytes (text content) = text_bytes content
+scalar_bytes (symbol content) = text_bytes content
+scalar_bytes (code content) = text_bytes content
+scalar_bytes (regex pattern options) = regex_bytes pattern options
+scalar_bytes (timestamp time increment) = little_endian w32 increment ++ little_endian w32 time
+scalar_bytes (binary subtype bytes) = subtyped_bytes (subtype_byte subtype) bytes
 scalar_bytes (object_id id) = id
-scalar_bytes (date z) = little_endian w64 (cast_unsigned w64 z)
-scalar_bytes (decimal128 s) = s
-scalar_bytes (db_pointer s id) = text_bytes s ++ id
+scalar_bytes (date millis) = little_endian w64 (cast_unsigned w64 millis)
+scalar_bytes (decimal128 bytes) = bytes
+scalar_bytes (db_pointer namespace id) = text_bytes namespace ++ id
 
 -- the element type of a value
 abbrev pub type_of : Value → ElementType
-type_of (scalar x) = scalar_type x
-type_of (code_scope s ps) = tag.JavaScriptCodeWithScope
-type_of (array vs) = tag.Array
-type_of (document ps) = tag.EmbeddedDocument
+type_of (scalar scalar_value) = scalar_type scalar_value
+type_of (code_scope code_text scope) = tag.JavaScriptCodeWithScope
+type_of (array value_list) = tag.Array
+type_of (document pairs) = tag.EmbeddedDocument
 
 -- the tag and the name of an element
-abbrev pub name_bytes : ElementType → List ℕ → List ℕ
-name_bytes t k = tag_of t ∷ (k ++ 0 ∷ [])
+abbrev pub name_bytes : ElementType → (name : List ℕ) → List ℕ
+name_bytes element_type name = tag_of element_type ∷ (name ++ 0 ∷ [])
 
 abbrev mutual
   pub value_bytes : Value → List ℕ
-  value_bytes (scalar x) = scalar_bytes x
-  value_bytes (code_scope s ps) = scope_bytes s (document_of_elements (elements_bytes ps))
-  value_bytes (array vs) = document_of_elements (array_elements_bytes 0 vs)
-  value_bytes (document ps) = document_of_elements (elements_bytes ps)
+  value_bytes (scalar scalar_value) = scalar_bytes scalar_value
+  value_bytes (code_scope code_text scope) =
+      code_with_scope_bytes code_text (document_of_elements (elements_bytes scope))
+  value_bytes (array values) = document_of_elements (array_elements_bytes 0 values)
+  value_bytes (document pairs) = document_of_elements (elements_bytes pairs)
 
-  -- the elements of an array from index n on
-  pub array_elements_bytes : ℕ → Values → List ℕ
-  array_elements_bytes n no_values = []
-  array_elements_bytes n (value v vs) = name_bytes (type_of v) (decimal n) ++ (value_bytes v ++ array_elements_bytes (n + 1) vs)
+  -- the elements of an array from this index on
+  pub array_elements_bytes : (index : ℕ) → Values → List ℕ
+  array_elements_bytes index no_values = []
+  array_elements_bytes index (value first_value other_values) =
+      name_bytes (type_of first_value) (decimal index)
+      ++ (value_bytes first_value ++ array_elements_bytes (index + 1) other_values)
 
   pub elements_bytes : Pairs → List ℕ
   elements_bytes no_pairs = []
-  elements_bytes (pair k v ps) = name_bytes (type_of v) k ++ (value_bytes v ++ elements_bytes ps)
+  elements_bytes (pair key first_value other_pairs) =
+      name_bytes (type_of first_value) key ++ (value_bytes first_value ++ elements_bytes other_pairs)
 
 abbrev pub document_bytes : Pairs → List ℕ
-document_bytes ps = document_of_elements (elements_bytes ps)
+document_bytes pairs = document_of_elements (elements_bytes pairs)
 
 -- ---- what has bytes: no key, pattern or options contain a 0, and no length is too great
 
 -- the length of a binary whose subtype has the byte
-abbrev pub subtyped_size : ℕ → List ℕ → ℕ
-subtyped_size b s = cond (nat_eq b 2) (length s + 4) (length s)
+abbrev pub subtyped_size : (subtype : ℕ) → (bytes : List ℕ) → ℕ
+subtyped_size subtype bytes = cond (nat_eq subtype 2) (length bytes + 4) (length bytes)
 
 abbrev pub FitsScalar : Scalar → Type 0
-FitsScalar (text s) = IsLength (length s + 1)
-FitsScalar (symbol s) = IsLength (length s + 1)
-FitsScalar (code s) = IsLength (length s + 1)
-FitsScalar (regex p o) = NoZero p × NoZero o
-FitsScalar (binary k s) = IsLength (subtyped_size (subtype_byte k) s)
-FitsScalar (db_pointer s id) = IsLength (length s + 1)
-FitsScalar x = Unit {0}
+FitsScalar (text content) = IsLength (length content + 1)
+FitsScalar (symbol content) = IsLength (length content + 1)
+FitsScalar (code content) = IsLength (length content + 1)
+FitsScalar (regex pattern options) = HasNoNulByte pattern × HasNoNulByte options
+FitsScalar (binary subtype bytes) = IsLength (subtyped_size (subtype_byte subtype) bytes)
+FitsScalar (db_pointer namespace id) = IsLength (length namespace + 1)
+FitsScalar other_scalar = Unit {0}
 
 abbrev mutual
   pub FitsValue : Value → Type 0
-  FitsValue (scalar x) = FitsScalar x
-  FitsValue (code_scope s ps) =
-      (IsLength (length s + 1) × (FitsElements ps × IsLength (length (elements_bytes ps) + 5)))
-      × IsLength (scope_size s (document_of_elements (elements_bytes ps)))
-  FitsValue (array vs) = FitsItems vs × IsLength (length (array_elements_bytes 0 vs) + 5)
-  FitsValue (document ps) = FitsElements ps × IsLength (length (elements_bytes ps) + 5)
+  FitsValue (scalar scalar_value) = FitsScalar scalar_value
+  FitsValue (code_scope code_text scope) =
+      (IsLength (length code_text + 1) × (FitsElements scope × IsLength (length (elements_bytes scope) + 5)))
+      × IsLength (code_with_scope_size code_text (document_of_elements (elements_bytes scope)))
+  FitsValue (array values) = FitsItems values × IsLength (length (array_elements_bytes 0 values) + 5)
+  FitsValue (document pairs) = FitsElements pairs × IsLength (length (elements_bytes pairs) + 5)
 
   pub FitsItems : Values → Type 0
   FitsItems no_values = Unit {0}
-  FitsItems (value v vs) = FitsValue v × FitsItems vs
+  FitsItems (value first_value other_values) = FitsValue first_value × FitsItems other_values
 
   pub FitsElements : Pairs → Type 0
   FitsElements no_pairs = Unit {0}
-  FitsElements (pair k v ps) = NoZero k × (FitsValue v × FitsElements ps)
+  FitsElements (pair key first_value other_pairs) =
+      HasNoNulByte key × (FitsValue first_value × FitsElements other_pairs)
 
 abbrev pub FitsDocument : Pairs → Type 0
-FitsDocument ps = FitsElements ps × IsLength (length (elements_bytes ps) + 5)
+FitsDocument pairs = FitsElements pairs × IsLength (length (elements_bytes pairs) + 5)
 
 -- ---- why a value has none
 
-pub data Cause : Type 0 where
+pub data NoBytesCause : Type 0 where
   -- a key has a 0 in it
-  zero_in_key : Cause
+  nul_in_key : NoBytesCause
   -- a pattern or options have a 0 in them
-  zero_in_regex : Cause
+  nul_in_regex : NoBytesCause
   -- a text, a binary, a document, an array, or code with its scope is too long
-  too_long : Cause
+  too_long : NoBytesCause
 
 -- the length is too great for BSON, which is this cause
-abbrev pub IsLengthTooGreat : Cause → ℕ → Type 0
-IsLengthTooGreat too_long n = 2 ^ 31 ≤ n
-IsLengthTooGreat c n = ⊥
+abbrev pub IsLengthTooGreat : NoBytesCause → (size : ℕ) → Type 0
+IsLengthTooGreat too_long size = 2 ^ 31 ≤ size
+IsLengthTooGreat cause size = ⊥
 
-abbrev pub HasZeroKey : Cause → List ℕ → Type 0
-HasZeroKey zero_in_key k = NoZero k → ⊥
-HasZeroKey c k = ⊥
+abbrev pub KeyHasNulByte : NoBytesCause → (key : List ℕ) → Type 0
+KeyHasNulByte nul_in_key key = HasNoNulByte key → ⊥
+KeyHasNulByte cause key = ⊥
 
-abbrev pub HasZeroRegex : Cause → List ℕ → List ℕ → Type 0
-HasZeroRegex zero_in_regex p o = NoZero p × NoZero o → ⊥
-HasZeroRegex c p o = ⊥
+abbrev pub RegexHasNulByte : NoBytesCause → (pattern options : List ℕ) → Type 0
+RegexHasNulByte nul_in_regex pattern options = HasNoNulByte pattern × HasNoNulByte options → ⊥
+RegexHasNulByte cause pattern options = ⊥
 
-abbrev pub ScalarFails : Cause → Scalar → Type 0
-ScalarFails c (text s) = IsLengthTooGreat c (length s + 1)
-ScalarFails c (symbol s) = IsLengthTooGreat c (length s + 1)
-ScalarFails c (code s) = IsLengthTooGreat c (length s + 1)
-ScalarFails c (regex p o) = HasZeroRegex c p o
-ScalarFails c (binary k s) = IsLengthTooGreat c (subtyped_size (subtype_byte k) s)
-ScalarFails c (db_pointer s id) = IsLengthTooGreat c (length s + 1)
-ScalarFails c x = ⊥
+abbrev pub ScalarDoesNotFit : NoBytesCause → Scalar → Type 0
+ScalarDoesNotFit cause (text content) = IsLengthTooGreat cause (length content + 1)
+ScalarDoesNotFit cause (symbol content) = IsLengthTooGreat cause (length content + 1)
+ScalarDoesNotFit cause (code content) = IsLengthTooGreat cause (length content + 1)
+ScalarDoesNotFit cause (regex pattern options) = RegexHasNulByte cause pattern options
+ScalarDoesNotFit cause (binary subtype bytes) = IsLengthTooGreat cause (subtyped_size (subtype_byte subtype) bytes)
+ScalarDoesNotFit cause (db_pointer namespace id) = IsLengthTooGreat cause (length namespace + 1)
+ScalarDoesNotFit cause other_scalar = ⊥
 
 abbrev mutual
   -- the first part of the value that has no bytes has none for this cause; parts have the order of the bytes, and a
   -- whole comes after its parts
-  pub ValueFails : Cause → Value → Type 0
-  ValueFails c (scalar x) = ScalarFails c x
-  ValueFails c (code_scope s ps) =
-      (IsLengthTooGreat c (length s + 1)
-      ⊎ (IsLength (length s + 1) × (ElementsFail c ps ⊎ (FitsElements ps × IsLengthTooGreat c (length (elements_bytes ps) + 5)))))
-      ⊎ ((IsLength (length s + 1) × (FitsElements ps × IsLength (length (elements_bytes ps) + 5)))
-      × IsLengthTooGreat c (scope_size s (document_of_elements (elements_bytes ps))))
-  ValueFails c (array vs) = ItemsFail c vs ⊎ (FitsItems vs × IsLengthTooGreat c (length (array_elements_bytes 0 vs) + 5))
-  ValueFails c (document ps) = ElementsFail c ps ⊎ (FitsElements ps × IsLengthTooGreat c (length (elements_bytes ps) + 5))
+  pub ValueDoesNotFit : NoBytesCause → Value → Type 0
+  ValueDoesNotFit cause (scalar scalar_value) = ScalarDoesNotFit cause scalar_value
+  ValueDoesNotFit cause (code_scope code_text scope) =
+      (IsLengthTooGreat cause (length code_text + 1)
+      ⊎ (IsLength (length code_text + 1)
+      × (ElementsDoNotFit cause scope
+      ⊎ (FitsElements scope × IsLengthTooGreat cause (length (elements_bytes scope) + 5)))))
+      ⊎ ((IsLength (length code_text + 1) × (FitsElements scope × IsLength (length (elements_bytes scope) + 5)))
+      × IsLengthTooGreat cause (code_with_scope_size code_text (document_of_elements (elements_bytes scope))))
+  ValueDoesNotFit cause (array values) = ItemsDoNotFit cause values
+      ⊎ (FitsItems values × IsLengthTooGreat cause (length (array_elements_bytes 0 values) + 5))
+  ValueDoesNotFit cause (document pairs) = ElementsDoNotFit cause pairs
+      ⊎ (FitsElements pairs × IsLengthTooGreat cause (length (elements_bytes pairs) + 5))
 
-  pub ItemsFail : Cause → Values → Type 0
-  ItemsFail c no_values = ⊥
-  ItemsFail c (value v vs) = ValueFails c v ⊎ (FitsValue v × ItemsFail c vs)
+  pub ItemsDoNotFit : NoBytesCause → Values → Type 0
+  ItemsDoNotFit cause no_values = ⊥
+  ItemsDoNotFit cause (value first_value other_values) = ValueDoesNotFit cause first_value
+      ⊎ (FitsValue first_value × ItemsDoNotFit cause other_values)
 
-  pub ElementsFail : Cause → Pairs → Type 0
-  ElementsFail c no_pairs = ⊥
-  ElementsFail c (pair k v ps) = HasZeroKey c k ⊎ (NoZero k × (ValueFails c v ⊎ (FitsValue v × ElementsFail c ps)))
+  pub ElementsDoNotFit : NoBytesCause → Pairs → Type 0
+  ElementsDoNotFit cause no_pairs = ⊥
+  ElementsDoNotFit cause (pair key first_value other_pairs) = KeyHasNulByte cause key
+      ⊎ (HasNoNulByte key
+      × (ValueDoesNotFit cause first_value ⊎ (FitsValue first_value × ElementsDoNotFit cause other_pairs)))
 
-abbrev pub DocumentFails : Cause → Pairs → Type 0
-DocumentFails c ps = ElementsFail c ps ⊎ (FitsElements ps × IsLengthTooGreat c (length (elements_bytes ps) + 5))
+abbrev pub DocumentDoesNotFit : NoBytesCause → Pairs → Type 0
+DocumentDoesNotFit cause pairs = ElementsDoNotFit cause pairs
+    ⊎ (FitsElements pairs × IsLengthTooGreat cause (length (elements_bytes pairs) + 5))
 
 -- ---- what is read back
 
 -- the scalar with the subtype that its byte names
 abbrev pub with_written_subtype : Scalar → Scalar
-with_written_subtype (binary k s) = binary (subtype_of (subtype_byte k)) s
-with_written_subtype x = x
+with_written_subtype (binary subtype bytes) = binary (subtype_of (subtype_byte subtype)) bytes
+with_written_subtype other_scalar = other_scalar
 
 -- the pairs as they are read back from their bytes
 abbrev pub pairs_read_back : Pairs → Pairs
-pairs_read_back ps = map_scalars_of_pairs with_written_subtype ps
+pairs_read_back pairs = map_scalars_of_pairs with_written_subtype pairs
 
 -- what each value of the Rust types is: its numbers are in range, and its texts are UTF-8
 abbrev pub IsWellTypedScalar : Scalar → Type 0
-IsWellTypedScalar (double p) = p < 2 ^ 64
-IsWellTypedScalar (int32 z) = FitsSigned w32 z
-IsWellTypedScalar (int64 z) = FitsSigned w64 z
-IsWellTypedScalar (text s) = is_utf8 s ≡ true
-IsWellTypedScalar (symbol s) = is_utf8 s ≡ true
-IsWellTypedScalar (code s) = is_utf8 s ≡ true
-IsWellTypedScalar (regex p o) = (is_utf8 p ≡ true) × (is_utf8 o ≡ true)
-IsWellTypedScalar (timestamp t i) = (t < 2 ^ 32) × (i < 2 ^ 32)
-IsWellTypedScalar (binary k s) = subtype_byte k < 256
+IsWellTypedScalar (double bit_pattern) = bit_pattern < 2 ^ 64
+IsWellTypedScalar (int32 number) = FitsSigned w32 number
+IsWellTypedScalar (int64 number) = FitsSigned w64 number
+IsWellTypedScalar (text content) = is_utf8 content ≡ true
+IsWellTypedScalar (symbol content) = is_utf8 content ≡ true
+IsWellTypedScalar (code content) = is_utf8 content ≡ true
+IsWellTypedScalar (regex pattern options) = (is_utf8 pattern ≡ true) × (is_utf8 options ≡ true)
+IsWellTypedScalar (timestamp time increment) = (time < 2 ^ 32) × (increment < 2 ^ 32)
+IsWellTypedScalar (binary subtype bytes) = subtype_byte subtype < 256
 IsWellTypedScalar (object_id id) = length id ≡ 12
-IsWellTypedScalar (date z) = FitsSigned w64 z
-IsWellTypedScalar (decimal128 s) = length s ≡ 16
-IsWellTypedScalar (db_pointer s id) = (is_utf8 s ≡ true) × (length id ≡ 12)
-IsWellTypedScalar x = Unit {0}
+IsWellTypedScalar (date millis) = FitsSigned w64 millis
+IsWellTypedScalar (decimal128 bytes) = length bytes ≡ 16
+IsWellTypedScalar (db_pointer namespace id) = (is_utf8 namespace ≡ true) × (length id ≡ 12)
+IsWellTypedScalar other_scalar = Unit {0}
 
 abbrev mutual
   -- and no document has a duplicate key
   pub IsWellTyped : Value → Type 0
-  IsWellTyped (scalar x) = IsWellTypedScalar x
-  IsWellTyped (code_scope s ps) = (is_utf8 s ≡ true) × PairsAreWellTyped ps × (deduplicated ps ≡ ps)
-  IsWellTyped (array vs) = AreWellTyped vs
-  IsWellTyped (document ps) = PairsAreWellTyped ps × (deduplicated ps ≡ ps)
+  IsWellTyped (scalar scalar_value) = IsWellTypedScalar scalar_value
+  IsWellTyped (code_scope code_text scope) = (is_utf8 code_text ≡ true) × PairsAreWellTyped scope
+      × (deduplicated scope ≡ scope)
+  IsWellTyped (array values) = AreWellTyped values
+  IsWellTyped (document pairs) = PairsAreWellTyped pairs × (deduplicated pairs ≡ pairs)
 
   pub AreWellTyped : Values → Type 0
   AreWellTyped no_values = Unit {0}
-  AreWellTyped (value v vs) = IsWellTyped v × AreWellTyped vs
+  AreWellTyped (value first_value other_values) = IsWellTyped first_value × AreWellTyped other_values
 
   pub PairsAreWellTyped : Pairs → Type 0
   PairsAreWellTyped no_pairs = Unit {0}
-  PairsAreWellTyped (pair k v ps) = (is_utf8 k ≡ true) × IsWellTyped v × PairsAreWellTyped ps
+  PairsAreWellTyped (pair key first_value other_pairs) = (is_utf8 key ≡ true) × IsWellTyped first_value
+      × PairsAreWellTyped other_pairs
 
 abbrev pub IsWellTypedDocument : Pairs → Type 0
-IsWellTypedDocument ps = PairsAreWellTyped ps × (deduplicated ps ≡ ps)
+IsWellTypedDocument pairs = PairsAreWellTyped pairs × (deduplicated pairs ≡ pairs)
 
 abbrev mutual
-  -- documents, arrays and scopes nest at most d deep in the value
-  pub NestsUpTo : Value → ℕ → Type 0
-  NestsUpTo (scalar x) d = Unit {0}
-  NestsUpTo (code_scope s ps) d = (e : ℕ) × (d ≡ suc e) × PairsNestUpTo ps e
-  NestsUpTo (array vs) d = (e : ℕ) × (d ≡ suc e) × ItemsNestUpTo vs e
-  NestsUpTo (document ps) d = (e : ℕ) × (d ≡ suc e) × PairsNestUpTo ps e
+  -- documents, arrays and scopes nest at most so deep in the value
+  pub NestsUpTo : Value → (depth : ℕ) → Type 0
+  NestsUpTo (scalar scalar_value) depth = Unit {0}
+  NestsUpTo (code_scope code_text scope) depth = (inner_depth : ℕ) × (depth ≡ suc inner_depth)
+      × PairsNestUpTo scope inner_depth
+  NestsUpTo (array values) depth = (inner_depth : ℕ) × (depth ≡ suc inner_depth) × ItemsNestUpTo values inner_depth
+  NestsUpTo (document pairs) depth = (inner_depth : ℕ) × (depth ≡ suc inner_depth) × PairsNestUpTo pairs inner_depth
 
-  pub ItemsNestUpTo : Values → ℕ → Type 0
-  ItemsNestUpTo no_values d = Unit {0}
-  ItemsNestUpTo (value v vs) d = NestsUpTo v d × ItemsNestUpTo vs d
+  pub ItemsNestUpTo : Values → (depth : ℕ) → Type 0
+  ItemsNestUpTo no_values depth = Unit {0}
+  ItemsNestUpTo (value first_value other_values) depth = NestsUpTo first_value depth × ItemsNestUpTo other_values depth
 
-  pub PairsNestUpTo : Pairs → ℕ → Type 0
-  PairsNestUpTo no_pairs d = Unit {0}
-  PairsNestUpTo (pair k v ps) d = NestsUpTo v d × PairsNestUpTo ps d
+  pub PairsNestUpTo : Pairs → (depth : ℕ) → Type 0
+  PairsNestUpTo no_pairs depth = Unit {0}
+  PairsNestUpTo (pair key first_value other_pairs) depth = NestsUpTo first_value depth × PairsNestUpTo other_pairs depth

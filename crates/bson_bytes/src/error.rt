@@ -30,17 +30,17 @@ pub enum Error {
 }
 
 impl From<AllocError> for Error {
-    ghost from_gives = { λ _ e. e ≡ errors.OutOfMemory };
+    ghost from_gives = { λ _ error. error ≡ errors.OutOfMemory };
 
-    fn from(_refused: AllocError) -> Error {
+    fn from(_alloc_error: AllocError) -> Error {
         Error::OutOfMemory
     }
 }
 
 impl<T: Drop> From<AllocFailed<T>> for Error {
-    ghost from_gives = { λ _ e. e ≡ errors.OutOfMemory };
+    ghost from_gives = { λ _ error. error ≡ errors.OutOfMemory };
 
-    fn from(_refused: AllocFailed<T>) -> Error {
+    fn from(_alloc_failed: AllocFailed<T>) -> Error {
         Error::OutOfMemory
     }
 }

@@ -1,6 +1,6 @@
 //! Why bytes are not a document.
 ghost use Rattle.std.specs.Prelude.{◌≡◌};
-ghost use Rattle.bson_bytes.specs.Fault.{at};
+ghost use Rattle.bson_bytes.specs.Fault.{fault_at};
 
 /// What is wrong with bytes that are not a document of BSON 1.1.
 ///
@@ -40,15 +40,15 @@ pub struct Fault {
     /// What is wrong.
     pub kind: FaultKind,
     /// The number of bytes from the position of the error to the end.
-    pub left: usize,
+    pub bytes_to_end: usize,
 }
 
 /// Makes the fault of this kind at the first of these bytes, the last of the input.
 pub fn fault_at(kind: FaultKind, bytes: &[u8]) -> Fault
-    ensures { result ≡ at kind bytes.now }
+    ensures { result ≡ fault_at kind bytes.now }
 {
     Fault {
         kind,
-        left: bytes.len(),
+        bytes_to_end: bytes.len(),
     }
 }

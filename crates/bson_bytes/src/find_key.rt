@@ -7,24 +7,24 @@ ghost use Rattle.bson_bytes.specs.ReadElements.{BeginsWithDocument};
 ghost use Rattle.bson_bytes.specs.RawElements.{IsValueOfElement, IsValueOfFirstElement};
 
 use crate::raw_element::{RawElement, first_element};
-use crate::skip_value::passed;
+use crate::skip_value::name_and_value_end;
 
 /// Returns the last element with the key, or `None` if no element has the key. The element is right
 /// if the bytes begin with a document. It passes the other values by their lengths.
 pub fn find<'a>(bytes: &'a [u8], key: &[u8]) -> Option<RawElement<'a>>
-    ensures found { (d : ℕ) (ps : Pairs) → BeginsWithDocument d bytes.now ps
-        → (1 ≤ d) × IsValueOfElement (d - 1) result (value_at_key key.now (deduplicated ps)) }
-    ensures value { IfSome result (λ e. length e.rest.now ≤ length e.value.now) }
+    ensures last_value { (depth : ℕ) (pairs : Pairs) → BeginsWithDocument depth bytes.now pairs
+        → (1 ≤ depth) × IsValueOfElement (depth - 1) result (value_at_key key.now (deduplicated pairs)) }
+    ensures rest_in_value { IfSome result (λ element. length element.rest.now ≤ length element.value.now) }
 {
-    let mut found = None;
+    let mut found_position = None;
     // The elements follow the length of the document.
-    let mut at = 4;
+    let mut position = 4;
     'elements: loop {
-        let Some((name, next)) = passed(bytes, at) else {
-            return element_at_position(bytes, found);
+        let Some((name, next_position)) = name_and_value_end(bytes, position) else {
+            return element_at_position(bytes, found_position);
         };
-        found = later_position(found, is_key(key, name), at);
-        at = next;
+        found_position = later_position(found_position, is_key(key, name), position);
+        position = next_position;
     }
 }
 
@@ -36,21 +36,26 @@ fn is_key(key: &[u8], name: &[u8]) -> bool
 }
 
 // Returns this position if its element has the key, and otherwise the position that was found.
-fn later_position(found: Option<usize>, has_key: bool, at: usize) -> Option<usize>
-    ensures { result ≡ if has_key then Some at else found }
+fn later_position(found_position: Option<usize>, has_key: bool, position: usize) -> Option<usize>
+    ensures { result ≡ if has_key then Some position else found_position }
 {
-    if has_key { Some(at) } else { found }
+    if has_key {
+        Some(position)
+    } else {
+        found_position
+    }
 }
 
 // Returns the element at the position.
-fn element_at_position(bytes: &[u8], found: Option<usize>) -> Option<RawElement<'_>>
-    requires { IfSome found (λ i. i ≤ length bytes.now) }
-    ensures found { (d : ℕ) (o : Option Value)
-        → IsValueOfFirstElement d (option_map (λ i. drop i bytes.now) found) o → IsValueOfElement d result o }
-    ensures value { IfSome result (λ e. length e.rest.now ≤ length e.value.now) }
+fn element_at_position(bytes: &[u8], found_position: Option<usize>) -> Option<RawElement<'_>>
+    requires { IfSome found_position (λ position. position ≤ length bytes.now) }
+    ensures last_value { (depth : ℕ) (expected_value : Option Value)
+        → IsValueOfFirstElement depth (option_map (λ position. drop position bytes.now) found_position) expected_value
+        → IsValueOfElement depth result expected_value }
+    ensures rest_in_value { IfSome result (λ element. length element.rest.now ≤ length element.value.now) }
 {
-    match found {
-        Some(at) => first_element(&bytes[at..]),
+    match found_position {
+        Some(position) => first_element(&bytes[position..]),
         None => None,
     }
 }

@@ -1,7 +1,7 @@
 //! Scalars of a fixed size.
 ghost use Rattle.std.specs.Prelude.{◌≡◌};
 ghost use Rattle.bson_scalar.specs.View.{scalar_view};
-ghost use Rattle.bson_bytes.specs.FixedScalars.{fixed_view};
+ghost use Rattle.bson_bytes.specs.FixedScalars.{fixed_scalar_view};
 
 use bson_decimal::Decimal128;
 use bson_scalar::scalar::Scalar;
@@ -12,7 +12,7 @@ use bson_types::timestamp::Timestamp;
 /// A scalar of a fixed size, which needs no allocation. It is copied, so a sink that keeps nothing
 /// has nothing to free.
 #[derive(Clone, Copy)]
-pub enum FixedScalar {
+pub enum FixedSizeScalar {
     /// The null value.
     Null,
     /// The undefined value (deprecated).
@@ -40,21 +40,21 @@ pub enum FixedScalar {
 }
 
 /// Converts it to a scalar.
-pub fn to_scalar(value: FixedScalar) -> Scalar
-    ensures { scalar_view result ≡ fixed_view value }
+pub fn to_scalar(value: FixedSizeScalar) -> Scalar
+    ensures { scalar_view result ≡ fixed_scalar_view value }
 {
     match value {
-        FixedScalar::Null => Scalar::Null,
-        FixedScalar::Undefined => Scalar::Undefined,
-        FixedScalar::MinKey => Scalar::MinKey,
-        FixedScalar::MaxKey => Scalar::MaxKey,
-        FixedScalar::Boolean(b) => Scalar::Boolean(b),
-        FixedScalar::Double(pattern) => Scalar::Double(pattern),
-        FixedScalar::Int32(z) => Scalar::Int32(z),
-        FixedScalar::Int64(z) => Scalar::Int64(z),
-        FixedScalar::Timestamp(stamp) => Scalar::Timestamp(stamp),
-        FixedScalar::ObjectId(id) => Scalar::ObjectId(id),
-        FixedScalar::DateTime(date) => Scalar::DateTime(date),
-        FixedScalar::Decimal128(decimal) => Scalar::Decimal128(decimal),
+        FixedSizeScalar::Null => Scalar::Null,
+        FixedSizeScalar::Undefined => Scalar::Undefined,
+        FixedSizeScalar::MinKey => Scalar::MinKey,
+        FixedSizeScalar::MaxKey => Scalar::MaxKey,
+        FixedSizeScalar::Boolean(truth) => Scalar::Boolean(truth),
+        FixedSizeScalar::Double(pattern) => Scalar::Double(pattern),
+        FixedSizeScalar::Int32(number) => Scalar::Int32(number),
+        FixedSizeScalar::Int64(number) => Scalar::Int64(number),
+        FixedSizeScalar::Timestamp(timestamp) => Scalar::Timestamp(timestamp),
+        FixedSizeScalar::ObjectId(id) => Scalar::ObjectId(id),
+        FixedSizeScalar::DateTime(date) => Scalar::DateTime(date),
+        FixedSizeScalar::Decimal128(decimal) => Scalar::Decimal128(decimal),
     }
 }

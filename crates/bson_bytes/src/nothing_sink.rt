@@ -5,7 +5,7 @@ ghost use Rattle.bson_bytes.specs.declared.duplicate_keys.DuplicateKeys.TheVaria
 ghost use Rattle.bson_model.specs.Value.{Pairs};
 
 use crate::fault::Fault;
-use crate::fixed_scalar::FixedScalar;
+use crate::fixed_scalar::FixedSizeScalar;
 use crate::read_parts::skip_name;
 use crate::sink::ValueSink;
 use crate::source::read_document;
@@ -19,7 +19,7 @@ pub struct Nothing;
 impl ValueSink for Nothing {
     type Value = ();
 
-    type Open = ();
+    type OpenList = ();
 
     type Name = ();
 
@@ -29,19 +29,19 @@ impl ValueSink for Nothing {
 
     ghost keys = { Replace };
 
-    ghost may_stop = { λ e. ⊥ };
+    ghost may_stop = { λ stop. ⊥ };
 
-    ghost value_written = { λ old v x new. Unit {0} };
+    ghost value_written = { λ old_sink value token new_sink. Unit {0} };
 
-    ghost list_opened = { λ b old ps x new. Unit {0} };
+    ghost list_opened = { λ is_document old_sink pairs token new_sink. Unit {0} };
 
-    ghost name_written = { λ b old k x new. Unit {0} };
+    ghost name_written = { λ is_document old_sink name token new_sink. Unit {0} };
 
-    ghost document_written = { λ old ps x new. Unit {0} };
+    ghost document_written = { λ old_sink pairs token new_sink. Unit {0} };
 
-    ghost code_opened = { λ old s x new. Unit {0} };
+    ghost code_opened = { λ old_sink code token new_sink. Unit {0} };
 
-    fn fixed_scalar(&mut self, _value: FixedScalar) -> Result<(), AllocError> {
+    fn fixed_scalar(&mut self, _value: FixedSizeScalar) -> Result<(), AllocError> {
         Ok(())
     }
 
@@ -100,7 +100,7 @@ impl ValueSink for Nothing {
         Ok(())
     }
 
-    fn embed(&mut self, _given: ()) -> Result<(), AllocError> {
+    fn embed_document(&mut self, _document: ()) -> Result<(), AllocError> {
         Ok(())
     }
 
@@ -121,9 +121,9 @@ impl ValueSink for Nothing {
 /// The first fault of the bytes, and its offset.
 pub fn is_document(bytes: &[u8], depth: usize) -> Result<(), Fault>
     // The bytes are read as a document.
-    ensures ok { OnOk result ((ps : Pairs) × (reads_bytes depth bytes.now ≡ Ok ps)) }
+    ensures ok { OnOk result ((pairs : Pairs) × (reads_bytes depth bytes.now ≡ Ok pairs)) }
     // Which fault it is, and where.
-    ensures fault { IfErr result (λ f. reads_bytes depth bytes.now ≡ Err f) }
+    ensures fault { IfErr result (λ fault. reads_bytes depth bytes.now ≡ Err fault) }
 {
     match read_document(bytes, depth, &mut Nothing) {
         Ok(()) => Ok(()),

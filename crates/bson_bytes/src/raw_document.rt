@@ -38,9 +38,9 @@ impl<'a> RawDocument<'a> {
     #[tactic(auto, using(crate::proofs::Finding::whole_from))]
     pub fn new(bytes: &'a [u8], depth: usize) -> Result<RawDocument<'a>, Fault>
         // The document has what the bytes are read as.
-        ensures ok { IfOk result (λ d. reads_bytes depth bytes.now ≡ Ok (raw_contents d)) }
+        ensures ok { IfOk result (λ raw_document. reads_bytes depth bytes.now ≡ Ok (raw_contents raw_document)) }
         // Which fault it is, and where.
-        ensures fault { IfErr result (λ f. reads_bytes depth bytes.now ≡ Err f) }
+        ensures fault { IfErr result (λ fault. reads_bytes depth bytes.now ≡ Err fault) }
     {
         match nothing_sink::is_document(bytes, depth) {
             Ok(()) => Ok(RawDocument { bytes, depth }),

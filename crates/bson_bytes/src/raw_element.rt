@@ -8,7 +8,7 @@ ghost use Rattle.bson_types.specs.declared.spec.ElementType.{ElementType};
 ghost use Rattle.bson_bytes.specs.ReadElements.{BeginsWithElements, BeginsWithDocument};
 ghost use Rattle.bson_bytes.specs.RawElements.{IsFirstElement};
 
-use crate::skip_value::{passed, skip, skip_sized};
+use crate::skip_value::{name_and_value_end, skip_bytes, skip_length_prefixed};
 use bson_types::spec::ElementType;
 
 /// An element in its bytes.
@@ -25,7 +25,7 @@ pub struct RawElement<'a> {
 }
 
 // By the tag of the type. Tag 0 has no type, and two types have greater tags.
-static TYPES: [ElementType; 20] = [
+static TYPES_BY_TAG: [ElementType; 20] = [
     ElementType::Null,
     ElementType::Double,
     ElementType::String,
@@ -51,10 +51,10 @@ static TYPES: [ElementType; 20] = [
 // Returns the type with this tag, or any type if there is none. A table needs no call and no jump per type.
 #[inline(always)]
 fn type_of(tag: u8) -> ElementType
-    ensures { (k : ElementType) → tag_of k ≡ tag → result ≡ k }
+    ensures { (element_type : ElementType) → tag_of element_type ≡ tag → result ≡ element_type }
 {
     if tag < 20 {
-        TYPES[tag as usize]
+        TYPES_BY_TAG[tag as usize]
     } else if tag == 0x7F {
         ElementType::MaxKey
     } else {
@@ -64,10 +64,10 @@ fn type_of(tag: u8) -> ElementType
 
 /// Returns the bytes of the document with which the bytes begin.
 pub fn document_bytes(bytes: &[u8]) -> Option<&[u8]>
-    ensures { (d : ℕ) (ps : Pairs) → BeginsWithDocument d bytes.now ps
-        → IsSomeAnd result (λ front. reads_bytes d front.now ≡ Ok (deduplicated ps)) }
+    ensures { (depth : ℕ) (pairs : Pairs) → BeginsWithDocument depth bytes.now pairs
+        → IsSomeAnd result (λ front. reads_bytes depth front.now ≡ Ok (deduplicated pairs)) }
 {
-    let Some(rest) = skip_sized(bytes) else {
+    let Some(rest) = skip_length_prefixed(bytes) else {
         return None;
     };
     Some(&bytes[..bytes.len() - rest.len()])
@@ -75,32 +75,33 @@ pub fn document_bytes(bytes: &[u8]) -> Option<&[u8]>
 
 /// Returns the bytes of a document after its length: they begin with its elements.
 pub fn elements_after_length(bytes: &[u8]) -> Option<&[u8]>
-    ensures elements { (d : ℕ) (ps : Pairs) → BeginsWithDocument d bytes.now ps
-        → (1 ≤ d) × IsSomeAnd result (λ list. BeginsWithElements (d - 1) list.now ps) }
-    ensures shorter { IfSome result (λ x. length x.now ≤ length bytes.now) }
+    ensures elements { (depth : ℕ) (pairs : Pairs) → BeginsWithDocument depth bytes.now pairs
+        → (1 ≤ depth) × IsSomeAnd result (λ list. BeginsWithElements (depth - 1) list.now pairs) }
+    ensures shorter { IfSome result (λ element_bytes. length element_bytes.now ≤ length bytes.now) }
 {
-    skip(4, bytes)
+    skip_bytes(4, bytes)
 }
 
 /// Returns the first element, or `None` at the end. The element is right if the bytes begin
 /// with the elements of a document.
 #[inline(always)]
 pub fn first_element(bytes: &[u8]) -> Option<RawElement<'_>>
-    ensures first { (d : ℕ) (ps : Pairs) → BeginsWithElements d bytes.now ps → IsFirstElement d result ps }
-    ensures shorter { IfSome result (λ e. length e.rest.now < length bytes.now) }
-    ensures value { IfSome result (λ e. length e.rest.now ≤ length e.value.now) }
+    ensures is_first_element { (depth : ℕ) (pairs : Pairs) → BeginsWithElements depth bytes.now pairs
+        → IsFirstElement depth result pairs }
+    ensures shorter { IfSome result (λ element. length element.rest.now < length bytes.now) }
+    ensures rest_in_value { IfSome result (λ element. length element.rest.now ≤ length element.value.now) }
 {
     let [tag, ..] = bytes else {
         return None;
     };
     let kind = type_of(*tag);
-    let Some((key, end)) = passed(bytes, 0) else {
+    let Some((key, value_end)) = name_and_value_end(bytes, 0) else {
         return None;
     };
     Some(RawElement {
         kind,
         key,
         value: &bytes[key.len() + 2..],
-        rest: &bytes[end..],
+        rest: &bytes[value_end..],
     })
 }

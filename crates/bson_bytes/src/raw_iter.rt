@@ -26,13 +26,13 @@ pub struct RawArrayIter<'a> {
 }
 
 impl<'a> RawDocument<'a> {
-    ghost use Rattle.bson_bytes.specs.RawContents.{elements_of};
+    ghost use Rattle.bson_bytes.specs.RawContents.{raw_elements};
     ghost use Rattle.bson_bytes.specs.RawIterators.{remaining_elements};
 
     /// Returns an iterator over the elements, in the order of the bytes. If a key is duplicated, each
     /// of its elements occurs.
     pub fn iter(&self) -> RawIter<'a>
-        ensures { remaining_elements result ≡ elements_of self.now }
+        ensures { remaining_elements result ≡ raw_elements self.now }
     {
         let Some(bytes) = elements_after_length(self.bytes) else {
             unreachable!();
@@ -45,12 +45,12 @@ impl<'a> RawDocument<'a> {
 }
 
 impl<'a> RawArray<'a> {
-    ghost use Rattle.bson_bytes.specs.RawContents.{items};
+    ghost use Rattle.bson_bytes.specs.RawContents.{raw_array_values};
     ghost use Rattle.bson_bytes.specs.RawIterators.{remaining_items, values_list};
 
     /// Returns an iterator over the values, in their order.
     pub fn iter(&self) -> RawArrayIter<'a>
-        ensures { remaining_items result ≡ values_list (items self.now) }
+        ensures { remaining_items result ≡ values_list (raw_array_values self.now) }
     {
         RawArrayIter {
             elements: self.elements.iter(),

@@ -109,20 +109,20 @@ fn read_boolean(bytes: &[u8]) -> Result<RawBsonRef<'_>, Fault>
 fn read_old_binary(size: usize, bytes: &[u8]) -> Result<RawBsonRef<'_>, Fault>
     ensures { ReturnsReading raw_view result (without_rest (read_old_binary size bytes.now)) }
 {
-    let (inner, rest) = read_length(bytes)?;
-    if inner + 4 != size {
+    let (inner_size, rest) = read_length(bytes)?;
+    if inner_size + 4 != size {
         return Err(fault_at(FaultKind::Length, bytes));
     }
-    let (bytes, _) = read_bytes(inner, rest)?;
+    let (bytes, _) = read_bytes(inner_size, rest)?;
     let subtype = BinarySubtype::from(2);
     Ok(RawBsonRef::Binary(RawBinaryRef { subtype, bytes }))
 }
 
-fn read_plain_binary(byte: u8, size: usize, bytes: &[u8]) -> Result<RawBsonRef<'_>, Fault>
-    ensures { ReturnsReading raw_view result (without_rest (read_plain_binary byte size bytes.now)) }
+fn read_plain_binary(subtype_byte: u8, size: usize, bytes: &[u8]) -> Result<RawBsonRef<'_>, Fault>
+    ensures { ReturnsReading raw_view result (without_rest (read_plain_binary subtype_byte size bytes.now)) }
 {
     let (bytes, _) = read_bytes(size, bytes)?;
-    let subtype = BinarySubtype::from(byte);
+    let subtype = BinarySubtype::from(subtype_byte);
     Ok(RawBsonRef::Binary(RawBinaryRef { subtype, bytes }))
 }
 
@@ -131,11 +131,11 @@ fn read_binary(bytes: &[u8]) -> Result<RawBsonRef<'_>, Fault>
     ensures { ReturnsReading raw_view result (without_rest (read_binary bytes.now)) }
 {
     let (size, rest) = read_length(bytes)?;
-    let (byte, rest) = read_byte(rest)?;
-    if byte == 2 {
+    let (subtype_byte, rest) = read_byte(rest)?;
+    if subtype_byte == 2 {
         read_old_binary(size, rest)
     } else {
-        read_plain_binary(byte, size, rest)
+        read_plain_binary(subtype_byte, size, rest)
     }
 }
 
@@ -172,7 +172,8 @@ fn read_timestamp(bytes: &[u8]) -> Result<RawBsonRef<'_>, Fault>
 #[tactic(auto, unfolding(crate::specs::Reading::read_code_with_scope))]
 fn read_code_with_scope(bytes: &[u8], depth: usize) -> Result<RawBsonRef<'_>, Fault>
     requires { is_ok (read_code_with_scope (read_first_document depth) bytes.now) ≡ true }
-    ensures { ReturnsReading raw_view result (without_rest (read_code_with_scope (read_first_document depth) bytes.now)) }
+    ensures { ReturnsReading raw_view result
+        (without_rest (read_code_with_scope (read_first_document depth) bytes.now)) }
 {
     let (_, rest) = read_length(bytes)?;
     let (code, bytes) = read_string(rest)?;
@@ -183,9 +184,10 @@ fn read_code_with_scope(bytes: &[u8], depth: usize) -> Result<RawBsonRef<'_>, Fa
 
 // Returns a document that is a value, and does not validate it again.
 #[tactic(auto, unfolding(crate::specs::Reading::read_value_in))]
-fn read_embedded(bytes: &[u8], depth: usize) -> RawBsonRef<'_>
+fn read_embedded_document(bytes: &[u8], depth: usize) -> RawBsonRef<'_>
     requires { is_ok (read_value_in Replace (read_document_in Replace depth) tag.EmbeddedDocument bytes.now) ≡ true }
-    ensures { without_rest (read_value_in Replace (read_document_in Replace depth) tag.EmbeddedDocument bytes.now) ≡ Ok (raw_view result) }
+    ensures { without_rest (read_value_in Replace (read_document_in Replace depth) tag.EmbeddedDocument bytes.now)
+        ≡ Ok (raw_view result) }
 {
     RawBsonRef::Document(RawDocument { bytes, depth })
 }
@@ -194,18 +196,24 @@ fn read_embedded(bytes: &[u8], depth: usize) -> RawBsonRef<'_>
 #[tactic(auto, unfolding(crate::specs::Reading::read_value_in))]
 fn read_array(bytes: &[u8], depth: usize) -> RawBsonRef<'_>
     requires { is_ok (read_value_in Replace (read_document_in Replace depth) tag.Array bytes.now) ≡ true }
-    ensures { without_rest (read_value_in Replace (read_document_in Replace depth) tag.Array bytes.now) ≡ Ok (raw_view result) }
+    ensures { without_rest (read_value_in Replace (read_document_in Replace depth) tag.Array bytes.now)
+        ≡ Ok (raw_view result) }
 {
     let elements = RawDocument { bytes, depth };
     RawBsonRef::Array(RawArray { elements })
 }
 
 // Returns the value at the front of the bytes, which is valid.
-pub(crate) fn read_valid_value(kind: ElementType, bytes: &[u8], depth: usize) -> RawBsonRef<'_>
-    requires { is_ok (read_value_in Replace (read_document_in Replace depth) kind bytes.now) ≡ true }
-    ensures { without_rest (read_value_in Replace (read_document_in Replace depth) kind bytes.now) ≡ Ok (raw_view result) }
+pub(crate) fn read_valid_value(
+    element_type: ElementType,
+    bytes: &[u8],
+    depth: usize,
+) -> RawBsonRef<'_>
+    requires { is_ok (read_value_in Replace (read_document_in Replace depth) element_type bytes.now) ≡ true }
+    ensures { without_rest (read_value_in Replace (read_document_in Replace depth) element_type bytes.now)
+        ≡ Ok (raw_view result) }
 {
-    match read_value(kind, bytes, depth) {
+    match read_value(element_type, bytes, depth) {
         Ok(value) => value,
         Err(_) => unreachable!(),
     }
@@ -213,26 +221,31 @@ pub(crate) fn read_valid_value(kind: ElementType, bytes: &[u8], depth: usize) ->
 
 // Reads the value at the front of the bytes, and validates no document again.
 #[tactic(auto, unfolding(crate::specs::Reading::read_value_in))]
-fn read_value(kind: ElementType, bytes: &[u8], depth: usize) -> Result<RawBsonRef<'_>, Fault>
-    requires { is_ok (read_value_in Replace (read_document_in Replace depth) kind bytes.now) ≡ true }
-    ensures { ReturnsReading raw_view result (without_rest (read_value_in Replace (read_document_in Replace depth) kind bytes.now)) }
+fn read_value(
+    element_type: ElementType,
+    bytes: &[u8],
+    depth: usize,
+) -> Result<RawBsonRef<'_>, Fault>
+    requires { is_ok (read_value_in Replace (read_document_in Replace depth) element_type bytes.now) ≡ true }
+    ensures { ReturnsReading raw_view result
+        (without_rest (read_value_in Replace (read_document_in Replace depth) element_type bytes.now)) }
 {
-    match kind {
-        ElementType::EmbeddedDocument => Ok(read_embedded(bytes, depth)),
+    match element_type {
+        ElementType::EmbeddedDocument => Ok(read_embedded_document(bytes, depth)),
         ElementType::Array => Ok(read_array(bytes, depth)),
         ElementType::JavaScriptCodeWithScope => read_code_with_scope(bytes, depth),
-        _ => read_scalar(kind, bytes),
+        _ => read_scalar(element_type, bytes),
     }
 }
 
 /// Returns the value at the front of the bytes, unless it contains a document. The value is right if
 /// the bytes begin with a value of this type.
-pub fn read_scalar_value(kind: ElementType, bytes: &[u8]) -> Option<RawBsonRef<'_>>
-    ensures { (d : ℕ) (v : Value) (rest : List ℕ)
-        → read_value_in Replace (read_document_in Replace d) kind bytes.now ≡ Ok (v, rest)
-        → MatchOption result (IsNested v) (λ r. raw_view r ≡ v) }
+pub fn read_scalar_value(element_type: ElementType, bytes: &[u8]) -> Option<RawBsonRef<'_>>
+    ensures { (depth : ℕ) (value_read : Value) (rest : List ℕ)
+        → read_value_in Replace (read_document_in Replace depth) element_type bytes.now ≡ Ok (value_read, rest)
+        → MatchOption result (IsNested value_read) (λ raw_value. raw_view raw_value ≡ value_read) }
 {
-    match read_scalar(kind, bytes) {
+    match read_scalar(element_type, bytes) {
         Ok(value) => Some(value),
         Err(_) => None,
     }
@@ -240,12 +253,13 @@ pub fn read_scalar_value(kind: ElementType, bytes: &[u8]) -> Option<RawBsonRef<'
 
 // Reads the value at the front of the bytes, unless it contains a document.
 #[tactic(auto, unfolding(crate::specs::Reading::read_value_in))]
-fn read_scalar(kind: ElementType, bytes: &[u8]) -> Result<RawBsonRef<'_>, Fault>
-    ensures scalar { (d : ℕ) → is_nested_type kind ≡ false
-        → ReturnsReading raw_view result (without_rest (read_value_in Replace (read_document_in Replace d) kind bytes.now)) }
-    ensures nested { is_nested_type kind ≡ true → IfOk result (λ r. ⊥) }
+fn read_scalar(element_type: ElementType, bytes: &[u8]) -> Result<RawBsonRef<'_>, Fault>
+    ensures scalar { (depth : ℕ) → is_nested_type element_type ≡ false
+        → ReturnsReading raw_view result
+        (without_rest (read_value_in Replace (read_document_in Replace depth) element_type bytes.now)) }
+    ensures nested { is_nested_type element_type ≡ true → IfOk result (λ raw_value. ⊥) }
 {
-    match kind {
+    match element_type {
         ElementType::Double => read_double(bytes),
         ElementType::String => read_string_value(bytes),
         ElementType::Binary => read_binary(bytes),

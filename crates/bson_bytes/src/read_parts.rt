@@ -3,7 +3,7 @@ ghost use Rattle.std.specs.Prelude.{◌≡◌, ◌≤◌, ◌<◌, ◌^◌, leng
 ghost use Rattle.std.specs.Int.{w32, w64};
 ghost use Rattle.bson_bytes.specs.Fault.{ReturnsReading};
 ghost use Rattle.bson_bytes.specs.Reading.{read_byte, read_bytes, read_integer, read_length, read_nul, split_at_nul};
-ghost use Rattle.bson_bytes.specs.Reading.{check_utf8, read_name, passed, read_string};
+ghost use Rattle.bson_bytes.specs.Reading.{check_utf8, read_name, bytes_after, read_string};
 ghost use Rattle.bson_bytes.specs.PutSteps.{has_no_nul};
 ghost use Rattle.bson_bytes.specs.TypeTags.{type_of_tag};
 
@@ -17,8 +17,8 @@ use std::str;
 ///
 /// - `Short`: there is no byte.
 pub fn read_byte(bytes: &[u8]) -> Result<(u8, &[u8]), Fault>
-    ensures outcome { ReturnsReading (λ x. (x.0, x.1.now)) result (read_byte bytes.now) }
-    ensures shorter { IfOk result (λ x. length x.1.now < length bytes.now) }
+    ensures outcome { ReturnsReading (λ returned. (returned.0, returned.1.now)) result (read_byte bytes.now) }
+    ensures shorter { IfOk result (λ returned. length returned.1.now < length bytes.now) }
 {
     match bytes {
         [] => Err(fault_at(FaultKind::Short, bytes)),
@@ -32,9 +32,10 @@ pub fn read_byte(bytes: &[u8]) -> Result<(u8, &[u8]), Fault>
 ///
 /// - `Short`: there are fewer than `count` bytes.
 pub fn read_bytes(count: usize, bytes: &[u8]) -> Result<(&[u8], &[u8]), Fault>
-    ensures outcome { ReturnsReading (λ x. (x.0.now, x.1.now)) result (read_bytes count bytes.now) }
-    ensures exact { IfOk result (λ x. length x.0.now ≡ count) }
-    ensures shorter { IfOk result (λ x. length x.1.now ≤ length bytes.now) }
+    ensures outcome { ReturnsReading (λ returned. (returned.0.now, returned.1.now)) result
+        (read_bytes count bytes.now) }
+    ensures exact { IfOk result (λ returned. length returned.0.now ≡ count) }
+    ensures shorter { IfOk result (λ returned. length returned.1.now ≤ length bytes.now) }
 {
     if bytes.len() < count {
         return Err(fault_at(FaultKind::Short, bytes));
@@ -48,8 +49,8 @@ pub fn read_bytes(count: usize, bytes: &[u8]) -> Result<(&[u8], &[u8]), Fault>
 ///
 /// - `Short`: there are fewer than 4 bytes.
 pub fn read_u32(bytes: &[u8]) -> Result<(u32, &[u8]), Fault>
-    ensures outcome { ReturnsReading (λ x. (x.0, x.1.now)) result (read_integer w32 bytes.now) }
-    ensures shorter { IfOk result (λ x. length x.1.now ≤ length bytes.now) }
+    ensures outcome { ReturnsReading (λ returned. (returned.0, returned.1.now)) result (read_integer w32 bytes.now) }
+    ensures shorter { IfOk result (λ returned. length returned.1.now ≤ length bytes.now) }
 {
     if bytes.len() < 4 {
         return Err(fault_at(FaultKind::Short, bytes));
@@ -65,8 +66,8 @@ pub fn read_u32(bytes: &[u8]) -> Result<(u32, &[u8]), Fault>
 ///
 /// - `Short`: there are fewer than 8 bytes.
 pub fn read_u64(bytes: &[u8]) -> Result<(u64, &[u8]), Fault>
-    ensures outcome { ReturnsReading (λ x. (x.0, x.1.now)) result (read_integer w64 bytes.now) }
-    ensures shorter { IfOk result (λ x. length x.1.now ≤ length bytes.now) }
+    ensures outcome { ReturnsReading (λ returned. (returned.0, returned.1.now)) result (read_integer w64 bytes.now) }
+    ensures shorter { IfOk result (λ returned. length returned.1.now ≤ length bytes.now) }
 {
     if bytes.len() < 8 {
         return Err(fault_at(FaultKind::Short, bytes));
@@ -86,9 +87,9 @@ pub fn read_u64(bytes: &[u8]) -> Result<(u64, &[u8]), Fault>
 /// - `Length`: the number is negative.
 #[tactic(auto, unfolding(crate::specs::Reading::read_length))]
 pub fn read_length(bytes: &[u8]) -> Result<(usize, &[u8]), Fault>
-    ensures outcome { ReturnsReading (λ x. (x.0, x.1.now)) result (read_length bytes.now) }
-    ensures small { IfOk result (λ x. x.0 < 2 ^ 31) }
-    ensures shorter { IfOk result (λ x. length x.1.now ≤ length bytes.now) }
+    ensures outcome { ReturnsReading (λ returned. (returned.0, returned.1.now)) result (read_length bytes.now) }
+    ensures small { IfOk result (λ returned. returned.0 < 2 ^ 31) }
+    ensures shorter { IfOk result (λ returned. length returned.1.now ≤ length bytes.now) }
 {
     let (size, rest) = read_u32(bytes)?;
     if size >= 0x8000_0000 {
@@ -104,8 +105,8 @@ pub fn read_length(bytes: &[u8]) -> Result<(usize, &[u8]), Fault>
 /// - `Short`: there is no byte.
 /// - `End`: the first byte is not 0.
 pub fn read_nul(bytes: &[u8]) -> Result<&[u8], Fault>
-    ensures outcome { ReturnsReading (λ x. x.now) result (read_nul bytes.now) }
-    ensures shorter { IfOk result (λ x. length x.now ≤ length bytes.now) }
+    ensures outcome { ReturnsReading (λ returned. returned.now) result (read_nul bytes.now) }
+    ensures shorter { IfOk result (λ returned. length returned.now ≤ length bytes.now) }
 {
     match bytes {
         [] => Err(fault_at(FaultKind::Short, bytes)),
@@ -120,12 +121,12 @@ pub fn read_nul(bytes: &[u8]) -> Result<&[u8], Fault>
 
 /// Splits the bytes at the first 0: the bytes before it, and those after it.
 pub fn split_at_nul(bytes: &[u8]) -> Option<(&[u8], &[u8])>
-    ensures outcome { option_map (λ p. (p.0.now, p.1.now)) result ≡ split_at_nul bytes.now }
-    ensures shorter { IfSome result (λ x. length x.1.now ≤ length bytes.now) }
+    ensures outcome { option_map (λ split. (split.0.now, split.1.now)) result ≡ split_at_nul bytes.now }
+    ensures shorter { IfSome result (λ returned. length returned.1.now ≤ length bytes.now) }
 {
-    for (i, byte) in bytes.iter().enumerate() {
+    for (index, byte) in bytes.iter().enumerate() {
         if *byte == 0 {
-            return Some((&bytes[..i], &bytes[i + 1..]));
+            return Some((&bytes[..index], &bytes[index + 1..]));
         }
     }
     None
@@ -142,10 +143,10 @@ pub fn has_no_nul(bytes: &[u8]) -> bool
 }
 
 fn check_utf8<'a>(text: &'a [u8], bytes: &[u8]) -> Result<&'a str, Fault>
-    ensures { ReturnsReading (λ s. s.now) result (check_utf8 text.now bytes.now) }
+    ensures { ReturnsReading (λ returned. returned.now) result (check_utf8 text.now bytes.now) }
 {
     match str::from_utf8(text) {
-        Ok(s) => Ok(s),
+        Ok(string) => Ok(string),
         Err(_) => Err(fault_at(FaultKind::Utf8, bytes)),
     }
 }
@@ -158,8 +159,8 @@ fn check_utf8<'a>(text: &'a [u8], bytes: &[u8]) -> Result<&'a str, Fault>
 /// - `Utf8`: the bytes before the first 0 are not UTF-8.
 #[tactic(auto, unfolding(crate::specs::Reading::read_name))]
 pub fn read_name(bytes: &[u8]) -> Result<(&str, &[u8]), Fault>
-    ensures outcome { ReturnsReading (λ x. (x.0.now, x.1.now)) result (read_name bytes.now) }
-    ensures shorter { IfOk result (λ x. length x.1.now ≤ length bytes.now) }
+    ensures outcome { ReturnsReading (λ returned. (returned.0.now, returned.1.now)) result (read_name bytes.now) }
+    ensures shorter { IfOk result (λ returned. length returned.1.now ≤ length bytes.now) }
 {
     let Some((name, rest)) = split_at_nul(bytes) else {
         return Err(fault_at(FaultKind::Short, bytes));
@@ -169,8 +170,8 @@ pub fn read_name(bytes: &[u8]) -> Result<(&str, &[u8]), Fault>
 
 // Passes over the name of an element, which may be of any bytes.
 fn skip_any_name(bytes: &[u8]) -> Result<&[u8], Fault>
-    ensures outcome { ReturnsReading (λ x. x.now) result (passed (read_name bytes.now)) }
-    ensures shorter { IfOk result (λ x. length x.now ≤ length bytes.now) }
+    ensures outcome { ReturnsReading (λ returned. returned.now) result (bytes_after (read_name bytes.now)) }
+    ensures shorter { IfOk result (λ returned. length returned.now ≤ length bytes.now) }
 {
     let (_, rest) = read_name(bytes)?;
     Ok(rest)
@@ -183,12 +184,12 @@ fn skip_any_name(bytes: &[u8]) -> Result<&[u8], Fault>
 /// - `Short`: no byte is 0.
 /// - `Utf8`: the bytes before the first 0 are not UTF-8.
 pub fn skip_name(bytes: &[u8]) -> Result<&[u8], Fault>
-    ensures outcome { ReturnsReading (λ x. x.now) result (passed (read_name bytes.now)) }
-    ensures shorter { IfOk result (λ x. length x.now ≤ length bytes.now) }
+    ensures outcome { ReturnsReading (λ returned. returned.now) result (bytes_after (read_name bytes.now)) }
+    ensures shorter { IfOk result (λ returned. length returned.now ≤ length bytes.now) }
 {
-    for (i, byte) in bytes.iter().enumerate() {
+    for (index, byte) in bytes.iter().enumerate() {
         if *byte == 0 {
-            return Ok(&bytes[i + 1..]);
+            return Ok(&bytes[index + 1..]);
         }
         if *byte >= 0x80 {
             return skip_any_name(bytes);
@@ -207,16 +208,16 @@ pub fn skip_name(bytes: &[u8]) -> Result<&[u8], Fault>
 /// - `Utf8`: the text is not UTF-8.
 #[tactic(auto, unfolding(crate::specs::Reading::read_string))]
 pub fn read_string(bytes: &[u8]) -> Result<(&str, &[u8]), Fault>
-    ensures outcome { ReturnsReading (λ x. (x.0.now, x.1.now)) result (read_string bytes.now) }
-    ensures shorter { IfOk result (λ x. length x.1.now ≤ length bytes.now) }
+    ensures outcome { ReturnsReading (λ returned. (returned.0.now, returned.1.now)) result (read_string bytes.now) }
+    ensures shorter { IfOk result (λ returned. length returned.1.now ≤ length bytes.now) }
 {
-    let (size, place) = read_length(bytes)?;
+    let (size, text_start) = read_length(bytes)?;
     if size == 0 {
         return Err(fault_at(FaultKind::Length, bytes));
     }
-    let (text, end) = read_bytes(size - 1, place)?;
-    let rest = read_nul(end)?;
-    Ok((check_utf8(text, place)?, rest))
+    let (text, text_end) = read_bytes(size - 1, text_start)?;
+    let rest = read_nul(text_end)?;
+    Ok((check_utf8(text, text_start)?, rest))
 }
 
 /// Returns the element type whose tag is the byte, or `None` if the byte is not a tag.
@@ -241,8 +242,8 @@ pub fn type_of_tag(tag: u8) -> Option<ElementType>
 ///
 /// - `Short`: there are fewer than 12 bytes.
 pub fn read_12_bytes(bytes: &[u8]) -> Result<([u8; 12], &[u8]), Fault>
-    ensures outcome { ReturnsReading (λ x. (x.0, x.1.now)) result (read_bytes 12 bytes.now) }
-    ensures shorter { IfOk result (λ x. length x.1.now ≤ length bytes.now) }
+    ensures outcome { ReturnsReading (λ returned. (returned.0, returned.1.now)) result (read_bytes 12 bytes.now) }
+    ensures shorter { IfOk result (λ returned. length returned.1.now ≤ length bytes.now) }
 {
     let (front, rest) = read_bytes(12, bytes)?;
     match <[u8; 12]>::try_from(front) {
@@ -257,8 +258,8 @@ pub fn read_12_bytes(bytes: &[u8]) -> Result<([u8; 12], &[u8]), Fault>
 ///
 /// - `Short`: there are fewer than 16 bytes.
 pub fn read_16_bytes(bytes: &[u8]) -> Result<([u8; 16], &[u8]), Fault>
-    ensures outcome { ReturnsReading (λ x. (x.0, x.1.now)) result (read_bytes 16 bytes.now) }
-    ensures shorter { IfOk result (λ x. length x.1.now ≤ length bytes.now) }
+    ensures outcome { ReturnsReading (λ returned. (returned.0, returned.1.now)) result (read_bytes 16 bytes.now) }
+    ensures shorter { IfOk result (λ returned. length returned.1.now ≤ length bytes.now) }
 {
     let (front, rest) = read_bytes(16, bytes)?;
     match <[u8; 16]>::try_from(front) {

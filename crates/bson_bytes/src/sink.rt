@@ -8,10 +8,10 @@ ghost use Rattle.bson_bytes.specs.declared.duplicate_keys.DuplicateKeys.{Duplica
 ghost use Rattle.bson_model.specs.Value.{Value, Pairs, no_pairs, scalar, code_scope, array, document};
 ghost use Rattle.bson_bytes.specs.declared.stop.Stop.{Stop};
 ghost use Rattle.bson_bytes.specs.declared.stop.Stop.TheVariants as stops;
-ghost use Rattle.bson_bytes.specs.FixedScalars.{fixed_view};
-ghost use Rattle.bson_bytes.specs.Source.{ReadsTo, IsNoFault, earlier_keys, with_pair};
+ghost use Rattle.bson_bytes.specs.FixedScalars.{fixed_scalar_view};
+ghost use Rattle.bson_bytes.specs.Source.{ReadsTo, IsSinkStop, earlier_keys, with_last_pair};
 
-use crate::fixed_scalar::FixedScalar;
+use crate::fixed_scalar::FixedSizeScalar;
 use crate::stop::Stop;
 use std::alloc::AllocError;
 
@@ -22,7 +22,7 @@ pub trait ValueSink {
     type Value: Drop;
 
     /// An open array or document.
-    type Open: Drop;
+    type OpenList: Drop;
 
     /// The name of the next element.
     type Name: Drop;
@@ -40,59 +40,63 @@ pub trait ValueSink {
     ghost may_stop: { Stop → Type 0 };
 
     // The value was written between two states, and this is its token.
-    ghost value_written: { Self → Value → Self.Value → Self → Type 0 };
+    ghost value_written: { (old_sink : Self) → Value → (token : Self.Value) → (new_sink : Self) → Type 0 };
 
     // A document (true) or an array (false) was opened between two states, and these elements were written.
-    ghost list_opened: { Bool → Self → Pairs → Self.Open → Self → Type 0 };
+    ghost list_opened: { (is_document : Bool) → (old_sink : Self) → Pairs → Self.OpenList → (new_sink : Self) → Type 0 };
 
     // The name of the next element in a document (true) or an array was written between two states.
-    ghost name_written: { Bool → Self → List ℕ → Self.Name → Self → Type 0 };
+    ghost name_written: { (is_document : Bool) → (old_sink : Self) → (name : List ℕ) → (token : Self.Name) → (new_sink : Self) → Type 0 };
 
     // The document of the pairs was written between two states, and this is its token.
-    ghost document_written: { Self → Pairs → Self.Document → Self → Type 0 };
+    ghost document_written: { (old_sink : Self) → Pairs → (token : Self.Document) → (new_sink : Self) → Type 0 };
 
     // Code was opened between two states, and its scope comes next.
-    ghost code_opened: { Self → List ℕ → Self.Code → Self → Type 0 };
+    ghost code_opened: { (old_sink : Self) → (code : List ℕ) → (token : Self.Code) → (new_sink : Self) → Type 0 };
 
     /// Writes a scalar with a constant size: a number, a boolean, an object id and others.
-    fn fixed_scalar(&mut self, value: FixedScalar) -> Result<Self::Value, AllocError>
-        ensures outcome { IfOk result (λ x. value_written self.old (scalar (fixed_view value)) x self.new) }
-        ensures stop { IfErr result (λ e. may_stop stops.OutOfMemory) };
+    fn fixed_scalar(&mut self, value: FixedSizeScalar) -> Result<Self::Value, AllocError>
+        ensures outcome { IfOk result
+            (λ token. value_written self.old (scalar (fixed_scalar_view value)) token self.new) }
+        ensures stop { IfErr result (λ error. may_stop stops.OutOfMemory) };
 
     /// Writes a string.
     fn string(&mut self, text: &str) -> Result<Self::Value, AllocError>
-        ensures outcome { IfOk result (λ x. value_written self.old (scalar (kind.text text.now)) x self.new) }
-        ensures stop { IfErr result (λ e. may_stop stops.OutOfMemory) };
+        ensures outcome { IfOk result (λ token. value_written self.old (scalar (kind.text text.now)) token self.new) }
+        ensures stop { IfErr result (λ error. may_stop stops.OutOfMemory) };
 
     /// Writes a symbol.
     fn symbol(&mut self, text: &str) -> Result<Self::Value, AllocError>
-        ensures outcome { IfOk result (λ x. value_written self.old (scalar (kind.symbol text.now)) x self.new) }
-        ensures stop { IfErr result (λ e. may_stop stops.OutOfMemory) };
+        ensures outcome { IfOk result (λ token. value_written self.old (scalar (kind.symbol text.now)) token self.new) }
+        ensures stop { IfErr result (λ error. may_stop stops.OutOfMemory) };
 
     /// Writes code without a scope.
     fn code(&mut self, text: &str) -> Result<Self::Value, AllocError>
-        ensures outcome { IfOk result (λ x. value_written self.old (scalar (kind.code text.now)) x self.new) }
-        ensures stop { IfErr result (λ e. may_stop stops.OutOfMemory) };
+        ensures outcome { IfOk result (λ token. value_written self.old (scalar (kind.code text.now)) token self.new) }
+        ensures stop { IfErr result (λ error. may_stop stops.OutOfMemory) };
 
     /// Writes a regular expression.
     fn regex(&mut self, pattern: &str, options: &str) -> Result<Self::Value, AllocError>
-        ensures outcome { IfOk result (λ x. value_written self.old (scalar (kind.regex pattern.now options.now)) x self.new) }
-        ensures stop { IfErr result (λ e. may_stop stops.OutOfMemory) };
+        ensures outcome { IfOk result
+            (λ token. value_written self.old (scalar (kind.regex pattern.now options.now)) token self.new) }
+        ensures stop { IfErr result (λ error. may_stop stops.OutOfMemory) };
 
     /// Writes binary data with a subtype.
     fn binary(&mut self, subtype: u8, bytes: &[u8]) -> Result<Self::Value, AllocError>
-        ensures outcome { IfOk result (λ x. value_written self.old (scalar (kind.binary (subtype_of subtype) bytes.now)) x self.new) }
-        ensures stop { IfErr result (λ e. may_stop stops.OutOfMemory) };
+        ensures outcome { IfOk result
+            (λ token. value_written self.old (scalar (kind.binary (subtype_of subtype) bytes.now)) token self.new) }
+        ensures stop { IfErr result (λ error. may_stop stops.OutOfMemory) };
 
     /// Writes a pointer to a document of another collection.
     fn pointer(&mut self, namespace: &str, id: [u8; 12]) -> Result<Self::Value, AllocError>
-        ensures outcome { IfOk result (λ x. value_written self.old (scalar (kind.db_pointer namespace.now id)) x self.new) }
-        ensures stop { IfErr result (λ e. may_stop stops.OutOfMemory) };
+        ensures outcome { IfOk result
+            (λ token. value_written self.old (scalar (kind.db_pointer namespace.now id)) token self.new) }
+        ensures stop { IfErr result (λ error. may_stop stops.OutOfMemory) };
 
     /// Begins a document or an array.
-    fn begin(&mut self, is_document: bool) -> Result<Self::Open, AllocError>
-        ensures outcome { IfOk result (λ o. list_opened is_document self.old no_pairs o self.new) }
-        ensures stop { IfErr result (λ e. may_stop stops.OutOfMemory) };
+    fn begin(&mut self, is_document: bool) -> Result<Self::OpenList, AllocError>
+        ensures outcome { IfOk result (λ open_list. list_opened is_document self.old no_pairs open_list self.new) }
+        ensures stop { IfErr result (λ error. may_stop stops.OutOfMemory) };
 
     /// Reads the name at the front of the bytes, and writes it as that of the next element of the list.
     /// An array accepts any names. If duplicate keys are refused, a key that the document has already
@@ -100,52 +104,64 @@ pub trait ValueSink {
     fn name<'b>(
         &mut self,
         is_document: bool,
-        list: &Self::Open,
+        list: &Self::OpenList,
         bytes: &'b [u8],
     ) -> Result<(Self::Name, &'b [u8]), Stop>
-        ensures outcome { (start : Self) (ps : Pairs) → list_opened is_document start ps list.now self.old
-            → ReadsTo may_stop (λ x. x.1.now) (λ s x. name_written is_document self.old s x.0 self.new) result
-            (read_key (earlier_keys keys is_document ps) bytes.now) }
-        ensures shorter { IfOk result (λ x. length x.1.now ≤ length bytes.now) };
+        ensures outcome { (sink_before : Self) (pairs : Pairs)
+            → list_opened is_document sink_before pairs list.now self.old
+            → ReadsTo may_stop (λ returned. returned.1.now)
+            (λ name_read returned. name_written is_document self.old name_read returned.0 self.new) result
+            (read_key (earlier_keys keys is_document pairs) bytes.now) }
+        ensures shorter { IfOk result (λ returned. length returned.1.now ≤ length bytes.now) };
 
     /// Adds the value with this name to the document or array.
     fn element(
         &mut self,
         is_document: bool,
-        list: &mut Self::Open,
+        list: &mut Self::OpenList,
         name: Self::Name,
         value: Self::Value,
     ) -> Result<(), AllocError>
-        ensures outcome { OnOk result ((start : Self) (before : Self) (mid : Self) (ps : Pairs) (k : List ℕ) (v : Value)
-            → list_opened is_document start ps list.old before → name_written is_document before k name mid → value_written mid v value self.old
-            → list_opened is_document start (with_pair ps k v) list.new self.new) }
-        ensures stop { IfErr result (λ e. may_stop stops.OutOfMemory) };
+        ensures outcome { OnOk result
+            ((sink_before : Self) (sink_before_name : Self) (sink_after_name : Self) (pairs : Pairs) (key : List ℕ)
+            (bson_value : Value)
+            → list_opened is_document sink_before pairs list.old sink_before_name
+            → name_written is_document sink_before_name key name sink_after_name
+            → value_written sink_after_name bson_value value self.old
+            → list_opened is_document sink_before (with_last_pair pairs key bson_value) list.new self.new) }
+        ensures stop { IfErr result (λ error. may_stop stops.OutOfMemory) };
 
     /// Ends an array.
-    fn end_array(&mut self, list: Self::Open) -> Result<Self::Value, AllocError>
-        ensures outcome { IfOk result (λ x. (start : Self) (ps : Pairs) → list_opened false start ps list self.old
-            → value_written start (array (pair_values ps)) x self.new) }
-        ensures stop { IfErr result (λ e. may_stop stops.OutOfMemory) };
+    fn end_array(&mut self, list: Self::OpenList) -> Result<Self::Value, AllocError>
+        ensures outcome { IfOk result (λ token. (sink_before : Self) (pairs : Pairs)
+            → list_opened false sink_before pairs list self.old
+            → value_written sink_before (array (pair_values pairs)) token self.new) }
+        ensures stop { IfErr result (λ error. may_stop stops.OutOfMemory) };
 
     /// Ends a document. If a key is duplicated, its last value wins, at its first position. A sink can
     /// return `PossibleDuplicate` instead.
-    fn end_document(&mut self, list: Self::Open) -> Result<Self::Document, Stop>
-        requires { (start : Self) × (ps : Pairs) × list_opened true start ps list self.old }
-        ensures outcome { IfOk result (λ x. (start : Self) (ps : Pairs) → list_opened true start ps list self.old
-            → document_written start (deduplicated ps) x self.new) }
+    fn end_document(&mut self, list: Self::OpenList) -> Result<Self::Document, Stop>
+        requires { (sink_before : Self) × (pairs : Pairs) × list_opened true sink_before pairs list self.old }
+        ensures outcome { IfOk result (λ token. (sink_before : Self) (pairs : Pairs)
+            → list_opened true sink_before pairs list self.old
+            → document_written sink_before (deduplicated pairs) token self.new) }
         ensures stop { IfErr result may_stop }
-        ensures sound { IfErr result IsNoFault };
+        ensures no_fault { IfErr result IsSinkStop };
 
     /// Writes the document as a value.
-    fn embed(&mut self, outcome: Self::Document) -> Result<Self::Value, AllocError>
-        ensures outcome { IfOk result (λ x. (start : Self) (ps : Pairs) → document_written start ps outcome self.old
-            → value_written start (document ps) x self.new) }
-        ensures stop { IfErr result (λ e. may_stop stops.OutOfMemory) };
+    fn embed_document(
+        &mut self,
+        written_document: Self::Document,
+    ) -> Result<Self::Value, AllocError>
+        ensures outcome { IfOk result (λ token. (sink_before : Self) (pairs : Pairs)
+            → document_written sink_before pairs written_document self.old
+            → value_written sink_before (document pairs) token self.new) }
+        ensures stop { IfErr result (λ error. may_stop stops.OutOfMemory) };
 
     /// Begins code with its scope.
     fn begin_code(&mut self, text: &str) -> Result<Self::Code, AllocError>
-        ensures outcome { IfOk result (λ c. code_opened self.old text.now c self.new) }
-        ensures stop { IfErr result (λ e. may_stop stops.OutOfMemory) };
+        ensures outcome { IfOk result (λ opened_code. code_opened self.old text.now opened_code self.new) }
+        ensures stop { IfErr result (λ error. may_stop stops.OutOfMemory) };
 
     /// Ends code whose scope was written.
     fn end_code(
@@ -153,7 +169,10 @@ pub trait ValueSink {
         code: Self::Code,
         scope: Self::Document,
     ) -> Result<Self::Value, AllocError>
-        ensures outcome { IfOk result (λ x. (start : Self) (mid : Self) (s : List ℕ) (ps : Pairs) → code_opened start s code mid
-            → document_written mid ps scope self.old → value_written start (code_scope s ps) x self.new) }
-        ensures stop { IfErr result (λ e. may_stop stops.OutOfMemory) };
+        ensures outcome { IfOk result
+            (λ token. (sink_before : Self) (sink_after_code : Self) (code_text : List ℕ) (pairs : Pairs)
+            → code_opened sink_before code_text code sink_after_code
+            → document_written sink_after_code pairs scope self.old
+            → value_written sink_before (code_scope code_text pairs) token self.new) }
+        ensures stop { IfErr result (λ error. may_stop stops.OutOfMemory) };
 }

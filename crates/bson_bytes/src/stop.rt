@@ -1,6 +1,6 @@
 //! Why reading stops.
 ghost use Rattle.std.specs.Prelude.{◌≡◌};
-ghost use Rattle.bson_bytes.specs.Fault.{at};
+ghost use Rattle.bson_bytes.specs.Fault.{fault_at};
 ghost use Rattle.bson_bytes.specs.declared.stop.Stop.TheVariants as stops;
 
 use crate::fault::{Fault, FaultKind};
@@ -20,16 +20,16 @@ pub enum Stop {
 
 /// Returns the fault of this kind at the first of these bytes, which end the input.
 pub(crate) fn fault_at(kind: FaultKind, bytes: &[u8]) -> Stop
-    ensures { result ≡ stops.Fault (at kind bytes.now) }
+    ensures { result ≡ stops.Fault (fault_at kind bytes.now) }
 {
     Stop::Fault(Fault {
         kind,
-        left: bytes.len(),
+        bytes_to_end: bytes.len(),
     })
 }
 
 impl From<Fault> for Stop {
-    ghost from_gives = { λ f e. e ≡ stops.Fault f };
+    ghost from_gives = { λ fault stop. stop ≡ stops.Fault fault };
 
     fn from(fault: Fault) -> Stop {
         Stop::Fault(fault)
@@ -37,17 +37,17 @@ impl From<Fault> for Stop {
 }
 
 impl From<AllocError> for Stop {
-    ghost from_gives = { λ _ e. e ≡ stops.OutOfMemory };
+    ghost from_gives = { λ _ stop. stop ≡ stops.OutOfMemory };
 
-    fn from(_refused: AllocError) -> Stop {
+    fn from(_alloc_error: AllocError) -> Stop {
         Stop::OutOfMemory
     }
 }
 
 impl<T: Drop> From<AllocFailed<T>> for Stop {
-    ghost from_gives = { λ _ e. e ≡ stops.OutOfMemory };
+    ghost from_gives = { λ _ stop. stop ≡ stops.OutOfMemory };
 
-    fn from(_refused: AllocFailed<T>) -> Stop {
+    fn from(_alloc_failed: AllocFailed<T>) -> Stop {
         Stop::OutOfMemory
     }
 }

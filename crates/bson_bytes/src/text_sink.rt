@@ -10,7 +10,7 @@ ghost use Rattle.bson_scalar.specs.declared.form.Doubles.TheVariants.{Finite};
 ghost use Rattle.bson_bytes.specs.PrintedText.{IsPrintedText};
 ghost use Rattle.bson_bytes.specs.Source.{ReadsAllTo};
 
-use crate::fixed_scalar::{FixedScalar, to_scalar};
+use crate::fixed_scalar::{FixedSizeScalar, to_scalar};
 use crate::read_parts::read_name;
 use crate::sink::ValueSink;
 use crate::source::read_document;
@@ -35,7 +35,7 @@ use std::alloc::{AllocError, Global};
 pub struct TextSink {
     pub(crate) alloc: Global,
     pub(crate) form: Form,
-    pub(crate) out: Writer,
+    pub(crate) json_writer: Writer,
     pub(crate) key_hashes: Vec<u64>,
 }
 
@@ -48,32 +48,33 @@ pub struct TextSink {
 /// - `Stop::PossibleDuplicate`: some document possibly has a duplicate key.
 /// - `Stop::OutOfMemory`: an allocation failed.
 pub fn document_text(alloc: Global, form: Form, bytes: &[u8], depth: usize) -> Result<String, Stop>
-    ensures { ReadsAllTo (λ e. Unit {0}) (λ ps s. IsPrintedText form ps (string_bytes s)) result (reads_bytes depth bytes.now) }
+    ensures { ReadsAllTo (λ stop. Unit {0}) (λ pairs text. IsPrintedText form pairs (string_bytes text)) result
+        (reads_bytes depth bytes.now) }
 {
     let mut sink = TextSink {
         alloc,
         form,
-        out: Writer::new(Vec::with_capacity(alloc, initial_capacity(bytes))?),
+        json_writer: Writer::new(Vec::with_capacity(alloc, initial_capacity(bytes))?),
         key_hashes: Vec::new(alloc),
     };
     read_document(bytes, depth, &mut sink)?;
-    Ok(into_text(sink.out))
+    Ok(into_text(sink.json_writer))
 }
 
 // Returns a capacity for the text of a document with numbers and short strings.
 fn initial_capacity(bytes: &[u8]) -> usize {
     match bytes.len().checked_mul(2) {
-        Some(room) => room,
+        Some(doubled_length) => doubled_length,
         None => bytes.len(),
     }
 }
 
 // Returns the text that was written.
-fn into_text(out: Writer) -> String
-    requires { out.before ≡ [] }
-    ensures { string_bytes result ≡ print_tokens out.tokens }
+fn into_text(json_writer: Writer) -> String
+    requires { json_writer.before ≡ [] }
+    ensures { string_bytes result ≡ print_tokens json_writer.tokens }
 {
-    let Ok(text) = String::from_utf8(out.into_inner()) else {
+    let Ok(text) = String::from_utf8(json_writer.into_inner()) else {
         unreachable!();
     };
     text
@@ -88,7 +89,13 @@ impl TextSink {
         ensures { OnOk result (TextValueWritten self.old (scalar (scalar_view value)) self.new) }
     {
         can_be_written(&value);
-        match print_scalar_in(self.alloc, Doubles::Finite, self.form, value, &mut self.out) {
+        match print_scalar_in(
+            self.alloc,
+            Doubles::Finite,
+            self.form,
+            value,
+            &mut self.json_writer,
+        ) {
             Ok(()) => Ok(()),
             Err(WriteError::OutOfMemory) => Err(AllocError),
             Err(WriteError::FiniteDouble) => unreachable!(),
@@ -99,7 +106,7 @@ impl TextSink {
 impl ValueSink for TextSink {
     type Value = ();
 
-    type Open = usize;
+    type OpenList = usize;
 
     type Name = ();
 
@@ -111,24 +118,24 @@ impl ValueSink for TextSink {
 
     ghost keys = { Replace };
 
-    ghost may_stop = { λ e. Unit {0} };
+    ghost may_stop = { λ stop. Unit {0} };
 
-    ghost value_written = { λ old v x new. TextValueWritten old v new };
+    ghost value_written = { λ old_sink value token new_sink. TextValueWritten old_sink value new_sink };
 
-    ghost list_opened = { λ b old ps o new. TextListOpened b old ps o new };
+    ghost list_opened = { λ is_document old_sink pairs hash_count new_sink. TextListOpened is_document old_sink pairs hash_count new_sink };
 
-    ghost name_written = { λ b old k x new. TextNameWritten b old k new };
+    ghost name_written = { λ is_document old_sink name token new_sink. TextNameWritten is_document old_sink name new_sink };
 
-    ghost document_written = { λ old ps x new. TextDocumentWritten old ps new };
+    ghost document_written = { λ old_sink pairs token new_sink. TextDocumentWritten old_sink pairs new_sink };
 
-    ghost code_opened = { λ old s x new. TextCodeOpened old s new };
+    ghost code_opened = { λ old_sink code token new_sink. TextCodeOpened old_sink code new_sink };
 
-    fn fixed_scalar(&mut self, value: FixedScalar) -> Result<(), AllocError> {
+    fn fixed_scalar(&mut self, value: FixedSizeScalar) -> Result<(), AllocError> {
         self.scalar(to_scalar(value))
     }
 
     fn string(&mut self, text: &str) -> Result<(), AllocError> {
-        Ok(self.out.string(text)?)
+        Ok(self.json_writer.string(text)?)
     }
 
     fn symbol(&mut self, text: &str) -> Result<(), AllocError> {
@@ -159,9 +166,9 @@ impl ValueSink for TextSink {
 
     fn begin(&mut self, is_document: bool) -> Result<usize, AllocError> {
         if is_document {
-            self.out.begin_object()?;
+            self.json_writer.begin_object()?;
         } else {
-            self.out.begin_array()?;
+            self.json_writer.begin_array()?;
         }
         Ok(self.key_hashes.len())
     }
@@ -177,7 +184,7 @@ impl ValueSink for TextSink {
             return Ok(((), rest));
         }
         self.key_hashes.push(hash_key(name))?;
-        self.out.key(name)?;
+        self.json_writer.key(name)?;
         Ok(((), rest))
     }
 
@@ -192,26 +199,26 @@ impl ValueSink for TextSink {
     }
 
     fn end_array(&mut self, _list: usize) -> Result<(), AllocError> {
-        Ok(self.out.end_array()?)
+        Ok(self.json_writer.end_array()?)
     }
 
-    fn end_document(&mut self, list: usize) -> Result<(), Stop> {
-        if !pop_distinct(&mut self.key_hashes, list) {
+    fn end_document(&mut self, hash_count: usize) -> Result<(), Stop> {
+        if !pop_distinct(&mut self.key_hashes, hash_count) {
             return Err(Stop::PossibleDuplicate);
         }
-        Ok(self.out.end_object()?)
+        Ok(self.json_writer.end_object()?)
     }
 
-    fn embed(&mut self, _given: ()) -> Result<(), AllocError> {
+    fn embed_document(&mut self, _document: ()) -> Result<(), AllocError> {
         Ok(())
     }
 
     fn begin_code(&mut self, text: &str) -> Result<(), AllocError> {
-        put_code(text, &mut self.out)
+        put_code(text, &mut self.json_writer)
     }
 
     fn end_code(&mut self, _code: (), _scope: ()) -> Result<(), AllocError> {
-        Ok(self.out.end_object()?)
+        Ok(self.json_writer.end_object()?)
     }
 }
 
@@ -225,12 +232,13 @@ fn can_be_written(value: &Scalar)
 }
 
 // Removes the hashes from this index on, and returns whether no two of them are equal.
-fn pop_distinct(key_hashes: &mut Vec<u64>, start: usize) -> bool
-    requires { start ≤ length key_hashes.old.items }
-    ensures distinct { IsTrue result → AllPairs (λ a b. a ≢ b) (drop start key_hashes.old.items) }
-    ensures kept { key_hashes.new.items ≡ take start key_hashes.old.items }
+fn pop_distinct(key_hashes: &mut Vec<u64>, hash_count: usize) -> bool
+    requires { hash_count ≤ length key_hashes.old.items }
+    ensures distinct { IsTrue result
+        → AllPairs (λ first_hash second_hash. first_hash ≢ second_hash) (drop hash_count key_hashes.old.items) }
+    ensures earlier_hashes_kept { key_hashes.new.items ≡ take hash_count key_hashes.old.items }
 {
-    let distinct = are_distinct_hashes(&mut key_hashes.as_mut_slice()[start..]);
-    key_hashes.truncate(start);
+    let distinct = are_distinct_hashes(&mut key_hashes.as_mut_slice()[hash_count..]);
+    key_hashes.truncate(hash_count);
     distinct
 }

@@ -1,11 +1,11 @@
 //! The value of a key, by its type.
 ghost use Rattle.std.specs.Prelude.{◌≡◌, option_map};
 ghost use Rattle.bson_model.specs.Value.{value_at_key};
-ghost use Rattle.bson_bytes.specs.RawContents.{raw_contents, items};
+ghost use Rattle.bson_bytes.specs.RawContents.{raw_contents, raw_array_values};
 ghost use Rattle.bson_bytes.specs.RawView.{raw_view};
 ghost use Rattle.bson_bytes.specs.TypedGetters.{raw_value_at, ok_view, raw_type_result};
-ghost use Rattle.bson_bytes.specs.TypedGetters.{array_value, binary_of, boolean_value, date_value, decimal_value, document_value, double_value};
-ghost use Rattle.bson_bytes.specs.TypedGetters.{int32_value, int64_value, object_id_value, regex_of, string_value, timestamp_value};
+ghost use Rattle.bson_bytes.specs.TypedGetters.{array_value, binary_value, boolean_value, date_value, decimal_value, document_value, double_value};
+ghost use Rattle.bson_bytes.specs.TypedGetters.{int32_value, int64_value, object_id_value, regex_value, string_value, timestamp_value};
 ghost use Rattle.bson_bytes.specs.TypedGetters.{binary_parts, regex_parts, timestamp_parts};
 
 use crate::find_key::find;
@@ -53,7 +53,7 @@ impl<'a> RawDocument<'a> {
         ensures { result ≡ raw_value_at double_value key.now self.now }
     {
         match self.get(key) {
-            Some(value) => typed(value.as_f64()),
+            Some(value) => or_unexpected_type(value.as_f64()),
             None => Err(ValueAccessError::NotPresent),
         }
     }
@@ -65,10 +65,10 @@ impl<'a> RawDocument<'a> {
     /// `NotPresent` if the document does not contain the key, and `UnexpectedType` if the value has
     /// another type.
     pub fn get_str(&self, key: &str) -> ValueAccessResult<&'a str>
-        ensures { ok_view (λ s. s.now) result ≡ raw_value_at string_value key.now self.now }
+        ensures { ok_view (λ text. text.now) result ≡ raw_value_at string_value key.now self.now }
     {
         match self.get(key) {
-            Some(value) => typed(value.as_str()),
+            Some(value) => or_unexpected_type(value.as_str()),
             None => Err(ValueAccessError::NotPresent),
         }
     }
@@ -80,10 +80,10 @@ impl<'a> RawDocument<'a> {
     /// `NotPresent` if the document does not contain the key, and `UnexpectedType` if the value has
     /// another type.
     pub fn get_array(&self, key: &str) -> ValueAccessResult<RawArray<'a>>
-        ensures { ok_view items result ≡ raw_value_at array_value key.now self.now }
+        ensures { ok_view raw_array_values result ≡ raw_value_at array_value key.now self.now }
     {
         match self.get(key) {
-            Some(value) => typed(value.as_array()),
+            Some(value) => or_unexpected_type(value.as_array()),
             None => Err(ValueAccessError::NotPresent),
         }
     }
@@ -98,7 +98,7 @@ impl<'a> RawDocument<'a> {
         ensures { ok_view raw_contents result ≡ raw_value_at document_value key.now self.now }
     {
         match self.get(key) {
-            Some(value) => typed(value.as_document()),
+            Some(value) => or_unexpected_type(value.as_document()),
             None => Err(ValueAccessError::NotPresent),
         }
     }
@@ -113,7 +113,7 @@ impl<'a> RawDocument<'a> {
         ensures { result ≡ raw_value_at boolean_value key.now self.now }
     {
         match self.get(key) {
-            Some(value) => typed(value.as_bool()),
+            Some(value) => or_unexpected_type(value.as_bool()),
             None => Err(ValueAccessError::NotPresent),
         }
     }
@@ -128,7 +128,7 @@ impl<'a> RawDocument<'a> {
         ensures { result ≡ raw_value_at int32_value key.now self.now }
     {
         match self.get(key) {
-            Some(value) => typed(value.as_i32()),
+            Some(value) => or_unexpected_type(value.as_i32()),
             None => Err(ValueAccessError::NotPresent),
         }
     }
@@ -143,7 +143,7 @@ impl<'a> RawDocument<'a> {
         ensures { result ≡ raw_value_at int64_value key.now self.now }
     {
         match self.get(key) {
-            Some(value) => typed(value.as_i64()),
+            Some(value) => or_unexpected_type(value.as_i64()),
             None => Err(ValueAccessError::NotPresent),
         }
     }
@@ -158,7 +158,7 @@ impl<'a> RawDocument<'a> {
         ensures { ok_view timestamp_parts result ≡ raw_value_at timestamp_value key.now self.now }
     {
         match self.get(key) {
-            Some(value) => typed(value.as_timestamp()),
+            Some(value) => or_unexpected_type(value.as_timestamp()),
             None => Err(ValueAccessError::NotPresent),
         }
     }
@@ -170,10 +170,10 @@ impl<'a> RawDocument<'a> {
     /// `NotPresent` if the document does not contain the key, and `UnexpectedType` if the value has
     /// another type.
     pub fn get_binary(&self, key: &str) -> ValueAccessResult<RawBinaryRef<'a>>
-        ensures { ok_view binary_parts result ≡ raw_value_at binary_of key.now self.now }
+        ensures { ok_view binary_parts result ≡ raw_value_at binary_value key.now self.now }
     {
         match self.get(key) {
-            Some(value) => typed(value.as_binary()),
+            Some(value) => or_unexpected_type(value.as_binary()),
             None => Err(ValueAccessError::NotPresent),
         }
     }
@@ -185,10 +185,10 @@ impl<'a> RawDocument<'a> {
     /// `NotPresent` if the document does not contain the key, and `UnexpectedType` if the value has
     /// another type.
     pub fn get_regex(&self, key: &str) -> ValueAccessResult<RawRegexRef<'a>>
-        ensures { ok_view regex_parts result ≡ raw_value_at regex_of key.now self.now }
+        ensures { ok_view regex_parts result ≡ raw_value_at regex_value key.now self.now }
     {
         match self.get(key) {
-            Some(value) => typed(value.as_regex()),
+            Some(value) => or_unexpected_type(value.as_regex()),
             None => Err(ValueAccessError::NotPresent),
         }
     }
@@ -203,7 +203,7 @@ impl<'a> RawDocument<'a> {
         ensures { result ≡ raw_value_at object_id_value key.now self.now }
     {
         match self.get(key) {
-            Some(value) => typed(value.as_object_id()),
+            Some(value) => or_unexpected_type(value.as_object_id()),
             None => Err(ValueAccessError::NotPresent),
         }
     }
@@ -218,7 +218,7 @@ impl<'a> RawDocument<'a> {
         ensures { result ≡ raw_value_at date_value key.now self.now }
     {
         match self.get(key) {
-            Some(value) => typed(value.as_datetime()),
+            Some(value) => or_unexpected_type(value.as_datetime()),
             None => Err(ValueAccessError::NotPresent),
         }
     }
@@ -233,7 +233,7 @@ impl<'a> RawDocument<'a> {
         ensures { result ≡ raw_value_at decimal_value key.now self.now }
     {
         match self.get(key) {
-            Some(value) => typed(value.as_decimal128()),
+            Some(value) => or_unexpected_type(value.as_decimal128()),
             None => Err(ValueAccessError::NotPresent),
         }
     }
@@ -252,7 +252,7 @@ impl<'a> RawBsonRef<'a> {
 
     /// Returns the string of a `String`, or `None` if the value has another type.
     pub fn as_str(&self) -> Option<&'a str>
-        ensures { option_map (λ s. s.now) result ≡ string_value (raw_view self.now) }
+        ensures { option_map (λ text. text.now) result ≡ string_value (raw_view self.now) }
     {
         match self {
             RawBsonRef::String(text) => Some(*text),
@@ -262,7 +262,7 @@ impl<'a> RawBsonRef<'a> {
 
     /// Returns the array of an `Array`, or `None` if the value has another type.
     pub fn as_array(&self) -> Option<RawArray<'a>>
-        ensures { option_map items result ≡ array_value (raw_view self.now) }
+        ensures { option_map raw_array_values result ≡ array_value (raw_view self.now) }
     {
         match self {
             RawBsonRef::Array(array) => Some(*array),
@@ -322,7 +322,7 @@ impl<'a> RawBsonRef<'a> {
 
     /// Returns the binary data of a `Binary`, or `None` if the value has another type.
     pub fn as_binary(&self) -> Option<RawBinaryRef<'a>>
-        ensures { option_map binary_parts result ≡ binary_of (raw_view self.now) }
+        ensures { option_map binary_parts result ≡ binary_value (raw_view self.now) }
     {
         match self {
             RawBsonRef::Binary(binary) => Some(*binary),
@@ -332,7 +332,7 @@ impl<'a> RawBsonRef<'a> {
 
     /// Returns the regular expression of a `RegularExpression`, or `None` if the value has another type.
     pub fn as_regex(&self) -> Option<RawRegexRef<'a>>
-        ensures { option_map regex_parts result ≡ regex_of (raw_view self.now) }
+        ensures { option_map regex_parts result ≡ regex_value (raw_view self.now) }
     {
         match self {
             RawBsonRef::RegularExpression(regex) => Some(*regex),
@@ -372,7 +372,7 @@ impl<'a> RawBsonRef<'a> {
 }
 
 // Returns the value, or the error if it has another type.
-fn typed<T>(value: Option<T>) -> ValueAccessResult<T>
+fn or_unexpected_type<T>(value: Option<T>) -> ValueAccessResult<T>
     ensures { result ≡ raw_type_result value }
 {
     match value {

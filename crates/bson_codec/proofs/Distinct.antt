@@ -1,4 +1,4 @@
--- A document in which no key may stand twice, as pairs are put to it.
+-- A document in which no key may occur twice, as pairs are inserted into it.
 use Rattle.std.proofs.Common.{◌≡◌, ℕ, Bool, true, false, cond, List, [], ◌∷◌, Option, Some, None, Ok, Err, refl, sym, ap}
 use Rattle.std.proofs.Common.{◌∙◌, subst}
 use Rattle.std.specs.Prelude.{is_some}
@@ -7,20 +7,20 @@ use Rattle.std.proofs.lemmas.Slice.Eq.{bytes_eq-Decides}
 use Rattle.bson_model.specs.Value.{Value, Pairs, no_pairs, pair}
 use Rattle.bson_bytes.specs.declared.fault.Fault.{Fault}
 use Rattle.bson_bytes.specs.declared.fault.FaultKind.TheVariants.{DuplicateKey}
-use Rattle.bson_bytes.specs.Fault.{at}
+use Rattle.bson_bytes.specs.Fault.{fault_at}
 use Rattle.bson_bytes.specs.Grammar.{insert_value, deduplicated_onto, deduplicated}
-use Rattle.bson_bytes.specs.Reading.{read_name, read_key, is_new}
+use Rattle.bson_bytes.specs.Reading.{read_name, read_key, is_new_key}
 use Rattle.bson.specs.Pairs.{get, insert_pair}
 use Rattle.bson.specs.View.{bson_view, document_view, pairs_view, contents}
 use Rattle.bson.specs.declared.bson.Bson.{Bson}
 use Rattle.bson.specs.declared.document.Document.{Document}
-use Rattle.bson_bytes.specs.Source.{reversed_keys, with_pair}
+use Rattle.bson_bytes.specs.Source.{reversed_keys, with_last_pair}
 use Rattle.bson_bytes.proofs.OfferedSource.{keys_back_more}
 use Rattle.bson_codec.proofs.Listed.{pairs_view-put}
 use Rattle.bson_codec.proofs.Seen.{document_view-pairs}
 use Rattle.bson_codec.specs.ReadToMemory.{HaveKeys}
 
--- ---- its keys once a pair is put
+-- ---- its keys once a pair is inserted
 
 some_by : (b : Bool) (v : Bson) → is_some (cond b (Some v) None) ≡ cond b true false
 some_by true v = refl
@@ -60,7 +60,7 @@ keys_more : (ks : List (List ℕ)) (ps qs : List (List ℕ × Bson)) (k : List �
     → qs ≡ insert_pair k v ps → HaveKeys (k ∷ ks) qs
 keys_more ks ps qs k v h is = λ q.
     ap (λ (x : List (List ℕ × Bson)). is_some (get q x)) is ∙ keys_put q k v ps
-    ∙ ap (λ (b : Bool). cond (bytes_eq q k) true b) (h q) ∙ known_by (bytes_eq q k) (is_new q ks)
+    ∙ ap (λ (b : Bool). cond (bytes_eq q k) true b) (h q) ∙ known_by (bytes_eq q k) (is_new_key q ks)
 
 -- ---- the pairs that it holds
 
@@ -68,7 +68,7 @@ keys_more ks ps qs k v h is = λ q.
 abbrev pub Distinct : Pairs → Document → Type 0
 Distinct ps d = (document_view d ≡ deduplicated ps) × HaveKeys (reversed_keys ps []) (contents d)
 
-settle_more : (done ps : Pairs) (k : List ℕ) (v : Value) → deduplicated_onto done (with_pair ps k v) ≡ insert_value k v (deduplicated_onto done ps)
+settle_more : (done ps : Pairs) (k : List ℕ) (v : Value) → deduplicated_onto done (with_last_pair ps k v) ≡ insert_value k v (deduplicated_onto done ps)
 settle_more done no_pairs k v = refl
 settle_more done (pair l w ps) k v = settle_more (insert_value l w done) ps k v
 
@@ -77,7 +77,7 @@ distinct_none d none =
     (document_view-pairs d ∙ ap pairs_view none, λ q. ap (λ (x : List (List ℕ × Bson)). is_some (get q x)) none)
 
 pub distinct_more : (ps : Pairs) (d new : Document) (k : List ℕ) (v : Bson) → contents new ≡ insert_pair k v (contents d)
-    → Distinct ps d → Distinct (with_pair ps k (bson_view v)) new
+    → Distinct ps d → Distinct (with_last_pair ps k (bson_view v)) new
 distinct_more ps d new k v put (seen, keys) = (
   document_view-pairs new ∙ ap pairs_view put ∙ pairs_view-put k v (contents d)
       ∙ ap (insert_value k (bson_view v)) (sym (document_view-pairs d) ∙ seen) ∙ sym (settle_more no_pairs ps k (bson_view v)),
@@ -99,9 +99,9 @@ new_unless true c is t = refl
 new_unless false c is t = absurd cc
 
 pub key_twice : (ks : List (List ℕ)) (ps : List (List ℕ × Bson)) (bytes s rest : List ℕ) → HaveKeys ks ps
-    → read_name bytes ≡ Ok (s, rest) → is_some (get s ps) ≡ true → read_key (Some ks) bytes ≡ Err (at DuplicateKey bytes)
-key_twice ks ps bytes s rest h e t = rw (e, new_by (is_new s ks) (is_some (get s ps)) (h s) t) refl
+    → read_name bytes ≡ Ok (s, rest) → is_some (get s ps) ≡ true → read_key (Some ks) bytes ≡ Err (fault_at DuplicateKey bytes)
+key_twice ks ps bytes s rest h e t = rw (e, new_by (is_new_key s ks) (is_some (get s ps)) (h s) t) refl
 
 pub key_once : (ks : List (List ℕ)) (ps : List (List ℕ × Bson)) (bytes s rest : List ℕ) → HaveKeys ks ps
     → read_name bytes ≡ Ok (s, rest) → is_some (get s ps) ≡ false → read_key (Some ks) bytes ≡ Ok (s, rest)
-key_once ks ps bytes s rest h e t = rw (e, new_unless (is_new s ks) (is_some (get s ps)) (h s) t) refl
+key_once ks ps bytes s rest h e t = rw (e, new_unless (is_new_key s ks) (is_some (get s ps)) (h s) t) refl

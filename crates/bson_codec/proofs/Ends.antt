@@ -4,7 +4,7 @@ use Rattle.std.proofs.Common.{sym, subst, arith}
 use Rattle.std.specs.Prelude.{IsTrue}
 use Rattle.std.specs.declared.alloc.AllocError.{AllocError}
 use Rattle.bson_bytes.specs.declared.fault.Fault.{Fault}
-use Rattle.bson_codec.specs.ReadErrors.{error_with_offset, IsReadFault, IsFaultWithoutMemory, IsInBytes}
+use Rattle.bson_codec.specs.ReadErrors.{error_with_offset, IsReadFault, IsFaultWithoutMemory, IsStopInBytes}
 use Rattle.bson_codec.specs.declared.de.Error.TheVariants as errors
 use Rattle.bson_bytes.specs.declared.error.Error.{Error as CauseError}
 use Rattle.bson_bytes.specs.declared.error.Error.TheVariants as causes
@@ -26,20 +26,20 @@ memory_alone (stops.Fault f) bytes r y s h = absurd cc
 memory_alone stops.PossibleDuplicate bytes r y s h = refl
 memory_alone stops.OutOfMemory bytes r y s h = refl
 
--- a fault that reading gives stands in the bytes, where each of its faults does
+-- a fault that reading gives is in the bytes, where each of its faults does
 pub stands : {Y : Type 0} (e : Stop) (bytes : List ℕ) (r : Result Y Fault)
-    → ((f : Fault) → r ≡ Err f → f.left ≤ length bytes) → StopsReadingFor Memory e r → IsInBytes e bytes
+    → ((f : Fault) → r ≡ Err f → f.bytes_to_end ≤ length bytes) → StopsReadingFor Memory e r → IsStopInBytes e bytes
 stands (stops.Fault f) bytes r h s = h f s
 stands stops.PossibleDuplicate bytes r h s = cc
 stands stops.OutOfMemory bytes r h s = tt
 
-pub fault_alone : {Y : Type 0} (f : Fault) (bytes : List ℕ) (r : Result Y Fault) → f.left ≤ length bytes → r ≡ Err f
+pub fault_alone : {Y : Type 0} (f : Fault) (bytes : List ℕ) (r : Result Y Fault) → f.bytes_to_end ≤ length bytes → r ≡ Err f
     → IsFaultWithoutMemory (error_with_offset (stops.Fault f) bytes) bytes r
 fault_alone f bytes r le e =
-    let back : length bytes - f.left + f.left ≡ length bytes = omega (arith, le) in
+    let back : length bytes - f.bytes_to_end + f.bytes_to_end ≡ length bytes = omega (arith, le) in
     (f, e, refl, back)
 
-pub fault_of : {Y : Type 0} (e : Stop) (bytes : List ℕ) (r : Result Y Fault) → IsInBytes e bytes → StopsReadingFor Memory e r
+pub fault_of : {Y : Type 0} (e : Stop) (bytes : List ℕ) (r : Result Y Fault) → IsStopInBytes e bytes → StopsReadingFor Memory e r
     → IsReadFault (error_with_offset e bytes) bytes r
 fault_of (stops.Fault f) bytes r h s = fault_alone f bytes r h s
 fault_of stops.PossibleDuplicate bytes r h s = tt

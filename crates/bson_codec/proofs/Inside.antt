@@ -4,12 +4,12 @@ use Rattle.std.proofs.lemmas.List.{append-nil}
 use Rattle.std.specs.Io.KnownBytes.{Appends, Consumes}
 use Rattle.bson_codec.proofs.Justified.{ended, Ended}
 use Rattle.bson_codec.proofs.Streams.{front_none}
-use Rattle.bson_codec.specs.DumpRuns.{EndsAt, EndsInside, HasNoLine, IsFaultOfDocument, IsSkipped}
+use Rattle.bson_codec.specs.DumpRuns.{EndsAt, EndsInside, IsRejectedWithFault, IsFaultOfDocument, IsSkipped}
 use Rattle.bson_codec.specs.Streams.{declared_prefix}
 use Rattle.bson_codec.specs.declared.documents.Run.{Run}
 use Rattle.bson_codec.specs.declared.run_end.RunFault.{RunFault}
 
--- what stands behind the documents that were done
+-- what follows the documents that were done
 record Behind (all done bytes_read : List ℕ) : Type 0 where
   rest : List ℕ
   parts : all ≡ done ++ rest
@@ -30,20 +30,20 @@ pub ends_inside : (run : Run) (all : List ℕ) (after output_before output_after
     → (output : List ℕ) × (diagnostic_lines : List ℕ) × EndsInside run all output diagnostic_lines fault number refused start
     × Appends output_before output_after output × Appends diagnostics_before diagnostics_after diagnostic_lines
 ends_inside run all after output_before output_after diagnostics_before diagnostics_after fault number refused start h is =
-    let e = ended fault run number start (Some all) h.done h.bytes_read h.more h.partial_report is h.reason h.front in
-    let b = following all h.done h.bytes_read after h.consumed_bytes in
-    let known : Some all ≡ Some (h.done ++ b.rest) = ap (λ (x : List ℕ). Some x) b.parts in
+    let e = ended fault run number start (Some all) h.converted_bytes h.bytes_read h.partial_line h.partial_diagnostic is h.reason h.front in
+    let b = following all h.converted_bytes h.bytes_read after h.consumed_bytes in
+    let known : Some all ≡ Some (h.converted_bytes ++ b.rest) = ap (λ (x : List ℕ). Some x) b.parts in
     let first : h.bytes_read ≡ declared_prefix b.rest = e.front b.rest known in
     let inside : EndsInside run all h.output h.diagnostic_lines fault number refused start = record {
-      done = h.done;
+      converted_bytes = h.converted_bytes;
       rest = b.rest;
-      count = h.count;
-      parts = b.parts;
+      earlier_documents = h.earlier_documents;
+      input_is_split = b.parts;
       documents = h.documents;
       counted = h.counted;
-      place = h.place;
-      some = λ none. e.some (first ∙ ap declared_prefix none ∙ front_none);
-      reason = subst (HasNoLine fault run) first e.bad;
-      last = λ over. e.last (subst (IsSkipped run) (sym first) over);
+      offset_is_length = h.offset_is_length;
+      rest_is_not_empty = λ none. e.some (first ∙ ap declared_prefix none ∙ front_none);
+      reason = subst (IsRejectedWithFault fault run) first e.bad;
+      not_skipped = λ over. e.last (subst (IsSkipped run) (sym first) over);
     } in
-    (h.output, h.diagnostic_lines, inside, kept output_before output_after h.output h.more e.no_more h.written, kept diagnostics_before diagnostics_after h.diagnostic_lines h.partial_report e.unsaid h.reports_appended)
+    (h.output, h.diagnostic_lines, inside, kept output_before output_after h.output h.partial_line e.no_more h.written, kept diagnostics_before diagnostics_after h.diagnostic_lines h.partial_diagnostic e.unsaid h.reports_appended)

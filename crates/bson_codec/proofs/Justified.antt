@@ -5,13 +5,13 @@ use Rattle.std.proofs.lemmas.List.{take_at}
 use Rattle.std.specs.Io.KnownBytes.{Consumes}
 use Rattle.bson_model.specs.Value.{Pairs}
 use Rattle.bson_bytes.proofs.Offered.{is_read}
-use Rattle.bson_bytes.specs.ReadDocuments.{IsRead, IsFirstDocument}
+use Rattle.bson_bytes.specs.ReadDocuments.{IsReadAsDocument, IsFirstDocument}
 use Rattle.bson_bytes.specs.Reading.{reads_bytes}
 use Rattle.bson_bytes.specs.declared.fault.Fault.{Fault}
 use Rattle.bson_bytes.specs.declared.fault.FaultKind.{FaultKind}
 use Rattle.bson_bytes.specs.declared.duplicate_keys.DuplicateKeys.TheVariants.{Replace}
 use Rattle.bson_codec.proofs.Streams.{front_none, front_read}
-use Rattle.bson_codec.specs.DumpRuns.{EndsAt, IsEndReason, HasNoLine, IsJustified, IsFaultOfDocument, IsSkipped, IsUnwritable}
+use Rattle.bson_codec.specs.DumpRuns.{EndsAt, IsEndReason, IsRejectedWithFault, IsJustifiedEnd, IsFaultOfDocument, IsSkipped, HasNoTextInForm}
 use Rattle.bson_codec.specs.DumpRuns.{ConsumesPrefix}
 use Rattle.bson_codec.specs.ReadErrors.{IsFaultAtOffset}
 use Rattle.bson_codec.specs.Streams.{declared_prefix}
@@ -21,29 +21,29 @@ use Rattle.bson_codec.specs.declared.run_end.RunFault.TheVariants.{Malformed, Fi
 use Rattle.bson_codec.specs.declared.run_end.RunFault.TheVariants.{OutOfMemory}
 
 -- the documents that bytes are read as are one
-pub read_one : (d : ℕ) (bytes : List ℕ) (ps qs : Pairs) → IsRead d bytes ps → IsRead d bytes qs → ps ≡ qs
+pub read_one : (d : ℕ) (bytes : List ℕ) (ps qs : Pairs) → IsReadAsDocument d bytes ps → IsReadAsDocument d bytes qs → ps ≡ qs
 read_one d bytes ps qs h k =
     let a : reads_bytes d bytes ≡ Ok ps = is_read Replace d bytes ps h in
     let b : reads_bytes d bytes ≡ Ok qs = is_read Replace d bytes qs k in cc
 
 -- a document has no fault
-pub faultless : (k : FaultKind) (n d : ℕ) (bytes : List ℕ) (ps : Pairs) → IsRead d bytes ps
+pub faultless : (k : FaultKind) (n d : ℕ) (bytes : List ℕ) (ps : Pairs) → IsReadAsDocument d bytes ps
     → IsFaultAtOffset k n bytes (reads_bytes d bytes) → ⊥
 faultless k n d bytes ps h (f, e, w, l) = let o : reads_bytes d bytes ≡ Ok ps = is_read Replace d bytes ps h in absurd cc
 
 -- a document of which nothing can be written has no text
-pub no_line : (fault : RunFault) (run : Run) (bytes : List ℕ) (ps : Pairs) → HasNoLine fault run bytes
-    → IsRead run.depth bytes ps → IsUnwritable run.options run.line ps
+pub no_line : (fault : RunFault) (run : Run) (bytes : List ℕ) (ps : Pairs) → IsRejectedWithFault fault run bytes
+    → IsReadAsDocument run.depth bytes ps → HasNoTextInForm run.options run.line ps
 no_line (Malformed k n) run bytes ps h read = absurd (faultless k n run.depth bytes ps read h)
 no_line FiniteDouble run bytes ps h read =
-    subst (IsUnwritable run.options run.line) (read_one run.depth bytes h.0 ps h.1 read) h.2
+    subst (HasNoTextInForm run.options run.line) (read_one run.depth bytes h.0 ps h.1 read) h.2
 no_line CannotRead run bytes ps h read = absurd h
 no_line CannotWrite run bytes ps h read = absurd h
 no_line OutOfMemory run bytes ps h read = absurd h
 
 -- how a run ended for a fault of bytes
 pub record Ended (fault : RunFault) (run : Run) (before : Option (List ℕ)) (done bytes_read more partial_report : List ℕ) : Type 0 where
-  pub bad : HasNoLine fault run bytes_read
+  pub bad : IsRejectedWithFault fault run bytes_read
   pub last : IsSkipped run bytes_read → ⊥
   pub no_more : more ≡ []
   pub unsaid : partial_report ≡ []
@@ -68,7 +68,7 @@ same_front a b c d e l = sym (take_at a b (length a) refl) ∙ ap (take (length 
 justified_by : (run : Run) (before after : Option (List ℕ)) (fault : RunFault) (number start : ℕ)
     (own bytes_read more partial_report : List ℕ) → Consumes before after (own ++ bytes_read) → start ≡ length own
     → IsEndReason fault run number start bytes_read more partial_report → ConsumesPrefix fault before own bytes_read
-    → IsJustified run before fault start
+    → IsJustifiedEnd run before fault start
 justified_by run None after fault number start own bytes_read more partial_report consumed_bytes place reason front = λ done rest known at is.
     absurd cc
 justified_by run (Some all) None fault number start own bytes_read more partial_report consumed_bytes place reason front =
@@ -83,18 +83,18 @@ justified_by run (Some all) (Some left) fault number start own bytes_read more p
     e.front rest (subst (λ (d : List ℕ). Some all ≡ Some (d ++ rest)) same known) in (
       λ none. e.some (first ∙ ap declared_prefix none ∙ front_none),
       λ ps more f. no_line fault run bytes_read ps e.bad
-          (subst (λ (b : List ℕ). IsRead run.depth b ps) (sym first) (front_read run.depth rest ps more f)),
+          (subst (λ (b : List ℕ). IsReadAsDocument run.depth b ps) (sym first) (front_read run.depth rest ps more f)),
       λ over. e.last (subst (IsSkipped run) (sym first) over),
     )
 
 pub justified : {run : Run} {before after output_before output_after diagnostics_before diagnostics_after : Option (List ℕ)} {fault : RunFault}
     {number refused start : ℕ} → EndsAt run before after output_before output_after diagnostics_before diagnostics_after fault number refused start
-    → IsJustified run before fault start
+    → IsJustifiedEnd run before fault start
 justified {run = run} {before = before} {after = after} {fault = fault} {number = number} {start = start} h =
-    justified_by run before after fault number start h.done h.bytes_read h.more h.partial_report h.consumed_bytes h.place h.reason h.front
+    justified_by run before after fault number start h.converted_bytes h.bytes_read h.partial_line h.partial_diagnostic h.consumed_bytes h.offset_is_length h.reason h.front
 
 -- an end without a document
 pub unread_justified : (run : Run) (before : Option (List ℕ)) (fault : RunFault) (start : ℕ)
-    → (fault ≡ CannotRead) ⊎ (fault ≡ OutOfMemory) → IsJustified run before fault start
+    → (fault ≡ CannotRead) ⊎ (fault ≡ OutOfMemory) → IsJustifiedEnd run before fault start
 unread_justified run before fault start (inl e) = λ done rest known at is. absurd (subst IsFaultOfDocument e is)
 unread_justified run before fault start (inr e) = λ done rest known at is. absurd (subst IsFaultOfDocument e is)

@@ -4,11 +4,11 @@ use Rattle.std.proofs.Common.{refl, sym, ap, ◌∙◌, arith}
 use Rattle.std.specs.Int.{w32, from_le_bytes}
 use Rattle.std.proofs.lemmas.Bool.{le-ltb, ltb-false}
 use Rattle.std.proofs.lemmas.List.{length-take-le, take_all, take_at, take-append-le}
-use Rattle.bson_bytes.specs.Fault.{at}
+use Rattle.bson_bytes.specs.Fault.{fault_at}
 use Rattle.bson_bytes.specs.Reading.{read_length}
 use Rattle.bson_bytes.specs.declared.fault.FaultKind.TheVariants.{Short, Length}
 use Rattle.bson_codec.specs.DumpRuns.{BeginsWithLength}
-use Rattle.bson_codec.specs.Streams.{declared_prefix, most, declared_length}
+use Rattle.bson_codec.specs.Streams.{declared_prefix, larger_length, declared_length}
 
 pub record Counted (bytes : List ℕ) : Type 0 where
   pub long : 4 ≤ length bytes
@@ -18,8 +18,8 @@ pub record Counted (bytes : List ℕ) : Type 0 where
 counted_by : (bytes rest : List ℕ) (b c : Bool) → ltb (length bytes) 4 ≡ b
     → ltb (from_le_bytes w32 (take 4 bytes)) (2 ^ 31) ≡ c → read_length bytes ≡ Ok (length bytes, rest) → Counted bytes
 unfolding read_length
-counted_by bytes rest true c e f h = let g : read_length bytes ≡ Err (at Short bytes) = rw e refl in absurd cc
-counted_by bytes rest false false e f h = let g : read_length bytes ≡ Err (at Length bytes) = rw (e, f) refl in absurd cc
+counted_by bytes rest true c e f h = let g : read_length bytes ≡ Err (fault_at Short bytes) = rw e refl in absurd cc
+counted_by bytes rest false false e f h = let g : read_length bytes ≡ Err (fault_at Length bytes) = rw (e, f) refl in absurd cc
 counted_by bytes rest false true e f h =
     let g : read_length bytes ≡ Ok (from_le_bytes w32 (take 4 bytes), drop 4 bytes) = rw (e, f) refl in
     let same : (from_le_bytes w32 (take 4 bytes), drop 4 bytes) ≡ (length bytes, rest) = cc in
@@ -38,7 +38,7 @@ promised_four four n l v least small =
     let fits : ltb (from_le_bytes w32 (take 4 four)) (2 ^ 31) ≡ true = ap (λ (k : ℕ). ltb k (2 ^ 31)) value ∙ small in
     let read : read_length four ≡ Ok (from_le_bytes w32 (take 4 four), drop 4 four) = rw (long, fits) refl in
     let no : ltb (from_le_bytes w32 (take 4 four)) (length four) ≡ false = le-ltb _ _ (omega (arith, l, value, least)) in
-    ap (most (length four)) read ∙ rw no value
+    ap (larger_length (length four)) read ∙ rw no value
 
 -- they are the front of any that begin with them
 pub length_front : (bytes more : List ℕ) → BeginsWithLength bytes → declared_prefix (bytes ++ more) ≡ bytes

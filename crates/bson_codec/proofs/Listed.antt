@@ -13,7 +13,7 @@ use Rattle.bson.specs.InsertedPairs.{insert_entries}
 use Rattle.bson.specs.View.{bson_view, document_view, values_view, pairs_view, contents}
 use Rattle.bson.specs.declared.bson.Bson.{Bson}
 use Rattle.bson.specs.declared.document.Document.{Document}
-use Rattle.bson_bytes.specs.Source.{ReadsTo, earlier_keys, with_pair}
+use Rattle.bson_bytes.specs.Source.{ReadsTo, earlier_keys, with_last_pair}
 use Rattle.bson_bytes.specs.declared.stop.Stop.{Stop}
 use Rattle.bson_codec.proofs.Seen.{document_view-pairs}
 use Rattle.bson_codec.specs.ReadToMemory.{DocumentOrArray, entries_view}
@@ -43,13 +43,13 @@ document_is d es ps h made = document_view-pairs d ∙ ap pairs_view h ∙ view-
 -- ---- one more
 
 entries_last : (es : List (Pair Bson)) (e : Pair Bson)
-    → entries_view (es ++ e ∷ []) ≡ with_pair (entries_view es) (string_bytes e.key) (bson_view e.value)
+    → entries_view (es ++ e ∷ []) ≡ with_last_pair (entries_view es) (string_bytes e.key) (bson_view e.value)
 entries_last [] e = refl
 entries_last (x ∷ es) e = ap (pair (string_bytes x.key) (bson_view x.value)) (entries_last es e)
 
 pub entries_more : (es : List (Pair Bson)) (e : Pair Bson) (ps : Pairs) → entries_view es ≡ ps
-    → entries_view (es ++ e ∷ []) ≡ with_pair ps (string_bytes e.key) (bson_view e.value)
-entries_more es e ps is = entries_last es e ∙ ap (λ (q : Pairs). with_pair q (string_bytes e.key) (bson_view e.value)) is
+    → entries_view (es ++ e ∷ []) ≡ with_last_pair ps (string_bytes e.key) (bson_view e.value)
+entries_more es e ps is = entries_last es e ∙ ap (λ (q : Pairs). with_last_pair q (string_bytes e.key) (bson_view e.value)) is
 
 abbrev value_last : Values → Value → Values
 value_last no_values v = value v no_values
@@ -59,12 +59,12 @@ values_last : (xs : List Bson) (x : Bson) → values_view (xs ++ x ∷ []) ≡ v
 values_last [] x = refl
 values_last (y ∷ xs) x = ap (value (bson_view y)) (values_last xs x)
 
-items_last : (ps : Pairs) (k : List ℕ) (v : Value) → pair_values (with_pair ps k v) ≡ value_last (pair_values ps) v
+items_last : (ps : Pairs) (k : List ℕ) (v : Value) → pair_values (with_last_pair ps k v) ≡ value_last (pair_values ps) v
 items_last no_pairs k v = refl
 items_last (pair l w ps) k v = ap (value w) (items_last ps k v)
 
 pub items_more : (xs : List Bson) (x : Bson) (ps : Pairs) (k : List ℕ) → values_view xs ≡ pair_values ps
-    → values_view (xs ++ x ∷ []) ≡ pair_values (with_pair ps k (bson_view x))
+    → values_view (xs ++ x ∷ []) ≡ pair_values (with_last_pair ps k (bson_view x))
 items_more xs x ps k is =
     values_last xs x ∙ ap (λ (q : Values). value_last q (bson_view x)) is ∙ sym (items_last ps k (bson_view x))
 
@@ -79,17 +79,17 @@ either_kind true D A d a = d
 either_kind false D A d a = a
 
 pub pair_put : {P : Type 0} (Holds : Pairs → P → Type 0) (b : Bool) (A B : Type 0) (old new : P) (key : List ℕ) (x : Value)
-    (ps : Pairs) (k : List ℕ) (v : Value) → b ≡ true → (Holds ps old → Holds (with_pair ps key x) new)
-    → DocumentOrArray b (Holds ps old) A → DocumentOrArray b (key ≡ k) (Unit {0}) → x ≡ v → DocumentOrArray b (Holds (with_pair ps k v) new) B
+    (ps : Pairs) (k : List ℕ) (v : Value) → b ≡ true → (Holds ps old → Holds (with_last_pair ps key x) new)
+    → DocumentOrArray b (Holds ps old) A → DocumentOrArray b (key ≡ k) (Unit {0}) → x ≡ v → DocumentOrArray b (Holds (with_last_pair ps k v) new) B
 pair_put Holds true A B old new key x ps k v t put list name is =
-    subst (λ q. Holds (with_pair ps q v) new) name (subst (λ w. Holds (with_pair ps key w) new) is (put list))
+    subst (λ q. Holds (with_last_pair ps q v) new) name (subst (λ w. Holds (with_last_pair ps key w) new) is (put list))
 pair_put Holds false A B old new key x ps k v t put list name is = absurd cc
 
 pub item_put : (b : Bool) (D E : Type 0) (old new : List Bson) (x : Bson) (ps : Pairs) (k : List ℕ) (v : Value) → b ≡ false
-    → (values_view old ≡ pair_values ps → values_view new ≡ pair_values (with_pair ps k (bson_view x)))
-    → DocumentOrArray b D (values_view old ≡ pair_values ps) → bson_view x ≡ v → DocumentOrArray b E (values_view new ≡ pair_values (with_pair ps k v))
+    → (values_view old ≡ pair_values ps → values_view new ≡ pair_values (with_last_pair ps k (bson_view x)))
+    → DocumentOrArray b D (values_view old ≡ pair_values ps) → bson_view x ≡ v → DocumentOrArray b E (values_view new ≡ pair_values (with_last_pair ps k v))
 item_put true D E old new x ps k v t put list is = absurd cc
-item_put false D E old new x ps k v t put list is = put list ∙ ap (λ w. pair_values (with_pair ps k w)) is
+item_put false D E old new x ps k v t put list is = put list ∙ ap (λ w. pair_values (with_last_pair ps k w)) is
 
 -- ---- names
 

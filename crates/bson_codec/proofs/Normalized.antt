@@ -1,4 +1,4 @@
--- What is packed of an normalized text is what is to be packed of the text.
+-- What is packed of a normalized text is what is to be packed of the text.
 use Rattle.std.proofs.Common.{ℕ, List, Result, Ok, Err, Vec, Global, IfOk}
 use Rattle.bson_scalar.specs.declared.form.Doubles.{Doubles}
 use Rattle.bson_model.specs.Value.{document}

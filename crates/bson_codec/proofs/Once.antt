@@ -1,4 +1,4 @@
--- Pairs put in turn, as bytes are read and as a text is.
+-- Pairs inserted in turn, as bytes are read and as a text is.
 use Rattle.std.proofs.Common.{◌≡◌, List, ℕ, bytes_eq, cond, refl, ap, ◌∙◌}
 use Rattle.bson_model.specs.Value.{Value, Pairs, no_pairs, pair}
 use Rattle.json.specs.Strict.{AreDistinct}

@@ -3,7 +3,7 @@ use Rattle.std.proofs.Common.{◌≡◌, ◌≢◌, ◌⊎◌, inl, inr, ℕ, ze
 use Rattle.std.proofs.Common.{Bool, true, false, Result, Ok, Err, ltb, refl, sym, ap, subst, ◌∙◌, append_assoc, arith}
 use Rattle.std.proofs.lemmas.Bool.{ltb-false, ltb-true}
 use Rattle.std.proofs.lemmas.List.{append-nil, length-append, nil_from_length}
-use Rattle.bson.specs.Texts.{IsTextBy}
+use Rattle.bson.specs.Texts.{IsTextInKeyOrder}
 use Rattle.bson.specs.declared.extjson.key_order.KeyOrder.{KeyOrder}
 use Rattle.bson.specs.declared.extjson.key_order.KeyOrder.TheVariants.{Ascending, AsGiven}
 use Rattle.bson.specs.declared.extjson.options.Options.{Options}
@@ -17,8 +17,8 @@ use Rattle.bson_codec.proofs.Justified.{faultless, no_line, read_one}
 use Rattle.bson_codec.proofs.Lengths.{Counted, counted, length_front, one_span}
 use Rattle.bson_codec.proofs.Runs.{same_rest}
 use Rattle.bson_codec.proofs.Streams.{sized}
-use Rattle.bson_codec.specs.DumpRuns.{BeginsWithLength, Dump, none, written, skipped_document, EndsInside, HasNoLine, IsLine}
-use Rattle.bson_codec.specs.DumpRuns.{IsSkipped, IsUnwritable, WritesLine}
+use Rattle.bson_codec.specs.DumpRuns.{BeginsWithLength, Dump, none, written, skipped_document, EndsInside, IsRejectedWithFault, IsLineOfDocument}
+use Rattle.bson_codec.specs.DumpRuns.{IsSkipped, HasNoTextInForm, WritesLine}
 use Rattle.bson_codec.specs.Streams.{declared_prefix}
 use Rattle.bson_codec.specs.Diagnostics.{line_feed, diagnostic_of}
 use Rattle.bson_codec.specs.declared.documents.Line.{Line}
@@ -30,17 +30,17 @@ use Rattle.bson_codec.specs.declared.run_end.RunFault.TheVariants.{OutOfMemory}
 
 -- ---- what is written of bytes, and why nothing is
 
-line_length : (run : Run) (bytes line : List ℕ) → IsLine run bytes line → BeginsWithLength bytes
+line_length : (run : Run) (bytes line : List ℕ) → IsLineOfDocument run bytes line → BeginsWithLength bytes
 line_length run bytes line h =
     let s = sized h.read.grammar in
     (s.body, ap read_length s.whole ∙ size_again (length bytes) s.body s.small)
 
-one_text : (order : KeyOrder) (D : Doubles) (f : Form) (v : Value) (s t : List ℕ) → IsTextBy order D f v s
-    → IsTextBy order D f v t → s ≡ t
+one_text : (order : KeyOrder) (D : Doubles) (f : Form) (v : Value) (s t : List ℕ) → IsTextInKeyOrder order D f v s
+    → IsTextInKeyOrder order D f v t → s ≡ t
 one_text Ascending D f v s t is are =
     is.compact ∙ ap (tree_text D f) (sym (is.is_tree.one are.tree are.is_tree.written)) ∙ sym are.compact
 one_text AsGiven D f v s t is are =
-    is.compact ∙ ap (tree_text D f) (sym (is.one are.tree are.written)) ∙ sym are.compact
+    is.compact ∙ ap (tree_text D f) (sym (is.only_tree are.tree are.written)) ∙ sym are.compact
 
 one_write : (o : Options) (line : Line) (ps : Pairs) (a b : List ℕ) → WritesLine o line ps a → WritesLine o line ps b
     → a ≡ b
@@ -49,27 +49,27 @@ one_write o (Text f) ps a b (w, (s, is, e)) (v, (t, are, g)) =
 one_write o Shown ps a b h k = h ∙ sym k
 one_write o Nothing ps a b h k = h ∙ sym k
 
-one_line : (run : Run) (bytes a b : List ℕ) → IsLine run bytes a → IsLine run bytes b → a ≡ b
+one_line : (run : Run) (bytes a b : List ℕ) → IsLineOfDocument run bytes a → IsLineOfDocument run bytes b → a ≡ b
 one_line run bytes a b h k =
     one_write run.options run.line h.pairs a b h.written
     (subst (λ (ps : Pairs). WritesLine run.options run.line ps b) (read_one run.depth bytes k.pairs h.pairs k.read h.read)
     k.written)
 
-has_text : (o : Options) (line : Line) (ps : Pairs) (a : List ℕ) → WritesLine o line ps a → IsUnwritable o line ps → ⊥
+has_text : (o : Options) (line : Line) (ps : Pairs) (a : List ℕ) → WritesLine o line ps a → HasNoTextInForm o line ps → ⊥
 has_text o (Text f) ps a h u = let w = h.0 in absurd cc
 has_text o Shown ps a h u = u
 has_text o Nothing ps a h u = u
 
-either_line : (run : Run) (bytes line : List ℕ) (fault : RunFault) → IsLine run bytes line → HasNoLine fault run bytes → ⊥
+either_line : (run : Run) (bytes line : List ℕ) (fault : RunFault) → IsLineOfDocument run bytes line → IsRejectedWithFault fault run bytes → ⊥
 either_line run bytes line fault h bad =
     has_text run.options run.line h.pairs line h.written (no_line fault run bytes h.pairs bad h.read)
 
-one_fault : (run : Run) (bytes : List ℕ) (f g : RunFault) → HasNoLine f run bytes → HasNoLine g run bytes → f ≡ g
+one_fault : (run : Run) (bytes : List ℕ) (f g : RunFault) → IsRejectedWithFault f run bytes → IsRejectedWithFault g run bytes → f ≡ g
 one_fault run bytes (Malformed k n) (Malformed l m) (a, e, w, s) (b, h, v, t) =
     let read : reads_bytes run.depth bytes ≡ reads_bytes run.depth bytes = refl in
     let same : a ≡ b = cc in
     let kinds : k ≡ l = cc in
-    let left : n ≡ m = omega (arith, s, t, ap (λ f. f.left) same) in cc
+    let left : n ≡ m = omega (arith, s, t, ap (λ f. f.bytes_to_end) same) in cc
 one_fault run bytes (Malformed k n) FiniteDouble h (ps, read, u) = absurd (faultless k n run.depth bytes ps read h)
 one_fault run bytes FiniteDouble (Malformed k n) (ps, read, u) h = absurd (faultless k n run.depth bytes ps read h)
 one_fault run bytes FiniteDouble FiniteDouble h k = refl
@@ -87,8 +87,8 @@ one_fault run bytes OutOfMemory g h k = absurd h
 
 abbrev Step : Run → (number start : ℕ) → (bytes line partial_report : List ℕ) → (over : ℕ) → Type 0
 Step run number start bytes line partial_report over =
-    (IsLine run bytes line × (partial_report ≡ []) × (over ≡ 0))
-    ⊎ ((fault : RunFault) × HasNoLine fault run bytes × IsSkipped run bytes × (line ≡ [])
+    (IsLineOfDocument run bytes line × (partial_report ≡ []) × (over ≡ 0))
+    ⊎ ((fault : RunFault) × IsRejectedWithFault fault run bytes × IsSkipped run bytes × (line ≡ [])
     × (partial_report ≡ diagnostic_of number start fault) × (over ≡ 1))
 
 record Last (run : Run) (bytes output diagnostics_before : List ℕ) (number refused : ℕ) : Type 0 where
@@ -110,7 +110,7 @@ record Last (run : Run) (bytes output diagnostics_before : List ℕ) (number ref
 last_of : {run : Run} {bytes output diagnostics_before : List ℕ} {number refused : ℕ} (n : ℕ)
     → Dump run bytes output diagnostics_before number refused → number ≡ suc n → Last run bytes output diagnostics_before n refused
 last_of n none e = absurd (omega (arith, e))
-last_of {run = run} n (written {before = before} {output = output} {diagnostics_before = diagnostics_before} {number = number} {refused = refused} bytes line d is) e =
+last_of {run = run} n (written {earlier_bytes = before} {output = output} {diagnostics = diagnostics_before} {document_count = number} {refused = refused} bytes line d is) e =
     let count : number ≡ n = omega (arith, e) in
     record {
       before = before;
@@ -128,7 +128,7 @@ last_of {run = run} n (written {before = before} {output = output} {diagnostics_
       told_is = sym (append-nil diagnostics_before);
       refused_are = omega arith;
     }
-last_of {run = run} n (skipped_document {before = before} {output = output} {diagnostics_before = diagnostics_before} {number = number} {refused = refused} bytes fault d over bad) e =
+last_of {run = run} n (skipped_document {earlier_bytes = before} {output = output} {diagnostics = diagnostics_before} {document_count = number} {refused = refused} bytes fault d over bad) e =
     let count : number ≡ n = omega (arith, e) in
     record {
       before = before;
@@ -255,7 +255,7 @@ first_of : (n m : ℕ) (run : Run) (bytes output diagnostics_before : List ℕ) 
 first_of n m run bytes output diagnostics_before refused d le =
     mark (m - n) n m run bytes output diagnostics_before refused d (omega (arith, le))
 
--- no bytes stand behind a dump of fewer documents
+-- no bytes follow a dump of fewer documents
 no_longer : (n m : ℕ) (run : Run) (bytes output other diagnostics_before diagnostics_after : List ℕ) (refused left : ℕ)
     → Dump run bytes output diagnostics_before n refused → Dump run bytes other diagnostics_after m left → n < m → ⊥
 no_longer n m run bytes output other diagnostics_before diagnostics_after refused left d e lt =
@@ -287,14 +287,14 @@ one_dump run bytes output other diagnostics_before diagnostics_after number coun
 -- ---- where a run ends
 
 stuck_at : (run : Run) (number start : ℕ) (bytes line partial_report : List ℕ) (over : ℕ) (fault : RunFault)
-    → Step run number start bytes line partial_report over → HasNoLine fault run bytes → (IsSkipped run bytes → ⊥) → ⊥
+    → Step run number start bytes line partial_report over → IsRejectedWithFault fault run bytes → (IsSkipped run bytes → ⊥) → ⊥
 stuck_at run number start bytes line partial_report over fault (inl s) bad last = either_line run bytes line fault s.0 bad
 stuck_at run number start bytes line partial_report over fault (inr s) bad last = last s.2
 
 -- at bytes at which a run ends no document of a dump begins
 stuck : (n m : ℕ) (run : Run) (done rest bytes more output other diagnostics_before diagnostics_after : List ℕ) (refused left : ℕ)
     (fault : RunFault) → Dump run done output diagnostics_before n refused → Dump run bytes other diagnostics_after m left
-    → done ++ rest ≡ bytes ++ more → HasNoLine fault run (declared_prefix rest) → (IsSkipped run (declared_prefix rest) → ⊥)
+    → done ++ rest ≡ bytes ++ more → IsRejectedWithFault fault run (declared_prefix rest) → (IsSkipped run (declared_prefix rest) → ⊥)
     → n < m → ⊥
 stuck n m run done rest bytes more output other diagnostics_before diagnostics_after refused left fault d e whole bad last lt =
     let f = first_of (suc n) m run bytes other diagnostics_after left e (omega (arith, lt)) in
@@ -310,7 +310,7 @@ stuck n m run done rest bytes more output other diagnostics_before diagnostics_a
     ap declared_prefix rests ∙ length_front i.span (f.following ++ more)
     (step_length run (n + 1) (length i.before) i.span i.line i.partial_report i.over i.step) in
     stuck_at run (n + 1) (length i.before) i.span i.line i.partial_report i.over fault i.step
-    (subst (HasNoLine fault run) here bad) (λ over. last (subst (IsSkipped run) (sym here) over))
+    (subst (IsRejectedWithFault fault run) here bad) (λ over. last (subst (IsSkipped run) (sym here) over))
 
 either_by : (run : Run) (all other output diagnostics_after diagnostics_before done rest : List ℕ) (count n left refused : ℕ) (b : Bool)
     → ltb n count ≡ b → (n < count → ⊥) → Dump run all other diagnostics_after count left → Dump run done output diagnostics_before n refused
@@ -334,32 +334,32 @@ either_by run all other output diagnostics_after diagnostics_before done rest co
     ) in
     some (nil_from_length rest none)
 
--- a dump has no bytes behind it at which a run over it ended
+-- a dump has no bytes after it at which a run over it ended
 pub either_end : (run : Run) (all output other diagnostics_before diagnostics_after : List ℕ) (count left number refused start : ℕ)
     (fault : RunFault) → Dump run all other diagnostics_after count left
     → EndsInside run all output diagnostics_before fault number refused start → ⊥
 either_end run all output other diagnostics_before diagnostics_after count left number refused start fault d h =
-    let fewer : h.count < count → ⊥ = stuck h.count count run h.done h.rest all [] output other diagnostics_before diagnostics_after refused left
-    fault h.documents d (sym h.parts ∙ sym (append-nil all)) h.reason h.last in
-    either_by run all other output diagnostics_after diagnostics_before h.done h.rest count h.count left refused (ltb h.count count) refl fewer d
-    h.documents h.parts h.some
+    let fewer : h.earlier_documents < count → ⊥ = stuck h.earlier_documents count run h.converted_bytes h.rest all [] output other diagnostics_before diagnostics_after refused left
+    fault h.documents d (sym h.input_is_split ∙ sym (append-nil all)) h.reason h.not_skipped in
+    either_by run all other output diagnostics_after diagnostics_before h.converted_bytes h.rest count h.earlier_documents left refused (ltb h.earlier_documents count) refl fewer d
+    h.documents h.input_is_split h.rest_is_not_empty
 
 pub one_end : (run : Run) (all output other diagnostics_before diagnostics_after : List ℕ) (number count refused left start place : ℕ)
     (fault cause : RunFault) → EndsInside run all output diagnostics_before fault number refused start
     → EndsInside run all other diagnostics_after cause count left place
     → (output ≡ other) × (diagnostics_before ≡ diagnostics_after) × (fault ≡ cause) × (number ≡ count) × (refused ≡ left) × (start ≡ place)
 one_end run all output other diagnostics_before diagnostics_after number count refused left start place fault cause h k =
-    let whole : h.done ++ h.rest ≡ k.done ++ k.rest = sym h.parts ∙ k.parts in
-    let n : h.count ≡ k.count = equal h.count k.count
-    (stuck h.count k.count run h.done h.rest k.done k.rest output other diagnostics_before diagnostics_after refused left fault h.documents
-    k.documents whole h.reason h.last)
-    (stuck k.count h.count run k.done k.rest h.done h.rest other output diagnostics_after diagnostics_before left refused cause k.documents
-    h.documents (sym whole) k.reason k.last) in
-    let s = same_count h.count run h.done k.done output other diagnostics_before diagnostics_after h.rest k.rest refused left h.documents
-    (subst (λ (c : ℕ). Dump run k.done other diagnostics_after c left) (sym n) k.documents) whole in
-    let rests : h.rest ≡ k.rest = same_rest h.done h.rest k.done k.rest whole (ap length s.bytes) in
+    let whole : h.converted_bytes ++ h.rest ≡ k.converted_bytes ++ k.rest = sym h.input_is_split ∙ k.input_is_split in
+    let n : h.earlier_documents ≡ k.earlier_documents = equal h.earlier_documents k.earlier_documents
+    (stuck h.earlier_documents k.earlier_documents run h.converted_bytes h.rest k.converted_bytes k.rest output other diagnostics_before diagnostics_after refused left fault h.documents
+    k.documents whole h.reason h.not_skipped)
+    (stuck k.earlier_documents h.earlier_documents run k.converted_bytes k.rest h.converted_bytes h.rest other output diagnostics_after diagnostics_before left refused cause k.documents
+    h.documents (sym whole) k.reason k.not_skipped) in
+    let s = same_count h.earlier_documents run h.converted_bytes k.converted_bytes output other diagnostics_before diagnostics_after h.rest k.rest refused left h.documents
+    (subst (λ (c : ℕ). Dump run k.converted_bytes other diagnostics_after c left) (sym n) k.documents) whole in
+    let rests : h.rest ≡ k.rest = same_rest h.converted_bytes h.rest k.converted_bytes k.rest whole (ap length s.bytes) in
     let faults : fault ≡ cause = one_fault run (declared_prefix h.rest) fault cause h.reason
-    (subst (λ (b : List ℕ). HasNoLine cause run (declared_prefix b)) (sym rests) k.reason) in
+    (subst (λ (b : List ℕ). IsRejectedWithFault cause run (declared_prefix b)) (sym rests) k.reason) in
     let numbers : number ≡ count = omega (arith, h.counted, k.counted, n) in
-    let places : start ≡ place = h.place ∙ ap length s.bytes ∙ sym k.place in
+    let places : start ≡ place = h.offset_is_length ∙ ap length s.bytes ∙ sym k.offset_is_length in
     (s.outputs, s.diagnostic_lines, faults, numbers, s.counts, places)

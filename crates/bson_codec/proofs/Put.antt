@@ -1,4 +1,4 @@
--- Bytes of an element, an array, a document and code, behind others.
+-- Bytes of an element, an array, a document and code, after others.
 use Rattle.std.proofs.Common.{◌≡◌, ℕ, ◌+◌, ◌≤◌, ◌++◌, List, length, true, Result, Ok, Err, OnOk, cond, refl, ap, ◌∙◌}
 use Rattle.std.proofs.Common.{subst, arith, [], ◌∷◌, length-append, is_ok}
 use Rattle.std.specs.Prelude.{decimal}
@@ -10,12 +10,12 @@ use Rattle.bson_scalar.specs.Scalar.{Scalar}
 use Rattle.bson_scalar.specs.ElementType.{scalar_type}
 use Rattle.bson_model.specs.Value.{Value, Values, no_values, value, Pairs, no_pairs, pair, scalar, array, document}
 use Rattle.bson_model.specs.Value.{code_scope}
-use Rattle.bson_bytes.specs.PutSteps.{PutResult, then, has_no_nul, put_scalar, put_text, put_name, put_value, put_items, put_elements}
-use Rattle.bson_bytes.specs.PutSteps.{put_length_placeholder, put_length, put_end, put_document, PutsBytes}
-use Rattle.bson_bytes.specs.Writing.{type_of, name_bytes, zero_in_key, IsWellTypedScalar, AreWellTyped, PairsAreWellTyped}
+use Rattle.bson_bytes.specs.PutSteps.{PutResult, then, has_no_nul, put_scalar, put_text, put_name, put_value, put_array_elements, put_elements}
+use Rattle.bson_bytes.specs.PutSteps.{put_length_placeholder, put_length, put_nul_and_length, put_document, PutsBytes}
+use Rattle.bson_bytes.specs.Writing.{type_of, name_bytes, nul_in_key, IsWellTypedScalar, AreWellTyped, PairsAreWellTyped}
 use Rattle.bson_bytes.specs.declared.error.Error.{Error}
 use Rattle.bson_text.specs.TraversalResults.{ItemsWritten, PairsWritten, keys_of}
-use Rattle.bson_codec.specs.PackedText.{ElementPut, DocumentPut, LengthReserved, ElementArrayOpened, ElementCodeOpened}
+use Rattle.bson_codec.specs.PackedText.{ElementAppended, DocumentAppended, LengthReserved, ElementArrayOpened, ElementCodeOpened}
 use Rattle.bson_codec.specs.declared.element_writer.ElementWriter.{ElementWriter}
 use Rattle.bson_codec.proofs.Once.{once}
 
@@ -25,7 +25,7 @@ scalar_value x out new h = h
 
 pub scalar_put : (x : Scalar) (t : ElementType) (k old named new : List ℕ) → t ≡ scalar_type x
     → named ≡ old ++ name_bytes t k → IsWellTypedScalar x → put_scalar x named ≡ Ok new → length named ≤ length new
-    → ElementPut k (scalar x) old new
+    → ElementAppended k (scalar x) old new
 scalar_put x t k old named new kind name typed put grows =
     let longer = length-append old (name_bytes t k) in
     let is = ap length name in (
@@ -46,7 +46,7 @@ turned (Err e) (Err d) new put same is g f = tt
 pub scalar_turned : {F : Type 0} (r : Result (Unit {0}) Error) (q : Result (Unit {0}) F) (x : Scalar) (t : ElementType)
     (k old named new : List ℕ) → is_ok q ≡ is_ok r → t ≡ scalar_type x → named ≡ old ++ name_bytes t k
     → OnOk r (IsWellTypedScalar x) → PutsBytes r new (put_scalar x named) → OnOk r (length named ≤ length new)
-    → OnOk q (ElementPut k (scalar x) old new)
+    → OnOk q (ElementAppended k (scalar x) old new)
 scalar_turned (Ok u) (Ok v) x t k old named new same kind name typed put grows =
     scalar_put x t k old named new kind name typed put grows
 scalar_turned (Ok u) (Err e) x t k old named new same kind name typed put grows = tt
@@ -64,19 +64,19 @@ room start old new (at, is) =
 
 next_item : (n : ℕ) (v : Value) (vs : Values) (out new : List ℕ)
     → put_value v (out ++ name_bytes (type_of v) (decimal n)) ≡ Ok new
-    → put_items n (value v vs) out ≡ put_items (n + 1) vs new
-unfolding put_items
-next_item n v vs out new put = ap (λ (r : PutResult). then r (λ b. put_items (n + 1) vs b)) put
+    → put_array_elements n (value v vs) out ≡ put_array_elements (n + 1) vs new
+unfolding put_array_elements
+next_item n v vs out new put = ap (λ (r : PutResult). then r (λ b. put_array_elements (n + 1) vs b)) put
 
-last_item : (n : ℕ) (out : List ℕ) → put_items n no_values out ≡ Ok out
-unfolding put_items
+last_item : (n : ℕ) (out : List ℕ) → put_array_elements n no_values out ≡ Ok out
+unfolding put_array_elements
 last_item n out = refl
 
 abbrev Wrote : ElementWriter → List ℕ → Value → ElementWriter → Type 0
-Wrote old k v new = ElementPut k v old.bytes.items new.bytes.items
+Wrote old k v new = ElementAppended k v old.bytes.items new.bytes.items
 
 items_put : (n : ℕ) (vs : Values) (old new : ElementWriter) → ItemsWritten Wrote (λ i. decimal i) n vs old new
-    → AreWellTyped vs × (put_items n vs old.bytes.items ≡ Ok new.bytes.items)
+    → AreWellTyped vs × (put_array_elements n vs old.bytes.items ≡ Ok new.bytes.items)
     × (length old.bytes.items ≤ length new.bytes.items)
 items_put n no_values old new is =
     let same = ap (λ (w : ElementWriter). length w.bytes.items) is in
@@ -88,7 +88,7 @@ items_put n (value v vs) old new (mid, (typed, put, grows), more) =
       omega (arith, grows, rest.2),
     )
 
--- where the length of an array stands that was begun
+-- where the length of an array is that was begun
 pub array_room : (k : List ℕ) (start : ℕ) (vs : Values) (old mark now : ElementWriter)
     → ElementArrayOpened k start old.bytes.items mark.bytes.items → ItemsWritten Wrote (λ i. decimal i) 0 vs mark now
     → start + 4 ≤ length now.bytes.items
@@ -97,15 +97,15 @@ array_room k start vs old mark now begins written =
     let here = room start (old.bytes.items ++ name_bytes tag.Array k) mark.bytes.items begins in
     omega (arith, all.2, here)
 
-array_value : (vs : Values) (old now new : List ℕ) → put_items 0 vs (put_length_placeholder old) ≡ Ok now
-    → put_end (length old) now ≡ Ok new → put_value (array vs) old ≡ Ok new
+array_value : (vs : Values) (old now new : List ℕ) → put_array_elements 0 vs (put_length_placeholder old) ≡ Ok now
+    → put_nul_and_length (length old) now ≡ Ok new → put_value (array vs) old ≡ Ok new
 unfolding put_value
-array_value vs old now new put ended = ap (λ (r : PutResult). then r (put_end (length old))) put ∙ ended
+array_value vs old now new put ended = ap (λ (r : PutResult). then r (put_nul_and_length (length old))) put ∙ ended
 
 pub array_put : (k : List ℕ) (start : ℕ) (vs : Values) (old mark now : ElementWriter) (new : List ℕ)
     → ElementArrayOpened k start old.bytes.items mark.bytes.items → ItemsWritten Wrote (λ i. decimal i) 0 vs mark now
-    → put_end start now.bytes.items ≡ Ok new → length now.bytes.items ≤ length new
-    → ElementPut k (array vs) old.bytes.items new
+    → put_nul_and_length start now.bytes.items ≡ Ok new → length now.bytes.items ≤ length new
+    → ElementAppended k (array vs) old.bytes.items new
 array_put k start vs old mark now new (at, is) written ended grows =
     let named = old.bytes.items ++ name_bytes tag.Array k in
     let all = items_put 0 vs mark now written in
@@ -113,8 +113,8 @@ array_put k start vs old mark now new (at, is) written ended grows =
     let longer = length-append old.bytes.items (name_bytes tag.Array k) in (
       all.0,
       array_value vs named now.bytes.items new
-          (subst (λ (b : List ℕ). put_items 0 vs b ≡ Ok now.bytes.items) is all.1)
-          (subst (λ n. put_end n now.bytes.items ≡ Ok new) at ended),
+          (subst (λ (b : List ℕ). put_array_elements 0 vs b ≡ Ok now.bytes.items) is all.1)
+          (subst (λ n. put_nul_and_length n now.bytes.items ≡ Ok new) at ended),
       omega (arith, all.2, begins, at, longer, grows),
     )
 
@@ -124,7 +124,7 @@ abbrev Keyed : ElementWriter → List ℕ → ElementWriter → Type 0
 Keyed old k new = (new.bytes.items ≡ old.bytes.items) × (has_no_nul k ≡ true) × (is_utf8 k ≡ true)
 
 name_put : (t : ElementType) (k out : List ℕ) → has_no_nul k ≡ true → put_name t k out ≡ Ok (out ++ name_bytes t k)
-name_put t k out free = ap (λ b. cond b (Ok (out ++ name_bytes t k)) (Err zero_in_key)) free
+name_put t k out free = ap (λ b. cond b (Ok (out ++ name_bytes t k)) (Err nul_in_key)) free
 
 next_pair : (k : List ℕ) (v : Value) (ps : Pairs) (out new : List ℕ) → has_no_nul k ≡ true
     → put_value v (out ++ name_bytes (type_of v) k) ≡ Ok new → put_elements (pair k v ps) out ≡ put_elements ps new
@@ -162,14 +162,14 @@ framed_room start ps old mark now begins written =
 
 pub framed_put : (start : ℕ) (ps : Pairs) (old mark now : ElementWriter) (new : List ℕ)
     → LengthReserved start old.bytes.items mark.bytes.items → PairsWritten Wrote Keyed ps mark now → AreDistinct (keys_of ps)
-    → put_end start now.bytes.items ≡ Ok new → length now.bytes.items ≤ length new → DocumentPut ps old.bytes.items new
+    → put_nul_and_length start now.bytes.items ≡ Ok new → length now.bytes.items ≤ length new → DocumentAppended ps old.bytes.items new
 framed_put start ps old mark now new (at, is) written apart ended grows =
     let all = pairs_put ps mark now written in
     let begins = room start old.bytes.items mark.bytes.items (at, is) in (
       (all.0, once ps apart),
-      ap (λ (r : PutResult). then r (put_end (length old.bytes.items)))
+      ap (λ (r : PutResult). then r (put_nul_and_length (length old.bytes.items)))
           (subst (λ (b : List ℕ). put_elements ps b ≡ Ok now.bytes.items) is all.1)
-          ∙ subst (λ n. put_end n now.bytes.items ≡ Ok new) at ended,
+          ∙ subst (λ n. put_nul_and_length n now.bytes.items ≡ Ok new) at ended,
       omega (arith, all.2, begins, at, grows),
     )
 
@@ -178,7 +178,7 @@ unfolding put_value
 document_value ps out new h = h
 
 pub document_put : (k : List ℕ) (ps : Pairs) (old named new : List ℕ) → named ≡ old ++ name_bytes tag.EmbeddedDocument k
-    → DocumentPut ps named new → ElementPut k (document ps) old new
+    → DocumentAppended ps named new → ElementAppended k (document ps) old new
 document_put k ps old named new name (typed, put, grows) =
     let longer = length-append old (name_bytes tag.EmbeddedDocument k) in
     let is = ap length name in (
@@ -197,7 +197,7 @@ code_value s ps out mid now new text put ended =
     ∙ ap (λ (r : PutResult). then r (put_length (length out))) put ∙ ended
 
 pub code_put : (k s : List ℕ) (start : ℕ) (ps : Pairs) (old mid now new : List ℕ) → ElementCodeOpened k s start old mid
-    → DocumentPut ps mid now → put_length start now ≡ Ok new → length now ≤ length new → ElementPut k (code_scope s ps) old new
+    → DocumentAppended ps mid now → put_length start now ≡ Ok new → length now ≤ length new → ElementAppended k (code_scope s ps) old new
 code_put k s start ps old mid now new (utf8, at, text, longer, within) (typed, put, grows) ended more = (
   (utf8, typed.0, typed.1),
   code_value s ps (old ++ name_bytes tag.JavaScriptCodeWithScope k) mid now new text put

@@ -6,7 +6,7 @@ use Rattle.std.specs.Io.KnownBytes.{Appends, Consumes, IsAtEnd, Keeps}
 use Rattle.std.proofs.KnownBytes.{Appends-nil, Appends-trans, Consumes-nil, Consumes-trans}
 use Rattle.std.proofs.lemmas.List.{append-nil, length-append}
 use Rattle.bson_codec.specs.DumpRuns.{Dump, none, written, skipped_document}
-use Rattle.bson_codec.specs.DumpRuns.{CompletedRun, IsEndReason, EndsAt, HasNoLine, IsLineOrSkip, IsConversionFault, IsLine, IsFaultOfDocument}
+use Rattle.bson_codec.specs.DumpRuns.{CompletedRun, IsEndReason, EndsAt, IsRejectedWithFault, IsLineOrSkip, IsConversionFault, IsLineOfDocument, IsFaultOfDocument}
 use Rattle.bson_codec.specs.DumpRuns.{IsSkipped, IsRunEnd, IsReportFailure, DumpProgress, ConsumesPrefix}
 use Rattle.bson_codec.specs.Streams.{WritesPrefix, declared_prefix}
 use Rattle.bson_codec.specs.Diagnostics.{diagnostic_of}
@@ -17,12 +17,12 @@ use Rattle.bson_codec.specs.declared.run_end.RunFault.TheVariants.{OutOfMemory}
 
 pub run_begins : (run : Run) (before output_before diagnostics_before : Option (List ℕ)) → DumpProgress run before before output_before output_before diagnostics_before diagnostics_before 0 0 0
 run_begins run before output_before diagnostics_before = record {
-  done = [];
+  converted_bytes = [];
   output = [];
   diagnostic_lines = [];
   consumed_bytes = Consumes-nil before;
   documents = none;
-  place = refl;
+  offset_is_length = refl;
   written = Appends-nil output_before;
   reports_appended = Appends-nil diagnostics_before;
 }
@@ -42,43 +42,43 @@ run_goes_on run before mid after output_before output_after after_holds diagnost
     let line = g.1.0.0 in
     let same : refused + n ≡ refused = omega (arith, g.0) in
     record {
-      done = r.done ++ bytes;
+      converted_bytes = r.converted_bytes ++ bytes;
       output = r.output ++ line;
       diagnostic_lines = r.diagnostic_lines;
-      consumed_bytes = Consumes-trans before mid after r.done bytes r.consumed_bytes bytes_read;
-      documents = subst (λ (k : ℕ). Dump run (r.done ++ bytes) (r.output ++ line) r.diagnostic_lines (number + 1) k) (sym same)
+      consumed_bytes = Consumes-trans before mid after r.converted_bytes bytes r.consumed_bytes bytes_read;
+      documents = subst (λ (k : ℕ). Dump run (r.converted_bytes ++ bytes) (r.output ++ line) r.diagnostic_lines (number + 1) k) (sym same)
           (written bytes line r.documents g.1.0.1);
-      place = omega (arith, place, r.place, length-append r.done bytes);
+      offset_is_length = omega (arith, place, r.offset_is_length, length-append r.converted_bytes bytes);
       written = Appends-trans output_before output_after after_holds r.output line r.written g.1.0.2;
       reports_appended = appends_kept diagnostics_before diagnostics_after after_tells r.diagnostic_lines r.reports_appended g.1.1;
     }
 run_goes_on run before mid after output_before output_after after_holds diagnostics_before diagnostics_after after_tells number refused start n following bytes r bytes_read (inr g) place =
     let fault = g.1.1.0.0 in
     let one : refused + n ≡ refused + 1 = omega (arith, g.0) in
-    let partial_report = diagnostic_of (number + 1) (length r.done) fault in
+    let partial_report = diagnostic_of (number + 1) (length r.converted_bytes) fault in
     record {
-      done = r.done ++ bytes;
+      converted_bytes = r.converted_bytes ++ bytes;
       output = r.output;
       diagnostic_lines = r.diagnostic_lines ++ partial_report;
-      consumed_bytes = Consumes-trans before mid after r.done bytes r.consumed_bytes bytes_read;
-      documents = subst (λ (k : ℕ). Dump run (r.done ++ bytes) r.output (r.diagnostic_lines ++ partial_report) (number + 1) k) (sym one)
+      consumed_bytes = Consumes-trans before mid after r.converted_bytes bytes r.consumed_bytes bytes_read;
+      documents = subst (λ (k : ℕ). Dump run (r.converted_bytes ++ bytes) r.output (r.diagnostic_lines ++ partial_report) (number + 1) k) (sym one)
           (skipped_document bytes fault r.documents g.1.0 g.1.1.0.1);
-      place = omega (arith, place, r.place, length-append r.done bytes);
+      offset_is_length = omega (arith, place, r.offset_is_length, length-append r.converted_bytes bytes);
       written = appends_kept output_before output_after after_holds r.output r.written g.1.1.1;
       reports_appended = Appends-trans diagnostics_before diagnostics_after after_tells r.diagnostic_lines partial_report r.reports_appended
-          (subst (λ (s : ℕ). Appends diagnostics_after after_tells (diagnostic_of (number + 1) s fault)) r.place g.1.1.0.2);
+          (subst (λ (s : ℕ). Appends diagnostics_after after_tells (diagnostic_of (number + 1) s fault)) r.offset_is_length g.1.1.0.2);
     }
 
 -- ---- a document without a line
 
 pub cut_line : (run : Run) (number start : ℕ) (bytes line : List ℕ) (output_before output_after diagnostics_after : Option (List ℕ))
-    → IsLine run bytes line → WritesPrefix output_before output_after line
+    → IsLineOfDocument run bytes line → WritesPrefix output_before output_after line
     → IsRunEnd CannotWrite run number start bytes output_before output_after diagnostics_after diagnostics_after
 cut_line run number start bytes line output_before output_after diagnostics_after is cut =
     (cut.beginning, [], inl ((line, is, cut.starts), refl), (cut.written, Appends-nil diagnostics_after))
 
 pub untold : (e : RunFault) (run : Run) (number start : ℕ) (bytes : List ℕ) (fault : RunFault)
-    (output_before diagnostics_before diagnostics_after : Option (List ℕ)) → HasNoLine fault run bytes → IsSkipped run bytes
+    (output_before diagnostics_before diagnostics_after : Option (List ℕ)) → IsRejectedWithFault fault run bytes → IsSkipped run bytes
     → IsReportFailure e number start fault diagnostics_before diagnostics_after → IsRunEnd e run number start bytes output_before output_before diagnostics_before diagnostics_after
 untold e run number start bytes fault output_before diagnostics_before diagnostics_after bad over (inl p) =
     subst (λ (it : RunFault). IsRunEnd it run number start bytes output_before output_before diagnostics_before diagnostics_after) (sym p.0)
@@ -99,7 +99,7 @@ judged_ends OutOfMemory run number start bytes output_before diagnostics_before 
     ([], [], (refl, refl), (Appends-nil output_before, Appends-nil diagnostics_before))
 
 -- what is passed over has no line
-pub bad_bytes : (e : RunFault) (run : Run) (bytes : List ℕ) → IsFaultOfDocument e → IsConversionFault e run bytes → HasNoLine e run bytes
+pub bad_bytes : (e : RunFault) (run : Run) (bytes : List ℕ) → IsFaultOfDocument e → IsConversionFault e run bytes → IsRejectedWithFault e run bytes
 bad_bytes (Malformed k n) run bytes is p = p
 bad_bytes FiniteDouble run bytes is p = p
 bad_bytes CannotRead run bytes is p = p
@@ -115,11 +115,11 @@ pub run_is_done : (run : Run) (before mid after output_before output_after diagn
     (bytes : List ℕ) → DumpProgress run before mid output_before output_after diagnostics_before diagnostics_after number refused start → Consumes mid after bytes
     → bytes ≡ [] → IsAtEnd after → CompletedRun run before after output_before output_after diagnostics_before diagnostics_after number refused
 run_is_done run before mid after output_before output_after diagnostics_before diagnostics_after number refused start bytes r bytes_read nothing end = record {
-  bytes = r.done;
+  bytes = r.converted_bytes;
   output = r.output;
   diagnostic_lines = r.diagnostic_lines;
-  consumed_bytes = subst (Consumes before after) (append-nil r.done)
-      (Consumes-trans before mid after r.done [] r.consumed_bytes (subst (Consumes mid after) nothing bytes_read));
+  consumed_bytes = subst (Consumes before after) (append-nil r.converted_bytes)
+      (Consumes-trans before mid after r.converted_bytes [] r.consumed_bytes (subst (Consumes mid after) nothing bytes_read));
   at_end = end;
   documents = r.documents;
   written = r.written;
@@ -129,22 +129,22 @@ run_is_done run before mid after output_before output_after diagnostics_before d
 pub run_ends : (run : Run) (before mid after output_before output_after after_holds diagnostics_before diagnostics_after after_tells : Option (List ℕ))
     (count refused start number : ℕ) (fault : RunFault) (bytes_read : List ℕ)
     → (r : DumpProgress run before mid output_before output_after diagnostics_before diagnostics_after count refused start) → Consumes mid after bytes_read
-    → number ≡ count + 1 → ConsumesPrefix fault before r.done bytes_read
+    → number ≡ count + 1 → ConsumesPrefix fault before r.converted_bytes bytes_read
     → IsRunEnd fault run number start bytes_read output_after after_holds diagnostics_after after_tells
     → EndsAt run before after output_before after_holds diagnostics_before after_tells fault number refused start
 run_ends run before mid after output_before output_after after_holds diagnostics_before diagnostics_after after_tells count refused start number fault bytes_read r consumed_bytes next front (more, partial_report, why, (w, t)) = record {
-  done = r.done;
+  converted_bytes = r.converted_bytes;
   bytes_read = bytes_read;
   output = r.output;
-  more = more;
+  partial_line = more;
   diagnostic_lines = r.diagnostic_lines;
-  partial_report = partial_report;
-  count = count;
-  consumed_bytes = Consumes-trans before mid after r.done bytes_read r.consumed_bytes consumed_bytes;
+  partial_diagnostic = partial_report;
+  earlier_documents = count;
+  consumed_bytes = Consumes-trans before mid after r.converted_bytes bytes_read r.consumed_bytes consumed_bytes;
   front = front;
   documents = r.documents;
   counted = next;
-  place = r.place;
+  offset_is_length = r.offset_is_length;
   reason = why;
   written = Appends-trans output_before output_after after_holds r.output more r.written w;
   reports_appended = Appends-trans diagnostics_before diagnostics_after after_tells r.diagnostic_lines partial_report r.reports_appended t;
@@ -177,7 +177,7 @@ same_rest (x ∷ a) b (y ∷ c) d e l =
     let f : a ++ b ≡ c ++ d = cc in
     same_rest a b c d f (omega (arith, l))
 
--- what a reader has left behind the bytes that were consumed
+-- what a reader has left after the bytes that were consumed
 pub left : (before mid : Option (List ℕ)) (done rest : List ℕ) → before ≡ Some (done ++ rest)
     → Consumes before mid done → mid ≡ Some rest
 left None mid done rest e c = absurd cc
@@ -201,7 +201,7 @@ pub run_ends_unread : (run : Run) (before mid after output_before output_after d
     → EndsAt run before after output_before output_after diagnostics_before diagnostics_after fault number refused start
 run_ends_unread run before mid after output_before output_after diagnostics_before diagnostics_after count refused start number fault bytes_read r consumed_bytes next why =
     run_ends run before mid after output_before output_after output_after diagnostics_before diagnostics_after diagnostics_after count refused start number fault bytes_read r consumed_bytes next
-    (unread_front fault before r.done bytes_read why)
+    (unread_front fault before r.converted_bytes bytes_read why)
     ([], [], unread_ends fault run number start bytes_read why, (Appends-nil output_after, Appends-nil diagnostics_after))
 
 pub run_ends_at : (run : Run) (before mid after output_before output_after after_holds diagnostics_before diagnostics_after after_tells : Option (List ℕ))
@@ -212,7 +212,7 @@ pub run_ends_at : (run : Run) (before mid after output_before output_after after
     → EndsAt run before after output_before after_holds diagnostics_before after_tells fault number refused start
 run_ends_at run before mid after output_before output_after after_holds diagnostics_before diagnostics_after after_tells count refused start number fault bytes_read r consumed_bytes next some front why =
     run_ends run before mid after output_before output_after after_holds diagnostics_before diagnostics_after after_tells count refused start number fault bytes_read r
-    consumed_bytes next (given_front fault before mid r.done bytes_read r.consumed_bytes some front) why
+    consumed_bytes next (given_front fault before mid r.converted_bytes bytes_read r.consumed_bytes some front) why
 
 pub run_stops_between : (run : Run) (before mid output_before output_after diagnostics_before diagnostics_after : Option (List ℕ))
     (count refused start number : ℕ) → DumpProgress run before mid output_before output_after diagnostics_before diagnostics_after count refused start

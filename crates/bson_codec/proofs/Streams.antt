@@ -8,12 +8,12 @@ use Rattle.std.proofs.lemmas.Bool.{le-ltb, ltb-false}
 use Rattle.std.proofs.lemmas.List.{take_all, take_at, length-append, append-nil}
 use Rattle.bson_model.specs.Value.{Pairs}
 use Rattle.bson_bytes.specs.Grammar.{little_endian, IsDocument, is_document}
-use Rattle.bson_bytes.specs.ReadDocuments.{IsRead, IsFirstDocument}
+use Rattle.bson_bytes.specs.ReadDocuments.{IsReadAsDocument, IsFirstDocument}
 use Rattle.bson_bytes.specs.Reading.{read_length}
 use Rattle.bson_bytes.specs.declared.fault.Fault.{Fault}
 use Rattle.bson_bytes.specs.declared.duplicate_keys.DuplicateKeys.{DuplicateKeys}
 use Rattle.bson_bytes.proofs.Offered.{length-little_endian, wide32, size_again}
-use Rattle.bson_codec.specs.Streams.{BytesAdded, declared_prefix, declared_length, most}
+use Rattle.bson_codec.specs.Streams.{BytesAdded, declared_prefix, declared_length, larger_length}
 
 -- the bytes of a document begin with their number
 pub record Sized (bytes : List ℕ) : Type 0 where
@@ -58,7 +58,7 @@ picked n k true e = omega arith
 picked n k false e = ltb-false k n e
 
 -- the length is no less than that of the bytes
-least : (n : ℕ) (r : Result (ℕ × List ℕ) Fault) → n ≤ most n r
+least : (n : ℕ) (r : Result (ℕ × List ℕ) Fault) → n ≤ larger_length n r
 least n (Ok x) = picked n x.0 (ltb x.0 n) refl
 least n (Err f) = omega arith
 
@@ -67,13 +67,13 @@ promised_is n least small =
     let read : read_length (little_endian w32 n) ≡ Ok (n, []) = ap read_length (sym (append-nil (little_endian w32 n))) ∙ size_again n [] small in
     let four : length (little_endian w32 n) ≡ 4 = length-little_endian w32 (2 ^ 32) wide32 n in
     let no : ltb n (length (little_endian w32 n)) ≡ false = le-ltb n (length (little_endian w32 n)) (omega (arith, least, four)) in
-    ap (most (length (little_endian w32 n))) read ∙ rw no refl
+    ap (larger_length (length (little_endian w32 n))) read ∙ rw no refl
 
 pub front_none : declared_prefix [] ≡ []
 front_none = take_all _ [] (omega arith)
 
 -- a document at the front of bytes is that front
-pub front_read : (d : ℕ) (all : List ℕ) (ps : Pairs) (rest : List ℕ) → IsFirstDocument d all ps rest → IsRead d (declared_prefix all) ps
+pub front_read : (d : ℕ) (all : List ℕ) (ps : Pairs) (rest : List ℕ) → IsFirstDocument d all ps rest → IsReadAsDocument d (declared_prefix all) ps
 front_read d all ps rest h =
     let s = sized h.read.grammar in
     let n = length h.front in
@@ -84,7 +84,7 @@ front_read d all ps rest h =
     let says : declared_length (take 4 all) ≡ n = ap declared_length first ∙ promised_is n s.least s.small in
     let same : declared_prefix all ≡ h.front =
     ap (λ (k : ℕ). take k all) says ∙ ap (take n) h.parts ∙ take_at h.front rest n refl in
-    subst (λ (bytes : List ℕ). IsRead d bytes ps) (sym same) h.read
+    subst (λ (bytes : List ℕ). IsReadAsDocument d bytes ps) (sym same) h.read
 
 bytes_read : (before after : Option (List ℕ)) (new : List ℕ) → BytesAdded before after [] new → Consumes before after new
 bytes_read before after new t = subst (Consumes before after) (sym t.1) t.2

@@ -1,4 +1,4 @@
--- What the types of a document say of it: its texts are UTF-8, and no key stands twice.
+-- What the types of a document say of it: its texts are UTF-8, and no key occurs twice.
 use Rattle.std.proofs.Common.{◌≡◌, ℕ, ◌+◌, ◌<◌, true, false, List, [], ◌∷◌, ◌++◌, length, get_or, drop, String, string_bytes}
 use Rattle.std.proofs.Common.{Result, Ok, Err, OnOk, refl, sym, ap, subst, ◌∙◌, append_assoc, rules}
 use Rattle.std.specs.declared.alloc.Global.{Global}
@@ -13,7 +13,7 @@ use Rattle.bson_model.specs.Value.{Pairs, pair, scalar, code_scope}
 use Rattle.bson_bytes.proofs.Offered.{string_utf8}
 use Rattle.bson_bytes.specs.Grammar.{insert_value, deduplicated_onto, deduplicated}
 use Rattle.bson_bytes.specs.Writing.{IsWellTyped, AreWellTyped, PairsAreWellTyped, IsWellTypedDocument}
-use Rattle.bson.specs.View.{bson_view, scoped_view, document_view, values_view, pairs_view, contents}
+use Rattle.bson.specs.View.{bson_view, code_with_scope_view, document_view, values_view, pairs_view, contents}
 use Rattle.bson.specs.declared.bson.Bson.{Bson, the_lemmas as of_values}
 use Rattle.bson.specs.declared.bson.JavaScriptCodeWithScope.{JavaScriptCodeWithScope, the_lemmas as of_scopes}
 use Rattle.bson.specs.declared.bson.Bson.TheVariants as kinds
@@ -21,7 +21,7 @@ use Rattle.bson.specs.declared.document.Document.{Document}
 use Rattle.bson_codec.proofs.ElementLaws.{item_here}
 use Rattle.bson_codec.proofs.Seen.{document_view-pairs}
 
--- ---- no key stands twice
+-- ---- no key occurs twice
 
 -- none of the pairs has the key
 abbrev Lacks : List ℕ → List (List ℕ × Bson) → Type 0
@@ -107,7 +107,7 @@ regex_seen : (r : Regex)
     → bson_view (kinds.RegularExpression r) ≡ scalar (regex (string_bytes r.pattern) (string_bytes r.options))
 regex_seen r = search (rules, of_values)
 
-scope_seen : (s : JavaScriptCodeWithScope) → scoped_view s ≡ code_scope (string_bytes s.code) (document_view s.scope)
+scope_seen : (s : JavaScriptCodeWithScope) → code_with_scope_view s ≡ code_scope (string_bytes s.code) (document_view s.scope)
 scope_seen s = search (rules, of_scopes)
 
 pub string_typed : (v : Bson) (s : String Global) → v ≡ kinds.String s → IsWellTyped (bson_view v)
@@ -123,5 +123,5 @@ pub regex_typed : (v : Bson) (r : Regex) → v ≡ kinds.RegularExpression r →
 regex_typed v r e =
     subst IsWellTyped (sym (ap bson_view e ∙ regex_seen r)) (string_utf8 r.pattern, string_utf8 r.options)
 
-pub scope_typed : (s : JavaScriptCodeWithScope) → IsWellTypedDocument (document_view s.scope) → IsWellTyped (scoped_view s)
+pub scope_typed : (s : JavaScriptCodeWithScope) → IsWellTypedDocument (document_view s.scope) → IsWellTyped (code_with_scope_view s)
 scope_typed s t = subst IsWellTyped (sym (scope_seen s)) (string_utf8 s.code, t.0, t.1)

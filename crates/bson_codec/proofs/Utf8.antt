@@ -9,7 +9,7 @@ use Rattle.std.proofs.lemmas.Bool.{lt-ltb}
 use Rattle.bson_bytes.specs.declared.fault.FaultKind.{FaultKind}
 use Rattle.bson_bytes.specs.declared.fault.FaultKind.TheVariants as kind
 use Rattle.bson_codec.specs.DumpRuns.{Dump, none, written, skipped_document}
-use Rattle.bson_codec.specs.Diagnostics.{line_feed, place_text, diagnostic_of, fault_kind_message, run_fault_message}
+use Rattle.bson_codec.specs.Diagnostics.{line_feed, offset_suffix, diagnostic_of, fault_kind_message, run_fault_message}
 use Rattle.bson_codec.specs.declared.documents.Run.{Run}
 use Rattle.bson_codec.specs.declared.run_end.RunFault.{RunFault}
 use Rattle.bson_codec.specs.declared.run_end.RunFault.TheVariants.{Malformed, FiniteDouble, CannotRead, CannotWrite}
@@ -51,7 +51,7 @@ words_utf8 CannotRead = IsUtf8-are_ascii (run_fault_message CannotRead) refl
 words_utf8 CannotWrite = IsUtf8-are_ascii (run_fault_message CannotWrite) refl
 words_utf8 OutOfMemory = IsUtf8-are_ascii (run_fault_message OutOfMemory) refl
 
-place_utf8 : (fault : RunFault) → IsUtf8 (place_text fault)
+place_utf8 : (fault : RunFault) → IsUtf8 (offset_suffix fault)
 place_utf8 (Malformed k n) =
     IsUtf8-append (codes " at its byte ") (decimal n) (IsUtf8-are_ascii (codes " at its byte ") refl) (decimal_utf8 n)
 place_utf8 FiniteDouble = IsUtf8-nil
@@ -74,5 +74,5 @@ pub dump_utf8 : {run : Run} {bytes output diagnostics_before : List ℕ} {number
 dump_utf8 none = (IsUtf8-nil, IsUtf8-nil)
 dump_utf8 (written {output = output} bytes line d is) =
     let before = dump_utf8 d in (IsUtf8-append output line before.0 is.utf8, before.1)
-dump_utf8 (skipped_document {diagnostics_before = diagnostics_before} bytes fault d over bad) =
+dump_utf8 (skipped_document {diagnostics = diagnostics_before} bytes fault d over bad) =
     let before = dump_utf8 d in (before.0, IsUtf8-append diagnostics_before _ before.1 (diagnostic_utf8 _ _ fault))

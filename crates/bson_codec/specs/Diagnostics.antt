@@ -22,22 +22,24 @@ fault_kind_message kind.Trailing = codes "trailing bytes after the document"
 fault_kind_message kind.DuplicateKey = codes "duplicate key"
 
 abbrev pub run_fault_message : RunFault → List ℕ
-run_fault_message (Malformed k n) = fault_kind_message k
+run_fault_message (Malformed fault_kind error_offset) = fault_kind_message fault_kind
 run_fault_message FiniteDouble = codes "a finite double"
 run_fault_message CannotRead = codes "cannot read"
 run_fault_message CannotWrite = codes "cannot write"
 run_fault_message OutOfMemory = codes "out of memory"
 
-abbrev pub diagnostic_with : ℕ → ℕ → RunFault → List ℕ → List ℕ
-diagnostic_with number start fault place =
-    codes "document " ++ decimal number ++ codes " at byte " ++ decimal start ++ codes ": " ++ run_fault_message fault ++ place
+abbrev pub diagnostic_with_offset : (document_number document_offset : ℕ) → RunFault → (offset_text : List ℕ) → List ℕ
+diagnostic_with_offset document_number document_offset fault offset_text =
+    codes "document " ++ decimal document_number ++ codes " at byte " ++ decimal document_offset ++ codes ": "
+    ++ run_fault_message fault ++ offset_text
     ++ line_feed
 
 -- where in the document
-abbrev pub place_text : RunFault → List ℕ
-place_text (Malformed k n) = codes " at its byte " ++ decimal n
-place_text other = []
+abbrev pub offset_suffix : RunFault → List ℕ
+offset_suffix (Malformed fault_kind error_offset) = codes " at its byte " ++ decimal error_offset
+offset_suffix other_fault = []
 
 -- a line with the number of the document, its offset and its fault
-abbrev pub diagnostic_of : ℕ → ℕ → RunFault → List ℕ
-diagnostic_of number start fault = diagnostic_with number start fault (place_text fault)
+abbrev pub diagnostic_of : (document_number document_offset : ℕ) → RunFault → List ℕ
+diagnostic_of document_number document_offset fault =
+    diagnostic_with_offset document_number document_offset fault (offset_suffix fault)

@@ -5,7 +5,7 @@ use Rattle.bson_types.specs.declared.spec.ElementType.TheVariants as tag
 use Rattle.bson_scalar.specs.declared.form.Doubles.{Doubles}
 use Rattle.bson_model.specs.Value.{Value, Pairs, document}
 use Rattle.bson_model.specs.OrderedTexts.{HasMeaningInOrder}
-use Rattle.bson_bytes.specs.ReadDocuments.{IsRead}
+use Rattle.bson_bytes.specs.ReadDocuments.{IsReadAsDocument}
 use Rattle.bson_bytes.specs.PutSteps.{put_value, put_document, put_text, put_length_placeholder}
 use Rattle.bson_bytes.specs.Writing.{type_of, name_bytes, document_bytes, pairs_read_back, FitsDocument, PairsNestUpTo, IsWellTyped}
 use Rattle.bson_bytes.specs.Writing.{IsWellTypedDocument}
@@ -17,29 +17,33 @@ pub record IsPackedText (doubles : Doubles) (text bytes : List ℕ) : Type 0 whe
   pub meaning : HasMeaningInOrder doubles text (document pairs)
   pub fits : FitsDocument pairs
   pub canonical : bytes ≡ document_bytes pairs
-  pub back : (d : ℕ) → PairsNestUpTo pairs d → IsRead (suc d) bytes (pairs_read_back pairs)
+  pub back : (depth : ℕ) → PairsNestUpTo pairs depth → IsReadAsDocument (suc depth) bytes (pairs_read_back pairs)
 
 -- ---- for private clauses
 
 -- the element with this name and value was appended to the old bytes
-abbrev pub ElementPut : List ℕ → Value → List ℕ → List ℕ → Type 0
-ElementPut k v old new =
-    IsWellTyped v × (put_value v (old ++ name_bytes (type_of v) k) ≡ Ok new) × (length old ≤ length new)
+abbrev pub ElementAppended : (name : List ℕ) → Value → (old_bytes new_bytes : List ℕ) → Type 0
+ElementAppended name bson_value old_bytes new_bytes =
+    IsWellTyped bson_value × (put_value bson_value (old_bytes ++ name_bytes (type_of bson_value) name) ≡ Ok new_bytes)
+    × (length old_bytes ≤ length new_bytes)
 
 -- the document of the pairs was appended
-abbrev pub DocumentPut : Pairs → List ℕ → List ℕ → Type 0
-DocumentPut ps old new = IsWellTypedDocument ps × (put_document ps old ≡ Ok new) × (length old ≤ length new)
+abbrev pub DocumentAppended : Pairs → (old_bytes new_bytes : List ℕ) → Type 0
+DocumentAppended pairs old_bytes new_bytes = IsWellTypedDocument pairs × (put_document pairs old_bytes ≡ Ok new_bytes)
+    × (length old_bytes ≤ length new_bytes)
 
 -- four bytes for a length were reserved at this position
-abbrev pub LengthReserved : ℕ → List ℕ → List ℕ → Type 0
-LengthReserved start old new = (start ≡ length old) × (new ≡ put_length_placeholder old)
+abbrev pub LengthReserved : (length_start : ℕ) → (old_bytes new_bytes : List ℕ) → Type 0
+LengthReserved length_start old_bytes new_bytes =
+    (length_start ≡ length old_bytes) × (new_bytes ≡ put_length_placeholder old_bytes)
 
-abbrev pub ElementArrayOpened : List ℕ → ℕ → List ℕ → List ℕ → Type 0
-ElementArrayOpened k start old new = LengthReserved start (old ++ name_bytes tag.Array k) new
+abbrev pub ElementArrayOpened : (name : List ℕ) → (length_start : ℕ) → (old_bytes new_bytes : List ℕ) → Type 0
+ElementArrayOpened name length_start old_bytes new_bytes =
+    LengthReserved length_start (old_bytes ++ name_bytes tag.Array name) new_bytes
 
 -- the code before its scope was appended, after four bytes for the length of both at this position
-abbrev pub ElementCodeOpened : List ℕ → List ℕ → ℕ → List ℕ → List ℕ → Type 0
-ElementCodeOpened k s start old new =
-    (is_utf8 s ≡ true) × (start ≡ length (old ++ name_bytes tag.JavaScriptCodeWithScope k))
-    × (put_text s (put_length_placeholder (old ++ name_bytes tag.JavaScriptCodeWithScope k)) ≡ Ok new)
-    × (length old + 4 ≤ length new) × (start + 4 ≤ length new)
+abbrev pub ElementCodeOpened : (name code : List ℕ) → (length_start : ℕ) → (old_bytes new_bytes : List ℕ) → Type 0
+ElementCodeOpened name code length_start old_bytes new_bytes =
+    (is_utf8 code ≡ true) × (length_start ≡ length (old_bytes ++ name_bytes tag.JavaScriptCodeWithScope name))
+    × (put_text code (put_length_placeholder (old_bytes ++ name_bytes tag.JavaScriptCodeWithScope name)) ≡ Ok new_bytes)
+    × (length old_bytes + 4 ≤ length new_bytes) × (length_start + 4 ≤ length new_bytes)

@@ -8,28 +8,34 @@ use Rattle.bson_codec.specs.declared.de.Error.{Error}
 use Rattle.bson_codec.specs.declared.de.Error.TheVariants as errors
 
 -- the error of reading the bytes: its kind, and its offset
-abbrev pub IsFaultAtOffset : {Y : Type 0} → FaultKind → ℕ → List ℕ → Result Y Fault → Type 0
-IsFaultAtOffset k n bytes read = (f : Fault) × (read ≡ Err f) × (k ≡ f.kind) × (n + f.left ≡ length bytes)
+abbrev pub IsFaultAtOffset : {Parsed : Type 0} → FaultKind → (offset : ℕ) → (bytes : List ℕ)
+    → (read_result : Result Parsed Fault)
+    → Type 0
+IsFaultAtOffset fault_kind offset bytes read_result =
+    (fault : Fault) × (read_result ≡ Err fault) × (fault_kind ≡ fault.kind)
+    × (offset + fault.bytes_to_end ≡ length bytes)
 
 -- that fault, or memory ran out
-abbrev pub IsReadFault : {Y : Type 0} → Error → List ℕ → Result Y Fault → Type 0
-IsReadFault errors.OutOfMemory bytes read = Unit {0}
-IsReadFault (errors.Malformed k n) bytes read = IsFaultAtOffset k n bytes read
+abbrev pub IsReadFault : {Parsed : Type 0} → Error → (bytes : List ℕ) → (read_result : Result Parsed Fault) → Type 0
+IsReadFault errors.OutOfMemory bytes read_result = Unit {0}
+IsReadFault (errors.Malformed fault_kind offset) bytes read_result = IsFaultAtOffset fault_kind offset bytes read_result
 
 -- that error, if nothing is allocated
-abbrev pub IsFaultWithoutMemory : {Y : Type 0} → Error → List ℕ → Result Y Fault → Type 0
-IsFaultWithoutMemory errors.OutOfMemory bytes read = ⊥
-IsFaultWithoutMemory (errors.Malformed k n) bytes read = IsFaultAtOffset k n bytes read
+abbrev pub IsFaultWithoutMemory : {Parsed : Type 0} → Error → (bytes : List ℕ) → (read_result : Result Parsed Fault)
+    → Type 0
+IsFaultWithoutMemory errors.OutOfMemory bytes read_result = ⊥
+IsFaultWithoutMemory (errors.Malformed fault_kind offset) bytes read_result =
+    IsFaultAtOffset fault_kind offset bytes read_result
 
 -- ---- for private clauses
 
 -- the error is in the bytes, or at their end, and no duplicate key is possible
-abbrev pub IsInBytes : Stop → List ℕ → Type 0
-IsInBytes (stops.Fault f) bytes = f.left ≤ length bytes
-IsInBytes stops.PossibleDuplicate bytes = ⊥
-IsInBytes stops.OutOfMemory bytes = Unit {0}
+abbrev pub IsStopInBytes : Stop → (bytes : List ℕ) → Type 0
+IsStopInBytes (stops.Fault fault) bytes = fault.bytes_to_end ≤ length bytes
+IsStopInBytes stops.PossibleDuplicate bytes = ⊥
+IsStopInBytes stops.OutOfMemory bytes = Unit {0}
 
 -- the error with its offset in the bytes
-abbrev pub error_with_offset : Stop → List ℕ → Error
-error_with_offset (stops.Fault f) bytes = errors.Malformed f.kind (length bytes - f.left)
-error_with_offset e bytes = errors.OutOfMemory
+abbrev pub error_with_offset : Stop → (bytes : List ℕ) → Error
+error_with_offset (stops.Fault fault) bytes = errors.Malformed fault.kind (length bytes - fault.bytes_to_end)
+error_with_offset stop bytes = errors.OutOfMemory

@@ -4,19 +4,19 @@ use Rattle.bson_store.specs.Pairs.{get}
 use Rattle.bson_store.specs.KeyIndex.{stored_pairs}
 use Rattle.bson_store.specs.declared.small.Pair.{Pair}
 use Rattle.bson_model.specs.Value.{Pairs}
-use Rattle.bson_bytes.specs.Reading.{is_new}
+use Rattle.bson_bytes.specs.Reading.{is_new_key}
 use Rattle.bson.specs.View.{pairs_view}
 use Rattle.bson.specs.declared.bson.Bson.{Bson}
 
 -- the first fact for a document (true), the second for an array
-abbrev pub DocumentOrArray : Bool → Type 0 → Type 0 → Type 0
-DocumentOrArray true D A = D
-DocumentOrArray false D A = A
+abbrev pub DocumentOrArray : (is_document : Bool) → (document_fact array_fact : Type 0) → Type 0
+DocumentOrArray true document_fact array_fact = document_fact
+DocumentOrArray false document_fact array_fact = array_fact
 
 -- the pairs of entries
 abbrev pub entries_view : List (Pair Bson) → Pairs
-entries_view es = pairs_view (stored_pairs es)
+entries_view entries = pairs_view (stored_pairs entries)
 
 -- the keys of the pairs are these
-abbrev pub HaveKeys : List (List ℕ) → List (List ℕ × Bson) → Type 0
-HaveKeys ks ps = (k : List ℕ) → is_some (get k ps) ≡ cond (is_new k ks) false true
+abbrev pub HaveKeys : (keys : List (List ℕ)) → (pairs : List (List ℕ × Bson)) → Type 0
+HaveKeys keys pairs = (key : List ℕ) → is_some (get key pairs) ≡ cond (is_new_key key keys) false true

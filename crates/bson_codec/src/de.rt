@@ -1,12 +1,12 @@
 //! Documents from bytes.
 ghost use Rattle.std.specs.Prelude.{◌≡◌, ◌↔◌, ◌-◌, IfOk, IfErr, OnOk, OnErr, IsTrue, false, length};
 ghost use Rattle.bson_model.specs.Value.{Pairs, no_pairs};
-ghost use Rattle.bson_bytes.specs.ReadDocuments.{IsRead, IsReadIn, IsFirstDocument, IsFirstDocumentIn, IsCanonical};
+ghost use Rattle.bson_bytes.specs.ReadDocuments.{IsReadAsDocument, IsReadAsDocumentIn, IsFirstDocument, IsFirstDocumentIn, IsCanonical};
 ghost use Rattle.bson_bytes.specs.Reading.{read_first_document, read_document_in, reads_bytes, reads_bytes_in, insert_pairs_read, no_earlier_keys};
 ghost use Rattle.bson_bytes.specs.declared.error.Error.TheVariants as causes;
 ghost use Rattle.bson_bytes.specs.declared.duplicate_keys.DuplicateKeys.TheVariants.{Replace};
 ghost use Rattle.bson.specs.View.{document_view};
-ghost use Rattle.bson_codec.specs.ReadErrors.{IsReadFault, IsFaultWithoutMemory, IsInBytes, error_with_offset};
+ghost use Rattle.bson_codec.specs.ReadErrors.{IsReadFault, IsFaultWithoutMemory, IsStopInBytes, error_with_offset};
 ghost use Rattle.bson_codec.specs.declared.de.Error.TheVariants as errors;
 
 use crate::read_to_memory::{read_document, read_first_document};
@@ -95,12 +95,13 @@ pub type Result<T, E = Error> = std::result::Result<T, E>;
 /// - `OutOfMemory`: a request for memory was refused.
 pub fn from_slice(alloc: Global, bytes: &[u8], depth: usize) -> Result<Document>
     // What is read is in the grammar.
-    ensures ok { IfOk result (λ d. IsRead depth bytes.now (document_view d)) }
+    ensures ok { IfOk result (λ document. IsReadAsDocument depth bytes.now (document_view document)) }
     // What is in the grammar is read as its one document, unless memory runs out.
-    ensures only { (ps : Pairs) → IsRead depth bytes.now ps
-        → IfOk result (λ d. document_view d ≡ ps) × IfErr result (λ e. e ≡ errors.OutOfMemory) }
+    ensures only { (pairs : Pairs) → IsReadAsDocument depth bytes.now pairs
+        → IfOk result (λ document. document_view document ≡ pairs)
+        × IfErr result (λ error. error ≡ errors.OutOfMemory) }
     // Which fault it is, and where.
-    ensures fault { IfErr result (λ e. IsReadFault e bytes.now (reads_bytes depth bytes.now)) }
+    ensures fault { IfErr result (λ error. IsReadFault error bytes.now (reads_bytes depth bytes.now)) }
 {
     let options = ReadOptions {
         depth,
@@ -124,13 +125,15 @@ pub fn from_slice(alloc: Global, bytes: &[u8], depth: usize) -> Result<Document>
 /// after it does not count, nor does a length around it, which is checked after its part.
 pub fn from_bytes(alloc: Global, options: ReadOptions, bytes: &[u8]) -> Result<Document>
     // What is read is in the grammar, and has no duplicate key if the options reject those.
-    ensures ok { IfOk result (λ d. IsReadIn options.duplicate_keys options.depth bytes.now (document_view d)) }
+    ensures ok { IfOk result
+        (λ document. IsReadAsDocumentIn options.duplicate_keys options.depth bytes.now (document_view document)) }
     // Each such document is read, unless memory runs out.
-    ensures only { (ps : Pairs) → IsReadIn options.duplicate_keys options.depth bytes.now ps
-        → IfOk result (λ d. document_view d ≡ ps) × IfErr result (λ e. e ≡ errors.OutOfMemory) }
+    ensures only { (pairs : Pairs) → IsReadAsDocumentIn options.duplicate_keys options.depth bytes.now pairs
+        → IfOk result (λ document. document_view document ≡ pairs)
+        × IfErr result (λ error. error ≡ errors.OutOfMemory) }
     // Which fault it is, and where.
     ensures fault { IfErr result
-        (λ e. IsReadFault e bytes.now (reads_bytes_in options.duplicate_keys options.depth bytes.now)) }
+        (λ error. IsReadFault error bytes.now (reads_bytes_in options.duplicate_keys options.depth bytes.now)) }
 {
     match read_document(alloc, bytes, options.depth, options.duplicate_keys) {
         Ok(document) => Ok(document),
@@ -148,12 +151,14 @@ pub fn from_bytes(alloc: Global, options: ReadOptions, bytes: &[u8]) -> Result<D
 /// - `OutOfMemory`: a request for memory was refused.
 pub fn front(alloc: Global, bytes: &[u8], depth: usize) -> Result<(Document, &[u8])>
     // What is read is in the grammar.
-    ensures ok { IfOk result (λ x. IsFirstDocument depth bytes.now (document_view x.0) x.1.now) }
+    ensures ok { IfOk result (λ returned. IsFirstDocument depth bytes.now (document_view returned.0) returned.1.now) }
     // What is in the grammar is read as its one document, unless memory runs out.
-    ensures only { (ps : Pairs) (rest : _) → IsFirstDocument depth bytes.now ps rest
-        → IfOk result (λ x. (document_view x.0 ≡ ps) × (x.1.now ≡ rest)) × IfErr result (λ e. e ≡ errors.OutOfMemory) }
+    ensures only { (pairs : Pairs) (rest : _) → IsFirstDocument depth bytes.now pairs rest
+        → IfOk result (λ returned. (document_view returned.0 ≡ pairs) × (returned.1.now ≡ rest))
+        × IfErr result (λ error. error ≡ errors.OutOfMemory) }
     // Which fault it is, and where.
-    ensures fault { IfErr result (λ e. IsReadFault e bytes.now (insert_pairs_read no_pairs (read_first_document depth bytes.now))) }
+    ensures fault { IfErr result
+        (λ error. IsReadFault error bytes.now (insert_pairs_read no_pairs (read_first_document depth bytes.now))) }
 {
     let options = ReadOptions {
         depth,
@@ -177,12 +182,15 @@ pub fn front_of_bytes(
 ) -> Result<(Document, &[u8])>
     // What is read is in the grammar, and has no duplicate key if the options reject those.
     ensures ok { IfOk result
-        (λ x. IsFirstDocumentIn options.duplicate_keys options.depth bytes.now (document_view x.0) x.1.now) }
+        (λ returned. IsFirstDocumentIn options.duplicate_keys options.depth bytes.now
+        (document_view returned.0) returned.1.now) }
     // Each such document is read, unless memory runs out.
-    ensures only { (ps : Pairs) (rest : _) → IsFirstDocumentIn options.duplicate_keys options.depth bytes.now ps rest
-        → IfOk result (λ x. (document_view x.0 ≡ ps) × (x.1.now ≡ rest)) × IfErr result (λ e. e ≡ errors.OutOfMemory) }
+    ensures only { (pairs : Pairs) (rest : _)
+        → IsFirstDocumentIn options.duplicate_keys options.depth bytes.now pairs rest
+        → IfOk result (λ returned. (document_view returned.0 ≡ pairs) × (returned.1.now ≡ rest))
+        × IfErr result (λ error. error ≡ errors.OutOfMemory) }
     // Which fault it is, and where.
-    ensures fault { IfErr result (λ e. IsReadFault e bytes.now (insert_pairs_read no_pairs
+    ensures fault { IfErr result (λ error. IsReadFault error bytes.now (insert_pairs_read no_pairs
         (read_document_in options.duplicate_keys options.depth (no_earlier_keys options.duplicate_keys) bytes.now))) }
 {
     match read_first_document(alloc, bytes, options.depth, options.duplicate_keys) {
@@ -206,11 +214,11 @@ pub fn front_of_bytes(
 /// ```
 pub fn is_document(bytes: &[u8], depth: usize) -> Result<()>
     // They are in the grammar.
-    ensures ok { OnOk result ((ps : Pairs) × IsRead depth bytes.now ps) }
+    ensures ok { OnOk result ((pairs : Pairs) × IsReadAsDocument depth bytes.now pairs) }
     // What is in the grammar is never refused.
-    ensures only { OnErr result ((ps : Pairs) → IsRead depth bytes.now ps → ⊥) }
+    ensures only { OnErr result ((pairs : Pairs) → IsReadAsDocument depth bytes.now pairs → ⊥) }
     // Which fault it is, and where.
-    ensures fault { IfErr result (λ e. IsFaultWithoutMemory e bytes.now (reads_bytes depth bytes.now)) }
+    ensures fault { IfErr result (λ error. IsFaultWithoutMemory error bytes.now (reads_bytes depth bytes.now)) }
 {
     match nothing_sink::is_document(bytes, depth) {
         Ok(()) => Ok(()),
@@ -225,7 +233,8 @@ pub fn is_document(bytes: &[u8], depth: usize) -> Result<()>
 ///
 /// Returns `AllocError` if a request for memory is refused.
 pub fn is_canonical(alloc: Global, bytes: &[u8], depth: usize) -> Result<bool, AllocError>
-    ensures { IfOk result (λ b. IsTrue b ↔ ((ps : Pairs) × IsCanonical depth bytes.now ps)) }
+    ensures { IfOk result (λ is_canonical_document. IsTrue is_canonical_document ↔ ((pairs : Pairs)
+        × IsCanonical depth bytes.now pairs)) }
 {
     let document = match from_slice(alloc, bytes, depth) {
         Ok(document) => document,
@@ -240,7 +249,8 @@ pub fn is_canonical(alloc: Global, bytes: &[u8], depth: usize) -> Result<bool, A
 
 // Returns false if the document can't be written for this cause.
 fn is_unwritable(error: ser::Error) -> Result<bool, AllocError>
-    ensures { IfOk result (λ b. (b ≡ false) × (error ≡ causes.OutOfMemory → ⊥)) }
+    ensures { IfOk result
+        (λ is_canonical_document. (is_canonical_document ≡ false) × (error ≡ causes.OutOfMemory → ⊥)) }
 {
     match error {
         ser::Error::OutOfMemory => Err(AllocError),
@@ -252,13 +262,13 @@ fn is_unwritable(error: ser::Error) -> Result<bool, AllocError>
 
 // Returns the error with its offset in the bytes.
 pub(crate) fn add_offset(stop: Stop, bytes: &[u8]) -> Error
-    requires { IsInBytes stop bytes.now }
+    requires { IsStopInBytes stop bytes.now }
     ensures { result ≡ error_with_offset stop bytes.now }
 {
     match stop {
         Stop::Fault(fault) => Error::Malformed {
             kind: fault.kind,
-            offset: bytes.len() - fault.left,
+            offset: bytes.len() - fault.bytes_to_end,
         },
         Stop::PossibleDuplicate => unreachable!(),
         Stop::OutOfMemory => Error::OutOfMemory,

@@ -3,13 +3,13 @@ ghost use Rattle.std.specs.Prelude.{◌≡◌, ◌⊎◌, ◌↔◌, ℕ, List, 
 ghost use Rattle.std.specs.Io.KnownBytes.{Appends};
 ghost use Rattle.bson_model.specs.Displayed.{display_text};
 ghost use Rattle.bson_model.specs.Value as model;
-ghost use Rattle.bson_bytes.specs.ReadDocuments.{IsRead};
+ghost use Rattle.bson_bytes.specs.ReadDocuments.{IsReadAsDocument};
 ghost use Rattle.bson.specs.View.{document_view};
 ghost use Rattle.bson.specs.Doubles.TheVariants.{Special};
 ghost use Rattle.bson.specs.Form.TheVariants.{Canonical};
 ghost use Rattle.bson.specs.declared.extjson.key_order.KeyOrder.TheVariants.{AsGiven, Ascending};
 ghost use Rattle.bson_codec.specs.DumpRuns.{BeginsWithLength, CompletedRun, EndsAt, IsLineOrSkip, IsConversionFault};
-ghost use Rattle.bson_codec.specs.DumpRuns.{IsJustified, IsLine, IsFaultOfDocument, IsRunEnd, IsReportFailure, IsLineFault};
+ghost use Rattle.bson_codec.specs.DumpRuns.{IsJustifiedEnd, IsLineOfDocument, IsFaultOfDocument, IsRunEnd, IsReportFailure, IsLineFault};
 ghost use Rattle.bson_codec.specs.DumpRuns.{WritesLine, run_fault};
 ghost use Rattle.bson_codec.specs.Diagnostics.{line_feed, diagnostic_of};
 ghost use Rattle.bson_codec.specs.declared.documents.Line.TheVariants.{Text};
@@ -27,7 +27,7 @@ use std::alloc::Global;
 use std::io::{Read, Write};
 
 /// The number of bytes that are requested from a reader at once. A run has one block, filled with zeros once.
-const BLOCK: usize = 65536;
+const BLOCK_SIZE: usize = 65536;
 
 /// The greatest number of documents in one run.
 const MAX_DOCUMENTS: u64 = u64::MAX - 1;
@@ -143,14 +143,14 @@ pub fn run_documents<R: Read, W: Write, T: Write>(
     ensures done { IfOk result (λ counts. CompletedRun run (R.remaining reader.old) (R.remaining reader.new)
         (W.contents writer.old) (W.contents writer.new) (T.contents report.old) (T.contents report.new)
         counts.documents counts.refused) }
-    ensures fails { IfErr result (λ e. EndsAt run (R.remaining reader.old) (R.remaining reader.new)
+    ensures fails { IfErr result (λ end. EndsAt run (R.remaining reader.old) (R.remaining reader.new)
         (W.contents writer.old) (W.contents writer.new) (T.contents report.old) (T.contents report.new)
-        e.fault e.number e.refused e.start) }
+        end.fault end.number end.refused end.start) }
     // The run ends at a document only if that document cannot be written and is not skipped.
-    ensures justified { IfErr result (λ e. IsJustified run (R.remaining reader.old) e.fault e.start) }
+    ensures justified { IfErr result (λ end. IsJustifiedEnd run (R.remaining reader.old) end.fault end.start) }
 {
     let mut bytes = Vec::new(alloc);
-    let mut block = [0u8; BLOCK];
+    let mut block = [0u8; BLOCK_SIZE];
     let mut refused: u64 = 0;
     let mut start: u64 = 0;
     for documents in 0..MAX_DOCUMENTS {
@@ -167,7 +167,7 @@ pub fn run_documents<R: Read, W: Write, T: Write>(
         if bytes.is_empty() {
             return Ok(DocumentCounts { documents, refused });
         }
-        let Some(following) = start.checked_add(bytes.len() as u64) else {
+        let Some(next_start) = start.checked_add(bytes.len() as u64) else {
             return Err(RunEnd {
                 fault: RunFault::CannotRead,
                 number,
@@ -176,8 +176,8 @@ pub fn run_documents<R: Read, W: Write, T: Write>(
             });
         };
         let bytes = bytes.as_slice();
-        let passed = match write_or_skip(alloc, run, number, start, bytes, writer, report) {
-            Ok(passed) => passed,
+        let newly_skipped = match write_or_skip(alloc, run, number, start, bytes, writer, report) {
+            Ok(newly_skipped) => newly_skipped,
             Err(fault) => {
                 return Err(RunEnd {
                     fault,
@@ -187,8 +187,8 @@ pub fn run_documents<R: Read, W: Write, T: Write>(
                 });
             }
         };
-        refused += passed;
-        start = following;
+        refused += newly_skipped;
+        start = next_start;
     }
     // No run reaches this number of documents.
     Err(RunEnd {
@@ -203,15 +203,15 @@ pub fn run_documents<R: Read, W: Write, T: Write>(
 fn write_or_skip<W: Write, T: Write>(
     alloc: Global,
     run: Run,
-    number: u64,
-    start: u64,
+    document_number: u64,
+    document_offset: u64,
     bytes: &[u8],
     writer: &mut W,
     report: &mut T,
 ) -> Result<u64, RunFault>
-    ensures ok { IfOk result (λ n. IsLineOrSkip n run number start bytes.now (W.contents writer.old)
+    ensures ok { IfOk result (λ skipped_count. IsLineOrSkip skipped_count run document_number document_offset bytes.now (W.contents writer.old)
         (W.contents writer.new) (T.contents report.old) (T.contents report.new)) }
-    ensures fault { IfErr result (λ e. IsRunEnd e run number start bytes.now (W.contents writer.old)
+    ensures fault { IfErr result (λ run_end_fault. IsRunEnd run_end_fault run document_number document_offset bytes.now (W.contents writer.old)
         (W.contents writer.new) (T.contents report.old) (T.contents report.new)) }
 {
     match line_of(alloc, run, bytes) {
@@ -223,7 +223,13 @@ fn write_or_skip<W: Write, T: Write>(
         }
         Err(fault) => {
             if run.keep_going && may_skip(fault, bytes) {
-                return match report_skipped(alloc, number, start, fault, report) {
+                return match report_skipped(
+                    alloc,
+                    document_number,
+                    document_offset,
+                    fault,
+                    report,
+                ) {
                     Ok(()) => Ok(1),
                     Err(error) => Err(error),
                 };
@@ -235,38 +241,38 @@ fn write_or_skip<W: Write, T: Write>(
 
 // Returns the line of the document that the bytes are.
 fn line_of(alloc: Global, run: Run, bytes: &[u8]) -> Result<Vec<u8>, RunFault>
-    ensures ok { IfOk result (λ line. IsLine run bytes.now line.items) }
-    ensures fault { IfErr result (λ e. IsConversionFault e run bytes.now) }
+    ensures ok { IfOk result (λ line. IsLineOfDocument run bytes.now line.items) }
+    ensures fault { IfErr result (λ run_end_fault. IsConversionFault run_end_fault run bytes.now) }
 {
     match run.line {
         Line::Text(form) => text_line(alloc, run, form, bytes),
-        Line::Shown => shown_line(alloc, read(alloc, run, bytes)?),
+        Line::Shown => shown_line(alloc, read_document(alloc, run, bytes)?),
         Line::Nothing => match is_document(bytes, run.depth) {
             Ok(()) => Ok(Vec::new(alloc)),
-            Err(error) => Err(fault_of(error)),
+            Err(error) => Err(to_run_fault(error)),
         },
     }
 }
 
 // Reads the document.
-fn read(alloc: Global, run: Run, bytes: &[u8]) -> Result<Document, RunFault>
-    ensures ok { IfOk result (λ document. IsRead run.depth bytes.now (document_view document)) }
-    ensures fault { IfErr result (λ e. IsConversionFault e run bytes.now) }
+fn read_document(alloc: Global, run: Run, bytes: &[u8]) -> Result<Document, RunFault>
+    ensures ok { IfOk result (λ document. IsReadAsDocument run.depth bytes.now (document_view document)) }
+    ensures fault { IfErr result (λ run_end_fault. IsConversionFault run_end_fault run bytes.now) }
 {
     match from_slice(alloc, bytes, run.depth) {
         Ok(document) => Ok(document),
-        Err(error) => Err(fault_of(error)),
+        Err(error) => Err(to_run_fault(error)),
     }
 }
 
 // Returns the line in the form of the document that the bytes are.
 fn text_line(alloc: Global, run: Run, form: Form, bytes: &[u8]) -> Result<Vec<u8>, RunFault>
     requires { run.line ≡ Text form }
-    ensures ok { IfOk result (λ line. IsLine run bytes.now line.items) }
-    ensures fault { IfErr result (λ e. IsConversionFault e run bytes.now) }
+    ensures ok { IfOk result (λ line. IsLineOfDocument run bytes.now line.items) }
+    ensures fault { IfErr result (λ run_end_fault. IsConversionFault run_end_fault run bytes.now) }
 {
     match run.options.key_order {
-        KeyOrder::Ascending => value_line(alloc, run, form, read(alloc, run, bytes)?),
+        KeyOrder::Ascending => value_line(alloc, run, form, read_document(alloc, run, bytes)?),
         KeyOrder::AsGiven => ordered_line(alloc, run, form, bytes),
     }
 }
@@ -275,20 +281,20 @@ fn text_line(alloc: Global, run: Run, form: Form, bytes: &[u8]) -> Result<Vec<u8
 // order. With finite doubles it needs no document in memory.
 fn ordered_line(alloc: Global, run: Run, form: Form, bytes: &[u8]) -> Result<Vec<u8>, RunFault>
     requires { (run.line ≡ Text form) × (run.options.key_order ≡ AsGiven) }
-    ensures ok { IfOk result (λ line. IsLine run bytes.now line.items) }
-    ensures fault { IfErr result (λ e. IsConversionFault e run bytes.now) }
+    ensures ok { IfOk result (λ line. IsLineOfDocument run bytes.now line.items) }
+    ensures fault { IfErr result (λ run_end_fault. IsConversionFault run_end_fault run bytes.now) }
 {
     match run.options.doubles {
         Doubles::Finite => match decode_text(alloc, form, bytes, run.depth) {
             Ok(text) => end_line(text),
-            Err(error) => Err(fault_of(error)),
+            Err(error) => Err(to_run_fault(error)),
         },
-        Doubles::Special => value_line(alloc, run, form, read(alloc, run, bytes)?),
+        Doubles::Special => value_line(alloc, run, form, read_document(alloc, run, bytes)?),
     }
 }
 
 // Why the bytes are not a document.
-fn fault_of(error: Error) -> RunFault
+fn to_run_fault(error: Error) -> RunFault
     ensures { result ≡ run_fault error }
 {
     match error {
@@ -301,7 +307,7 @@ fn fault_of(error: Error) -> RunFault
 fn value_line(alloc: Global, run: Run, form: Form, document: Document) -> Result<Vec<u8>, RunFault>
     ensures ok { IfOk result
         (λ line. WritesLine run.options (Text form) (document_view document) line.items × IsUtf8 line.items) }
-    ensures fault { IfErr result (λ e. IsLineFault e run.options (Text form) (document_view document)) }
+    ensures fault { IfErr result (λ run_end_fault. IsLineFault run_end_fault run.options (Text form) (document_view document)) }
 {
     match Bson::Document(document).into_text(alloc, run.options, form) {
         Ok(text) => end_line(text),
@@ -314,7 +320,7 @@ fn value_line(alloc: Global, run: Run, form: Form, document: Document) -> Result
 fn shown_line(alloc: Global, document: Document) -> Result<Vec<u8>, RunFault>
     ensures ok { IfOk result (λ line. (line.items ≡ display_text (model.document (document_view document)) ++ line_feed)
         × IsUtf8 line.items) }
-    ensures fault { IfErr result (λ e. e ≡ OutOfMemory) }
+    ensures fault { IfErr result (λ run_end_fault. run_end_fault ≡ OutOfMemory) }
 {
     match format!(in alloc; "{document}\n") {
         Ok(line) => Ok(line.into_bytes()),
@@ -325,7 +331,7 @@ fn shown_line(alloc: Global, document: Document) -> Result<Vec<u8>, RunFault>
 // Appends a newline.
 fn end_line(text: String) -> Result<Vec<u8>, RunFault>
     ensures ok { IfOk result (λ line. (line.items ≡ string_bytes text ++ line_feed) × IsUtf8 line.items) }
-    ensures fault { IfErr result (λ e. e ≡ OutOfMemory) }
+    ensures fault { IfErr result (λ run_end_fault. run_end_fault ≡ OutOfMemory) }
 {
     let mut line = text.into_bytes();
     match line.push(b'\n') {
@@ -337,18 +343,18 @@ fn end_line(text: String) -> Result<Vec<u8>, RunFault>
 // Reports a document that is skipped.
 fn report_skipped<T: Write>(
     alloc: Global,
-    number: u64,
-    start: u64,
+    document_number: u64,
+    document_offset: u64,
     fault: RunFault,
     report: &mut T,
 ) -> Result<(), RunFault>
-    ensures ok { OnOk result (Appends (T.contents report.old) (T.contents report.new) (diagnostic_of number start fault)) }
-    ensures fault { IfErr result (λ e. IsReportFailure e number start fault (T.contents report.old) (T.contents report.new)) }
+    ensures ok { OnOk result (Appends (T.contents report.old) (T.contents report.new) (diagnostic_of document_number document_offset fault)) }
+    ensures fault { IfErr result (λ run_end_fault. IsReportFailure run_end_fault document_number document_offset fault (T.contents report.old) (T.contents report.new)) }
 {
-    let Ok(reported) = diagnostic_line(alloc, number, start, fault) else {
+    let Ok(diagnostic) = diagnostic_line(alloc, document_number, document_offset, fault) else {
         return Err(RunFault::OutOfMemory);
     };
-    match write_whole(report, reported.as_bytes()) {
+    match write_whole(report, diagnostic.as_bytes()) {
         Ok(()) => Ok(()),
         Err(_) => Err(RunFault::CannotWrite),
     }
@@ -359,8 +365,8 @@ fn may_skip(fault: RunFault, bytes: &[u8]) -> bool
     ensures { IsTrue result ↔ IsFaultOfDocument fault × BeginsWithLength bytes.now }
 {
     match fault {
-        RunFault::Malformed { .. } => has_length(bytes),
-        RunFault::FiniteDouble => has_length(bytes),
+        RunFault::Malformed { .. } => has_declared_length(bytes),
+        RunFault::FiniteDouble => has_declared_length(bytes),
         RunFault::CannotRead => false,
         RunFault::CannotWrite => false,
         RunFault::OutOfMemory => false,
@@ -368,7 +374,7 @@ fn may_skip(fault: RunFault, bytes: &[u8]) -> bool
 }
 
 // Whether the number of bytes is the length that they begin with.
-fn has_length(bytes: &[u8]) -> bool
+fn has_declared_length(bytes: &[u8]) -> bool
     ensures { IsTrue result ↔ BeginsWithLength bytes.now }
 {
     match read_length(bytes) {

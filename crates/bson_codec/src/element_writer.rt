@@ -2,12 +2,14 @@
 ghost use Rattle.std.specs.Prelude.{◌≡◌, true, ⊤};
 ghost use Rattle.std.specs.Str.{is_utf8};
 ghost use Rattle.bson_bytes.specs.PutSteps.{has_no_nul};
-ghost use Rattle.bson_text.specs.TraversalErrors.{MayFail};
+ghost use Rattle.bson_text.specs.TraversalErrors.{IsWriterError};
 
 use crate::put_scalars::{put_scalar, type_of};
 use bson_bytes::error::Error;
 use bson_bytes::read_parts::has_no_nul;
-use bson_bytes::write_parts::{put_end, put_length, put_length_placeholder, put_name, put_text};
+use bson_bytes::write_parts::{
+    put_length, put_length_placeholder, put_name, put_nul_and_length, put_text,
+};
 use bson_scalar::scalar::Scalar;
 use bson_text::distinct_keys::are_distinct;
 use bson_text::traversal_error::TraversalError;
@@ -23,32 +25,33 @@ pub(crate) struct ElementWriter {
 }
 
 impl ValueWriter for ElementWriter {
-    type Open = usize;
+    type OpenContainer = usize;
 
     ghost use Rattle.std.specs.Prelude.{decimal};
-    ghost use Rattle.bson_codec.specs.PackedText.{ElementPut, DocumentPut, LengthReserved, ElementArrayOpened, ElementCodeOpened};
+    ghost use Rattle.bson_codec.specs.PackedText.{ElementAppended, DocumentAppended, LengthReserved, ElementArrayOpened, ElementCodeOpened};
 
-    ghost may_give_up = { λ D. ⊤ };
+    ghost may_give_up = { λ doubles. ⊤ };
 
     ghost sorts_keys = { ⊥ };
 
-    ghost item_name_of = { λ n. decimal n };
+    ghost item_name_of = { λ index. decimal index };
 
-    ghost wrote_value = { λ old k v new. ElementPut k v old.bytes.items new.bytes.items };
+    ghost wrote_value = { λ old_writer name value new_writer. ElementAppended name value old_writer.bytes.items new_writer.bytes.items };
 
-    ghost wrote_document = { λ old ps new. DocumentPut ps old.bytes.items new.bytes.items };
+    ghost wrote_document = { λ old_writer pairs new_writer. DocumentAppended pairs old_writer.bytes.items new_writer.bytes.items };
 
-    ghost began_array = { λ old k mark new. ElementArrayOpened k mark old.bytes.items new.bytes.items };
+    ghost began_array = { λ old_writer name length_start new_writer. ElementArrayOpened name length_start old_writer.bytes.items new_writer.bytes.items };
 
-    ghost began_document = { λ old mark new. LengthReserved mark old.bytes.items new.bytes.items };
+    ghost began_document = { λ old_writer length_start new_writer. LengthReserved length_start old_writer.bytes.items new_writer.bytes.items };
 
-    ghost wrote_key = { λ old k new. (new.bytes.items ≡ old.bytes.items) × (has_no_nul k ≡ true) × (is_utf8 k ≡ true) };
+    ghost wrote_key = { λ old_writer name new_writer. (new_writer.bytes.items ≡ old_writer.bytes.items) × (has_no_nul name ≡ true)
+        × (is_utf8 name ≡ true) };
 
-    ghost began_code = { λ old k s mark new. ElementCodeOpened k s mark old.bytes.items new.bytes.items };
+    ghost began_code = { λ old_writer name code length_start new_writer. ElementCodeOpened name code length_start old_writer.bytes.items new_writer.bytes.items };
 
     fn string(&mut self, name: &str, text: &str) -> Result<(), TraversalError> {
         put_name(&mut self.bytes, ElementType::String, name)?;
-        put_text(&mut self.bytes, text).map_err(to_stop)
+        put_text(&mut self.bytes, text).map_err(to_traversal_error)
     }
 
     fn boolean(&mut self, name: &str, truth: bool) -> Result<(), TraversalError> {
@@ -62,30 +65,30 @@ impl ValueWriter for ElementWriter {
 
     fn scalar(&mut self, name: &str, value: Scalar) -> Result<(), TraversalError> {
         put_name(&mut self.bytes, type_of(&value), name)?;
-        put_scalar(&mut self.bytes, &value).map_err(to_stop)
+        put_scalar(&mut self.bytes, &value).map_err(to_traversal_error)
     }
 
-    fn item_name<'b>(buffer: &'b mut Buffer, place: usize) -> &'b str {
-        buffer.format(place)
+    fn item_name<'b>(buffer: &'b mut Buffer, item_index: usize) -> &'b str {
+        buffer.format(item_index)
     }
 
     fn begin_array(&mut self, name: &str) -> Result<usize, TraversalError> {
         put_name(&mut self.bytes, ElementType::Array, name)?;
-        self.begin()
+        self.begin_document()
     }
 
-    fn end_array(&mut self, start: usize) -> Result<(), TraversalError> {
-        put_end(&mut self.bytes, start).map_err(to_stop)
+    fn end_array(&mut self, length_start: usize) -> Result<(), TraversalError> {
+        put_nul_and_length(&mut self.bytes, length_start).map_err(to_traversal_error)
     }
 
-    fn embed(&mut self, name: &str) -> Result<(), TraversalError> {
+    fn embed_document(&mut self, name: &str) -> Result<(), TraversalError> {
         Ok(put_name(&mut self.bytes, ElementType::EmbeddedDocument, name)?)
     }
 
-    fn begin(&mut self) -> Result<usize, TraversalError> {
-        let start = self.bytes.len();
+    fn begin_document(&mut self) -> Result<usize, TraversalError> {
+        let length_start = self.bytes.len();
         put_length_placeholder(&mut self.bytes)?;
-        Ok(start)
+        Ok(length_start)
     }
 
     fn key(&mut self, name: &str) -> Result<(), TraversalError> {
@@ -95,28 +98,32 @@ impl ValueWriter for ElementWriter {
         Ok(())
     }
 
-    fn end(&mut self, start: usize, keys: &mut [&str]) -> Result<(), TraversalError> {
+    fn end_document(
+        &mut self,
+        length_start: usize,
+        keys: &mut [&str],
+    ) -> Result<(), TraversalError> {
         if !are_distinct(*self.bytes.allocator(), keys) {
             return Err(TraversalError::DuplicateKey);
         }
-        put_end(&mut self.bytes, start).map_err(to_stop)
+        put_nul_and_length(&mut self.bytes, length_start).map_err(to_traversal_error)
     }
 
     fn begin_code(&mut self, name: &str, code: &str) -> Result<usize, TraversalError> {
         put_name(&mut self.bytes, ElementType::JavaScriptCodeWithScope, name)?;
-        let start = self.begin()?;
-        put_text(&mut self.bytes, code).map_err(to_stop)?;
-        Ok(start)
+        let length_start = self.begin_document()?;
+        put_text(&mut self.bytes, code).map_err(to_traversal_error)?;
+        Ok(length_start)
     }
 
-    fn end_code(&mut self, start: usize) -> Result<(), TraversalError> {
-        put_length(&mut self.bytes, start).map_err(to_stop)
+    fn end_code(&mut self, length_start: usize) -> Result<(), TraversalError> {
+        put_length(&mut self.bytes, length_start).map_err(to_traversal_error)
     }
 }
 
 // Returns the reason to stop if a part has no bytes.
-fn to_stop(error: Error) -> TraversalError
-    ensures { MayFail (λ D. ⊤) result }
+fn to_traversal_error(error: Error) -> TraversalError
+    ensures { IsWriterError (λ doubles. ⊤) result }
 {
     match error {
         Error::OutOfMemory => TraversalError::OutOfMemory,

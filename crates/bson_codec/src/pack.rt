@@ -28,9 +28,9 @@ pub fn pack_text(
     text: &str,
     scratch: &mut Scratch,
 ) -> Result<Vec<u8>, TraversalError>
-    ensures ok { IfOk result (λ out. IsPackedText doubles text.now out.items) }
+    ensures ok { IfOk result (λ packed_bytes. IsPackedText doubles text.now packed_bytes.items) }
 {
-    match write_packed(alloc, doubles, text, scratch) {
+    match try_pack(alloc, doubles, text, scratch) {
         Ok(packed) => Ok(packed),
         Err(TraversalError::OutOfMemory) => Err(TraversalError::OutOfMemory),
         Err(_) => pack_normalized(alloc, doubles, text, scratch),
@@ -44,44 +44,44 @@ fn pack_normalized(
     text: &str,
     scratch: &mut Scratch,
 ) -> Result<Vec<u8>, TraversalError>
-    ensures ok { IfOk result (λ out. IsPackedText doubles text.now out.items) }
+    ensures ok { IfOk result (λ packed_bytes. IsPackedText doubles text.now packed_bytes.items) }
 {
     let normalized = normalize_text(alloc, Arrangement::FirstPositions, text)?;
-    write_packed(alloc, doubles, normalized.as_str(), scratch)
+    try_pack(alloc, doubles, normalized.as_str(), scratch)
 }
 
 // Stops also at a duplicate key.
-fn write_packed(
+fn try_pack(
     alloc: Global,
     doubles: Doubles,
     text: &str,
     scratch: &mut Scratch,
 ) -> Result<Vec<u8>, TraversalError>
-    ensures ok { IfOk result (λ out. IsPackedText doubles text.now out.items) }
+    ensures ok { IfOk result (λ packed_bytes. IsPackedText doubles text.now packed_bytes.items) }
 {
     if text.len() > LONG_TEXT {
-        return write_long(alloc, doubles, text);
+        return pack_long_text(alloc, doubles, text);
     }
-    write_whole(alloc, doubles, text, scratch)
+    pack_with_scratch(alloc, doubles, text, scratch)
 }
 
 // Encodes a long text with a scratch buffer of its own.
 #[inline(never)]
-fn write_long(alloc: Global, doubles: Doubles, text: &str) -> Result<Vec<u8>, TraversalError>
-    ensures ok { IfOk result (λ out. IsPackedText doubles text.now out.items) }
+fn pack_long_text(alloc: Global, doubles: Doubles, text: &str) -> Result<Vec<u8>, TraversalError>
+    ensures ok { IfOk result (λ packed_bytes. IsPackedText doubles text.now packed_bytes.items) }
 {
     let mut scratch = Scratch::new(alloc);
-    write_whole(alloc, doubles, text, &mut scratch)
+    pack_with_scratch(alloc, doubles, text, &mut scratch)
 }
 
 // Encodes a text of any length with this scratch buffer.
-fn write_whole(
+fn pack_with_scratch(
     alloc: Global,
     doubles: Doubles,
     text: &str,
     scratch: &mut Scratch,
 ) -> Result<Vec<u8>, TraversalError>
-    ensures ok { IfOk result (λ out. IsPackedText doubles text.now out.items) }
+    ensures ok { IfOk result (λ packed_bytes. IsPackedText doubles text.now packed_bytes.items) }
 {
     let writer = ElementWriter {
         bytes: Vec::with_capacity(alloc, text.len())?,

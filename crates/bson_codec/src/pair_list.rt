@@ -8,7 +8,7 @@ ghost use Rattle.bson_bytes.specs.declared.duplicate_keys.DuplicateKeys.{Duplica
 ghost use Rattle.bson_bytes.specs.declared.duplicate_keys.DuplicateKeys.TheVariants.{Replace, Refuse};
 ghost use Rattle.bson_codec.specs.ReadToMemory.{entries_view, HaveKeys};
 ghost use Rattle.bson_model.specs.Value.{Pairs, no_pairs};
-ghost use Rattle.bson_bytes.specs.Source.{reversed_keys, earlier_keys, with_pair};
+ghost use Rattle.bson_bytes.specs.Source.{reversed_keys, earlier_keys, with_last_pair};
 
 use bson::{Bson, Document};
 use bson_bytes::fault::{Fault, FaultKind, fault_at};
@@ -22,27 +22,29 @@ pub(crate) trait PairList: Drop {
     ghost keys: { DuplicateKeys };
 
     // The list has these elements.
-    ghost list_has: { Pairs → Self → Type 0 };
+    ghost list_has_pairs: { Pairs → Self → Type 0 };
 
     /// Returns a list without pairs.
     fn new(alloc: Global) -> Self
-        ensures { list_has no_pairs result };
+        ensures { list_has_pairs no_pairs result };
 
     /// Reads the key at the front of the bytes, which may be the next one of the list.
     fn read_key<'b>(&self, bytes: &'b [u8]) -> Result<(&'b str, &'b [u8]), Fault>
-        ensures outcome { (ps : Pairs) → list_has ps self.now
-            → ReturnsReading (λ x. (x.0.now, x.1.now)) result (read_key (earlier_keys keys true ps) bytes.now) }
-        ensures shorter { IfOk result (λ x. length x.1.now ≤ length bytes.now) };
+        ensures outcome { (pairs_added : Pairs) → list_has_pairs pairs_added self.now
+            → ReturnsReading (λ returned. (returned.0.now, returned.1.now)) result
+            (read_key (earlier_keys keys true pairs_added) bytes.now) }
+        ensures shorter { IfOk result (λ returned. length returned.1.now ≤ length bytes.now) };
 
     /// Adds a pair.
-    fn put(&mut self, key: String, value: Bson) -> Result<(), AllocError>
-        ensures { OnOk result ((ps : Pairs) → list_has ps self.old
-            → list_has (with_pair ps (string_bytes key) (bson_view value)) self.new) };
+    fn put_pair(&mut self, key: String, value: Bson) -> Result<(), AllocError>
+        ensures { OnOk result ((pairs_added : Pairs) → list_has_pairs pairs_added self.old
+            → list_has_pairs (with_last_pair pairs_added (string_bytes key) (bson_view value)) self.new) };
 
     /// Converts the list to a document. If a key is duplicated, its last value wins, at its first
     /// position.
     fn into_document(self, alloc: Global) -> Result<Document, AllocError>
-        ensures { IfOk result (λ d. (ps : Pairs) → list_has ps self → document_view d ≡ deduplicated ps) };
+        ensures { IfOk result (λ document. (pairs_added : Pairs) → list_has_pairs pairs_added self
+            → document_view document ≡ deduplicated pairs_added) };
 }
 
 /// Pairs in the order of the bytes, whose keys may be duplicated.
@@ -54,7 +56,7 @@ pub(crate) struct AnyPairs {
 impl PairList for AnyPairs {
     ghost keys = { Replace };
 
-    ghost list_has = { λ ps list. entries_view list.entries.items ≡ ps };
+    ghost list_has_pairs = { λ pairs_added list. entries_view list.entries.items ≡ pairs_added };
 
     fn new(alloc: Global) -> AnyPairs {
         AnyPairs {
@@ -66,7 +68,7 @@ impl PairList for AnyPairs {
         read_name(bytes)
     }
 
-    fn put(&mut self, key: String, value: Bson) -> Result<(), AllocError> {
+    fn put_pair(&mut self, key: String, value: Bson) -> Result<(), AllocError> {
         Ok(self.entries.push(Pair { key, value })?)
     }
 
@@ -84,8 +86,8 @@ pub(crate) struct DistinctPairs {
 impl PairList for DistinctPairs {
     ghost keys = { Refuse };
 
-    ghost list_has = { λ ps list. (document_view list.inserted ≡ deduplicated ps)
-        × HaveKeys (reversed_keys ps []) (contents list.inserted) };
+    ghost list_has_pairs = { λ pairs_added list. (document_view list.inserted ≡ deduplicated pairs_added)
+        × HaveKeys (reversed_keys pairs_added []) (contents list.inserted) };
 
     fn new(alloc: Global) -> DistinctPairs {
         DistinctPairs {
@@ -101,7 +103,7 @@ impl PairList for DistinctPairs {
         Ok((name, rest))
     }
 
-    fn put(&mut self, key: String, value: Bson) -> Result<(), AllocError> {
+    fn put_pair(&mut self, key: String, value: Bson) -> Result<(), AllocError> {
         match self.inserted.insert(key, value) {
             Ok(_) => Ok(()),
             Err(_) => Err(AllocError),

@@ -39,29 +39,29 @@ pub(crate) fn type_of(scalar: &Scalar) -> ElementType
 
 // Appends the bytes after the name of an element.
 #[tactic(auto, using(bson_bytes::proofs::Offered::string_utf8))]
-pub(crate) fn put_scalar(out: &mut Vec<u8>, scalar: &Scalar) -> Result<(), Error>
-    ensures put { PutsBytes result out.new.items (put_scalar (scalar_view scalar.now) out.old.items) }
+pub(crate) fn put_scalar(output: &mut Vec<u8>, scalar: &Scalar) -> Result<(), Error>
+    ensures put { PutsBytes result output.new.items (put_scalar (scalar_view scalar.now) output.old.items) }
     ensures typed { OnOk result (IsWellTypedScalar (scalar_view scalar.now)) }
-    ensures grows { OnOk result (length out.old.items ≤ length out.new.items) }
+    ensures grows { OnOk result (length output.old.items ≤ length output.new.items) }
 {
     match scalar {
         Scalar::Null => Ok(()),
         Scalar::Undefined => Ok(()),
         Scalar::MinKey => Ok(()),
         Scalar::MaxKey => Ok(()),
-        Scalar::Boolean(truth) => Ok(out.push(u8::from(*truth))?),
-        Scalar::Double(pattern) => Ok(put_u64(out, *pattern)?),
-        Scalar::Int32(number) => Ok(put_u32(out, number.cast_unsigned())?),
-        Scalar::Int64(number) => Ok(put_u64(out, number.cast_unsigned())?),
-        Scalar::String(text) => put_text(out, text.as_str()),
-        Scalar::Symbol(symbol) => put_text(out, symbol.as_str()),
-        Scalar::JavaScriptCode(code) => put_text(out, code.as_str()),
-        Scalar::RegularExpression(regex) => put_regex(out, regex),
-        Scalar::Timestamp(timestamp) => Ok(put_timestamp(out, *timestamp)?),
-        Scalar::Binary(binary) => put_binary(out, binary),
-        Scalar::ObjectId(id) => Ok(out.extend_from_slice(&id.bytes())?),
-        Scalar::DateTime(date) => Ok(put_u64(out, date.timestamp_millis().cast_unsigned())?),
-        Scalar::Decimal128(decimal) => Ok(out.extend_from_slice(&decimal.bytes())?),
-        Scalar::DbPointer(pointer) => put_pointer(out, pointer),
+        Scalar::Boolean(truth) => Ok(output.push(u8::from(*truth))?),
+        Scalar::Double(pattern) => Ok(put_u64(output, *pattern)?),
+        Scalar::Int32(number) => Ok(put_u32(output, number.cast_unsigned())?),
+        Scalar::Int64(number) => Ok(put_u64(output, number.cast_unsigned())?),
+        Scalar::String(text) => put_text(output, text.as_str()),
+        Scalar::Symbol(symbol) => put_text(output, symbol.as_str()),
+        Scalar::JavaScriptCode(code) => put_text(output, code.as_str()),
+        Scalar::RegularExpression(regex) => put_regex(output, regex),
+        Scalar::Timestamp(timestamp) => Ok(put_timestamp(output, *timestamp)?),
+        Scalar::Binary(binary) => put_binary(output, binary),
+        Scalar::ObjectId(id) => Ok(output.extend_from_slice(&id.bytes())?),
+        Scalar::DateTime(date) => Ok(put_u64(output, date.timestamp_millis().cast_unsigned())?),
+        Scalar::Decimal128(decimal) => Ok(output.extend_from_slice(&decimal.bytes())?),
+        Scalar::DbPointer(pointer) => put_pointer(output, pointer),
     }
 }

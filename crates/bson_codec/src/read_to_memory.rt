@@ -21,7 +21,7 @@ pub(crate) fn read_document(
     depth: usize,
     keys: DuplicateKeys,
 ) -> Result<Document, Stop>
-    ensures { ReadsAllTo (λ e. e ≡ stops.OutOfMemory) (λ ps d. document_view d ≡ ps) result
+    ensures { ReadsAllTo (λ stop. stop ≡ stops.OutOfMemory) (λ pairs document. document_view document ≡ pairs) result
         (reads_bytes_in keys depth bytes.now) }
 {
     match keys {
@@ -41,7 +41,8 @@ pub(crate) fn read_first_document(
     depth: usize,
     keys: DuplicateKeys,
 ) -> Result<(Document, &[u8]), Stop>
-    ensures { ReadsTo (λ e. e ≡ stops.OutOfMemory) (λ x. x.1.now) (λ ps x. document_view x.0 ≡ ps) result
+    ensures { ReadsTo (λ stop. stop ≡ stops.OutOfMemory) (λ returned. returned.1.now)
+        (λ pairs returned. document_view returned.0 ≡ pairs) result
         (insert_pairs_read no_pairs (read_document_in keys depth (no_earlier_keys keys) bytes.now)) }
 {
     match keys {

@@ -1,6 +1,6 @@
 //! Why a run over documents ends or skips a document, and its diagnostic.
 ghost use Rattle.std.specs.Prelude.{◌≡◌, IfOk, string_bytes};
-ghost use Rattle.bson_codec.specs.Diagnostics.{place_text, diagnostic_of, diagnostic_with, fault_kind_message, run_fault_message};
+ghost use Rattle.bson_codec.specs.Diagnostics.{offset_suffix, diagnostic_of, diagnostic_with_offset, fault_kind_message, run_fault_message};
 
 use bson_bytes::fault::FaultKind;
 use std::alloc::{AllocError, Global};
@@ -63,7 +63,8 @@ impl RunEnd {
     ///
     /// Returns `AllocError` if a request for memory is refused.
     pub fn to_line(&self, alloc: Global) -> Result<String, AllocError>
-        ensures { IfOk result (λ reported. string_bytes reported ≡ diagnostic_of self.now.number self.now.start self.now.fault) }
+        ensures { IfOk result
+            (λ diagnostic. string_bytes diagnostic ≡ diagnostic_of self.now.number self.now.start self.now.fault) }
     {
         diagnostic_line(alloc, self.number, self.start, self.fault)
     }
@@ -72,28 +73,39 @@ impl RunEnd {
 /// Returns the diagnostic of a document and its fault, and a newline.
 pub(crate) fn diagnostic_line(
     alloc: Global,
-    number: u64,
-    start: u64,
+    document_number: u64,
+    document_offset: u64,
     fault: RunFault,
 ) -> Result<String, AllocError>
-    ensures { IfOk result (λ reported. string_bytes reported ≡ diagnostic_of number start fault) }
+    ensures { IfOk result
+        (λ diagnostic. string_bytes diagnostic ≡ diagnostic_of document_number document_offset fault) }
 {
-    let place = fault.place(alloc)?;
-    with_place(alloc, number, start, fault, place.as_str())
+    let suffix = fault.offset_suffix(alloc)?;
+    diagnostic_with_suffix(
+        alloc,
+        document_number,
+        document_offset,
+        fault,
+        suffix.as_str(),
+    )
 }
 
 // Returns the diagnostic with the document, the message of the fault, and its offset.
-fn with_place(
+fn diagnostic_with_suffix(
     alloc: Global,
-    number: u64,
-    start: u64,
+    document_number: u64,
+    document_offset: u64,
     fault: RunFault,
-    place: &str,
+    suffix: &str,
 ) -> Result<String, AllocError>
-    ensures { IfOk result (λ reported. string_bytes reported ≡ diagnostic_with number start fault place.now) }
+    ensures { IfOk result
+        (λ diagnostic. string_bytes diagnostic
+        ≡ diagnostic_with_offset document_number document_offset fault suffix.now) }
 {
-    let words = fault.message();
-    format!(in alloc; "document {number} at byte {start}: {words}{place}\n")
+    let message_text = fault.message();
+    format!(in alloc;
+        "document {document_number} at byte {document_offset}: {message_text}{suffix}\n"
+    )
 }
 
 impl RunFault {
@@ -111,8 +123,8 @@ impl RunFault {
     }
 
     // Returns the offset in the document as text.
-    fn place(self, alloc: Global) -> Result<String, AllocError>
-        ensures { IfOk result (λ place. string_bytes place ≡ place_text self) }
+    fn offset_suffix(self, alloc: Global) -> Result<String, AllocError>
+        ensures { IfOk result (λ suffix. string_bytes suffix ≡ offset_suffix self) }
     {
         match self {
             RunFault::Malformed { offset, .. } => format!(in alloc; " at its byte {offset}"),

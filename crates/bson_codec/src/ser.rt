@@ -1,6 +1,6 @@
 //! Bytes of documents.
 ghost use Rattle.std.specs.Prelude.{◌≡◌, ℕ, suc, IfOk, OnOk, IfErr};
-ghost use Rattle.bson_bytes.specs.ReadDocuments.{IsRead};
+ghost use Rattle.bson_bytes.specs.ReadDocuments.{IsReadAsDocument};
 ghost use Rattle.bson_bytes.specs.Writing.{document_bytes, pairs_read_back, FitsDocument, IsWellTypedDocument, PairsNestUpTo};
 ghost use Rattle.bson_bytes.specs.declared.error.Error.TheVariants as errors;
 ghost use Rattle.bson.specs.View.{document_view};
@@ -36,19 +36,19 @@ pub type Result<T, E = Error> = std::result::Result<T, E>;
 /// ```
 pub fn to_vec(alloc: Global, document: &Document) -> Result<Vec<u8>>
     // The canonical bytes, and each part fits.
-    ensures ok { IfOk result (λ out. out.items ≡ document_bytes (document_view document.now)) }
+    ensures ok { IfOk result (λ output. output.items ≡ document_bytes (document_view document.now)) }
     ensures fits { OnOk result (FitsDocument (document_view document.now)) }
     // Its texts are UTF-8, its numbers are in range, and it has no duplicate key, at any depth.
     ensures typed { OnOk result (IsWellTypedDocument (document_view document.now)) }
     // They are read back as the document, each binary under the subtype that its byte names.
-    ensures back { IfOk result (λ out. (d : ℕ) → PairsNestUpTo (document_view document.now) d
-        → IsRead (suc d) out.items (pairs_read_back (document_view document.now))) }
+    ensures back { IfOk result (λ output. (depth : ℕ) → PairsNestUpTo (document_view document.now) depth
+        → IsReadAsDocument (suc depth) output.items (pairs_read_back (document_view document.now))) }
     // If each part fits, only memory can fail.
-    ensures only { FitsDocument (document_view document.now) → IfErr result (λ e. e ≡ errors.OutOfMemory) }
+    ensures only { FitsDocument (document_view document.now) → IfErr result (λ error. error ≡ errors.OutOfMemory) }
     // It is the cause of the first part, in the order of writing, that has no bytes.
-    ensures cause { IfErr result (λ e. IsWriteErrorFor e (document_view document.now)) }
+    ensures cause { IfErr result (λ error. IsWriteErrorFor error (document_view document.now)) }
 {
-    let mut out = Vec::new(alloc);
-    put_document(&mut out, document)?;
-    Ok(out)
+    let mut output = Vec::new(alloc);
+    put_document(&mut output, document)?;
+    Ok(output)
 }

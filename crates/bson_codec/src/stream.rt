@@ -2,7 +2,7 @@
 ghost use Rattle.std.specs.Prelude.{◌≡◌, ◌<◌, ◌≤◌, ◌⊎◌, ℕ, List, [], Some, length, vec_len, IfOk, IfErr, OnOk};
 ghost use Rattle.std.specs.Io.KnownBytes.{Appends, Consumes, IsAtEnd};
 ghost use Rattle.bson_model.specs.Value.{Pairs};
-ghost use Rattle.bson_bytes.specs.ReadDocuments.{IsRead, IsFirstDocument};
+ghost use Rattle.bson_bytes.specs.ReadDocuments.{IsReadAsDocument, IsFirstDocument};
 ghost use Rattle.bson_bytes.specs.Writing.{document_bytes, FitsDocument};
 ghost use Rattle.bson.specs.View.{document_view};
 ghost use Rattle.bson_codec.specs.Streams.{IsReaderErrorFor, IsReaderOrMemoryFailure, IsWriteFailure, IsSystemFailure, BytesAdded, WritesPrefix};
@@ -20,7 +20,7 @@ use std::alloc::Global;
 use std::io::{Read, Write};
 
 /// The number of bytes that are requested from a reader at once.
-const BLOCK: usize = 4096;
+const BLOCK_SIZE: usize = 4096;
 
 /// The length that begins a document.
 const LENGTH_BYTES: usize = 4;
@@ -94,17 +94,18 @@ pub fn from_reader<R: Read>(
     depth: usize,
 ) -> Result<Document, ReaderError>
     // The bytes that were read are in the grammar.
-    ensures ok { IfOk result (λ d. (bytes : List ℕ) × Consumes (R.remaining reader.old) (R.remaining reader.new) bytes
-        × IsRead depth bytes (document_view d)) }
+    ensures ok { IfOk result (λ document. (bytes : List ℕ)
+        × Consumes (R.remaining reader.old) (R.remaining reader.new) bytes
+        × IsReadAsDocument depth bytes (document_view document)) }
     // A document at the front is read, and no byte after it.
-    ensures only { (all : List ℕ) (ps : Pairs) (rest : List ℕ) → R.remaining reader.old ≡ Some all
-        → IsFirstDocument depth all ps rest → IfErr result (λ e. IsReaderOrMemoryFailure e) }
+    ensures only { (all_bytes : List ℕ) (pairs : Pairs) (rest : List ℕ) → R.remaining reader.old ≡ Some all_bytes
+        → IsFirstDocument depth all_bytes pairs rest → IfErr result (λ error. IsReaderOrMemoryFailure error) }
     // Which error of the bytes it is, and where.
     ensures fault { IfErr result
-        (λ e. IsReaderErrorFor depth (R.remaining reader.old) (R.remaining reader.new) e) }
+        (λ error. IsReaderErrorFor depth (R.remaining reader.old) (R.remaining reader.new) error) }
 {
     let mut bytes = Vec::new(alloc);
-    let mut block = [0u8; BLOCK];
+    let mut block = [0u8; BLOCK_SIZE];
     read_document_bytes(reader, &mut block, &mut bytes)?;
     match from_slice(alloc, bytes.as_slice(), depth) {
         Ok(document) => Ok(document),
@@ -130,9 +131,9 @@ pub fn to_writer<W: Write>(
         (Appends (W.contents writer.old) (W.contents writer.new) (document_bytes (document_view document.now))) }
     ensures fits { OnOk result (FitsDocument (document_view document.now)) }
     // If each part fits, only memory or the writer can fail.
-    ensures only { FitsDocument (document_view document.now) → IfErr result (λ e. IsSystemFailure e) }
+    ensures only { FitsDocument (document_view document.now) → IfErr result (λ error. IsSystemFailure error) }
     // Why, and what was written.
-    ensures cause { IfErr result (λ e. IsWriteFailure e (document_view document.now) (W.contents writer.old)
+    ensures cause { IfErr result (λ error. IsWriteFailure error (document_view document.now) (W.contents writer.old)
         (W.contents writer.new)) }
 {
     match to_vec(alloc, document) {
@@ -150,10 +151,11 @@ pub(crate) fn read_document_bytes<R: Read>(
 ) -> Result<(), ReaderError>
     requires { 0 < length block.old }
     ensures bytes_read { OnOk result (Consumes (R.remaining reader.old) (R.remaining reader.new) bytes.new.items) }
-    ensures front { (all : List ℕ) → R.remaining reader.old ≡ Some all → OnOk result (bytes.new.items ≡ declared_prefix all) }
-    ensures end { OnOk result (bytes.new.items ≡ [] → IsAtEnd (R.remaining reader.new)) }
-    ensures some { (more : List ℕ) × Consumes (R.remaining reader.old) (R.remaining reader.new) more }
-    ensures fault { IfErr result (λ e. (e ≡ read_errors.CannotRead) ⊎ (e ≡ read_errors.OutOfMemory)) }
+    ensures front { (all_bytes : List ℕ) → R.remaining reader.old ≡ Some all_bytes
+        → OnOk result (bytes.new.items ≡ declared_prefix all_bytes) }
+    ensures reader_at_end { OnOk result (bytes.new.items ≡ [] → IsAtEnd (R.remaining reader.new)) }
+    ensures bytes_consumed { (consumed : List ℕ) × Consumes (R.remaining reader.old) (R.remaining reader.new) consumed }
+    ensures fault { IfErr result (λ error. (error ≡ read_errors.CannotRead) ⊎ (error ≡ read_errors.OutOfMemory)) }
 {
     bytes.clear();
     fill_to(reader, block, bytes, LENGTH_BYTES)?;
@@ -175,26 +177,26 @@ fn fill_to<R: Read>(
     requires fewer { vec_len bytes.old ≤ count }
     ensures bytes_read { OnOk result
         (BytesAdded (R.remaining reader.old) (R.remaining reader.new) bytes.old.items bytes.new.items) }
-    ensures end { OnOk result ((length bytes.new.items ≡ count) ⊎ IsAtEnd (R.remaining reader.new)) }
+    ensures reader_at_end { OnOk result ((length bytes.new.items ≡ count) ⊎ IsAtEnd (R.remaining reader.new)) }
     ensures bound { OnOk result (length bytes.new.items ≤ count) }
-    ensures some { (more : List ℕ) × Consumes (R.remaining reader.old) (R.remaining reader.new) more }
-    ensures fault { IfErr result (λ e. (e ≡ read_errors.CannotRead) ⊎ (e ≡ read_errors.OutOfMemory)) }
+    ensures bytes_consumed { (consumed : List ℕ) × Consumes (R.remaining reader.old) (R.remaining reader.new) consumed }
+    ensures fault { IfErr result (λ error. (error ≡ read_errors.CannotRead) ⊎ (error ≡ read_errors.OutOfMemory)) }
 {
     while bytes.len() < count {
-        let wanted = count - bytes.len();
-        let room = if wanted < block.len() {
-            wanted
+        let missing_count = count - bytes.len();
+        let max_count = if missing_count < block.len() {
+            missing_count
         } else {
             block.len()
         };
-        let span = &mut block[..room];
-        let Ok(count_read) = reader.read(span) else {
+        let buffer = &mut block[..max_count];
+        let Ok(count_read) = reader.read(buffer) else {
             return Err(ReaderError::CannotRead);
         };
         if count_read == 0 {
             return Ok(());
         }
-        let Ok(()) = bytes.extend_from_slice(&span[..count_read]) else {
+        let Ok(()) = bytes.extend_from_slice(&buffer[..count_read]) else {
             return Err(ReaderError::OutOfMemory);
         };
     }
@@ -221,14 +223,15 @@ fn declared_size(bytes: &[u8]) -> usize
 // Writes all bytes.
 pub(crate) fn write_whole<W: Write>(writer: &mut W, bytes: &[u8]) -> Result<(), WriterError>
     ensures ok { OnOk result (Appends (W.contents writer.old) (W.contents writer.new) bytes.now) }
-    ensures cut { IfErr result (λ e. WritesPrefix (W.contents writer.old) (W.contents writer.new) bytes.now) }
-    ensures fault { IfErr result (λ e. e ≡ write_errors.CannotWrite) }
+    ensures prefix_written { IfErr result
+        (λ error. WritesPrefix (W.contents writer.old) (W.contents writer.new) bytes.now) }
+    ensures fault { IfErr result (λ error. error ≡ write_errors.CannotWrite) }
 {
-    let mut at = 0;
-    while at < bytes.len() {
-        match writer.write(&bytes[at..]) {
+    let mut written_count = 0;
+    while written_count < bytes.len() {
+        match writer.write(&bytes[written_count..]) {
             Ok(0) | Err(_) => return Err(WriterError::CannotWrite),
-            Ok(count) => at += count,
+            Ok(count) => written_count += count,
         }
     }
     Ok(())

@@ -1,6 +1,6 @@
 //! The text of a document's bytes.
 ghost use Rattle.std.specs.Prelude.{◌≡◌, IfOk, IfErr, string_bytes};
-ghost use Rattle.bson_bytes.specs.ReadDocuments.{IsRead};
+ghost use Rattle.bson_bytes.specs.ReadDocuments.{IsReadAsDocument};
 ghost use Rattle.bson_bytes.specs.Reading.{reads_bytes};
 ghost use Rattle.bson_codec.specs.ReadErrors.{IsReadFault};
 ghost use Rattle.bson_codec.specs.DocumentText.{IsDocumentTextOf};
@@ -31,11 +31,12 @@ use std::alloc::Global;
 /// ```
 pub fn decode_text(alloc: Global, form: Form, bytes: &[u8], depth: usize) -> Result<String, Error>
     // The bytes are a document, and this is its text.
-    ensures ok { IfOk result (λ s. IsDocumentTextOf form depth bytes.now (string_bytes s)) }
+    ensures ok { IfOk result (λ text. IsDocumentTextOf form depth bytes.now (string_bytes text)) }
     // The bytes of a document are refused only if memory runs out.
-    ensures only { (ps : Pairs) → IsRead depth bytes.now ps → IfErr result (λ e. e ≡ errors.OutOfMemory) }
+    ensures only { (pairs : Pairs) → IsReadAsDocument depth bytes.now pairs
+        → IfErr result (λ error. error ≡ errors.OutOfMemory) }
     // Which fault it is, and where.
-    ensures fault { IfErr result (λ e. IsReadFault e bytes.now (reads_bytes depth bytes.now)) }
+    ensures fault { IfErr result (λ error. IsReadFault error bytes.now (reads_bytes depth bytes.now)) }
 {
     match document_text(alloc, form, bytes, depth) {
         Ok(text) => Ok(text),
@@ -47,9 +48,10 @@ pub fn decode_text(alloc: Global, form: Form, bytes: &[u8], depth: usize) -> Res
 
 // Decodes the bytes through a document in memory.
 fn decode_by_value(alloc: Global, form: Form, bytes: &[u8], depth: usize) -> Result<String, Error>
-    ensures ok { IfOk result (λ s. IsDocumentTextOf form depth bytes.now (string_bytes s)) }
-    ensures only { (ps : Pairs) → IsRead depth bytes.now ps → IfErr result (λ e. e ≡ errors.OutOfMemory) }
-    ensures fault { IfErr result (λ e. IsReadFault e bytes.now (reads_bytes depth bytes.now)) }
+    ensures ok { IfOk result (λ text. IsDocumentTextOf form depth bytes.now (string_bytes text)) }
+    ensures only { (pairs : Pairs) → IsReadAsDocument depth bytes.now pairs
+        → IfErr result (λ error. error ≡ errors.OutOfMemory) }
+    ensures fault { IfErr result (λ error. IsReadFault error bytes.now (reads_bytes depth bytes.now)) }
 {
     let options = Options {
         doubles: Doubles::Finite,

@@ -5,13 +5,13 @@ ghost use Rattle.bson_bytes.specs.Grammar.{pair_values};
 ghost use Rattle.bson_bytes.specs.Reading.{read_key, read_name};
 ghost use Rattle.bson_codec.specs.ReadToMemory.{DocumentOrArray};
 ghost use Rattle.bson_model.specs.Value.{Pairs, scalar, code_scope};
-ghost use Rattle.bson_bytes.specs.FixedScalars.{fixed_view};
-ghost use Rattle.bson_bytes.specs.Source.{ReadsTo, earlier_keys, with_pair};
+ghost use Rattle.bson_bytes.specs.FixedScalars.{fixed_scalar_view};
+ghost use Rattle.bson_bytes.specs.Source.{ReadsTo, earlier_keys, with_last_pair};
 ghost use Rattle.bson_bytes.specs.declared.stop.Stop.TheVariants as stops;
 
 use crate::pair_list::PairList;
 use bson::{Binary, Bson, DbPointer, Document, JavaScriptCodeWithScope, ObjectId, Regex};
-use bson_bytes::fixed_scalar::FixedScalar;
+use bson_bytes::fixed_scalar::FixedSizeScalar;
 use bson_bytes::read_parts::skip_name;
 use bson_bytes::sink::ValueSink;
 use bson_bytes::stop::Stop;
@@ -23,7 +23,7 @@ use std::marker::PhantomData;
 #[derive(Drop)]
 pub(crate) struct Values<P: PairList> {
     alloc: Global,
-    of: PhantomData<P>,
+    pair_list: PhantomData<P>,
 }
 
 /// The elements of an open array or document.
@@ -37,7 +37,7 @@ impl<P: PairList> Values<P> {
     pub(crate) fn new(alloc: Global) -> Values<P> {
         Values {
             alloc,
-            of: PhantomData,
+            pair_list: PhantomData,
         }
     }
 }
@@ -45,7 +45,7 @@ impl<P: PairList> Values<P> {
 impl<P: PairList> ValueSink for Values<P> {
     type Value = Bson;
 
-    type Open = Elements<P>;
+    type OpenList = Elements<P>;
 
     type Name = String;
 
@@ -55,19 +55,19 @@ impl<P: PairList> ValueSink for Values<P> {
 
     ghost keys = { P.keys };
 
-    ghost may_stop = { λ e. e ≡ stops.OutOfMemory };
+    ghost may_stop = { λ stop. stop ≡ stops.OutOfMemory };
 
-    ghost value_written = { λ old v x new. bson_view x ≡ v };
+    ghost value_written = { λ old_sink value value_made new_sink. bson_view value_made ≡ value };
 
-    ghost list_opened = { λ b old ps list new. DocumentOrArray b (P.list_has ps list.pairs) (values_view list.items.items ≡ pair_values ps) };
+    ghost list_opened = { λ is_document old_sink pairs_read list new_sink. DocumentOrArray is_document (P.list_has_pairs pairs_read list.pairs) (values_view list.items.items ≡ pair_values pairs_read) };
 
-    ghost name_written = { λ b old k name new. DocumentOrArray b (string_bytes name ≡ k) (Unit {0}) };
+    ghost name_written = { λ is_document old_sink key name new_sink. DocumentOrArray is_document (string_bytes name ≡ key) (Unit {0}) };
 
-    ghost document_written = { λ old ps d new. document_view d ≡ ps };
+    ghost document_written = { λ old_sink pairs_read document new_sink. document_view document ≡ pairs_read };
 
-    ghost code_opened = { λ old s code new. string_bytes code ≡ s };
+    ghost code_opened = { λ old_sink code_text code new_sink. string_bytes code ≡ code_text };
 
-    fn fixed_scalar(&mut self, value: FixedScalar) -> Result<Bson, AllocError> {
+    fn fixed_scalar(&mut self, value: FixedSizeScalar) -> Result<Bson, AllocError> {
         Ok(from_fixed_scalar(value))
     }
 
@@ -128,7 +128,7 @@ impl<P: PairList> ValueSink for Values<P> {
         value: Bson,
     ) -> Result<(), AllocError> {
         if is_document {
-            list.pairs.put(name, value)
+            list.pairs.put_pair(name, value)
         } else {
             push_item(&mut list.items, value)
         }
@@ -142,8 +142,8 @@ impl<P: PairList> ValueSink for Values<P> {
         Ok(list.pairs.into_document(self.alloc)?)
     }
 
-    fn embed(&mut self, outcome: Document) -> Result<Bson, AllocError> {
-        Ok(Bson::Document(outcome))
+    fn embed_document(&mut self, document: Document) -> Result<Bson, AllocError> {
+        Ok(Bson::Document(document))
     }
 
     fn begin_code(&mut self, text: &str) -> Result<String, AllocError> {
@@ -161,9 +161,11 @@ fn read_key_copy<'b, P: PairList>(
     pairs: &P,
     bytes: &'b [u8],
 ) -> Result<(String, &'b [u8]), Stop>
-    ensures outcome { (ps : Pairs) → P.list_has ps pairs.now → ReadsTo (λ e. e ≡ stops.OutOfMemory) (λ x. x.1.now)
-        (λ s x. string_bytes x.0 ≡ s) result (read_key (earlier_keys P.keys true ps) bytes.now) }
-    ensures shorter { IfOk result (λ x. length x.1.now ≤ length bytes.now) }
+    ensures outcome { (pairs_read : Pairs) → P.list_has_pairs pairs_read pairs.now
+        → ReadsTo (λ stop. stop ≡ stops.OutOfMemory) (λ returned. returned.1.now)
+        (λ name_read returned. string_bytes returned.0 ≡ name_read) result
+        (read_key (earlier_keys P.keys true pairs_read) bytes.now) }
+    ensures shorter { IfOk result (λ returned. length returned.1.now ≤ length bytes.now) }
 {
     let (name, rest) = pairs.read_key(bytes)?;
     Ok((String::from_str(alloc, name)?, rest))
@@ -171,16 +173,17 @@ fn read_key_copy<'b, P: PairList>(
 
 // Reads the name of an element of an array, and keeps nothing of it.
 fn skip_array_name(alloc: Global, bytes: &[u8]) -> Result<(String, &[u8]), Stop>
-    ensures outcome { ReadsTo (λ e. e ≡ stops.OutOfMemory) (λ x. x.1.now) (λ s x. Unit {0}) result (read_name bytes.now) }
-    ensures shorter { IfOk result (λ x. length x.1.now ≤ length bytes.now) }
+    ensures outcome { ReadsTo (λ stop. stop ≡ stops.OutOfMemory) (λ returned. returned.1.now)
+        (λ name_read returned. Unit {0}) result (read_name bytes.now) }
+    ensures shorter { IfOk result (λ returned. length returned.1.now ≤ length bytes.now) }
 {
     let rest = skip_name(bytes)?;
     Ok((String::new(alloc), rest))
 }
 
 fn push_item(items: &mut Vec<Bson>, value: Bson) -> Result<(), AllocError>
-    ensures { OnOk result ((ps : Pairs) (k : List ℕ) → values_view items.old.items ≡ pair_values ps
-        → values_view items.new.items ≡ pair_values (with_pair ps k (bson_view value))) }
+    ensures { OnOk result ((pairs_read : Pairs) (key : List ℕ) → values_view items.old.items ≡ pair_values pairs_read
+        → values_view items.new.items ≡ pair_values (with_last_pair pairs_read key (bson_view value))) }
 {
     Ok(items.push(value)?)
 }
@@ -191,21 +194,21 @@ fn with_scope(code: String, scope: Document) -> Bson
     Bson::JavaScriptCodeWithScope(JavaScriptCodeWithScope { code, scope })
 }
 
-fn from_fixed_scalar(value: FixedScalar) -> Bson
-    ensures { bson_view result ≡ scalar (fixed_view value) }
+fn from_fixed_scalar(value: FixedSizeScalar) -> Bson
+    ensures { bson_view result ≡ scalar (fixed_scalar_view value) }
 {
     match value {
-        FixedScalar::Null => Bson::Null,
-        FixedScalar::Undefined => Bson::Undefined,
-        FixedScalar::MinKey => Bson::MinKey,
-        FixedScalar::MaxKey => Bson::MaxKey,
-        FixedScalar::Boolean(b) => Bson::Boolean(b),
-        FixedScalar::Double(pattern) => Bson::Double(pattern),
-        FixedScalar::Int32(z) => Bson::Int32(z),
-        FixedScalar::Int64(z) => Bson::Int64(z),
-        FixedScalar::Timestamp(stamp) => Bson::Timestamp(stamp),
-        FixedScalar::ObjectId(id) => Bson::ObjectId(id),
-        FixedScalar::DateTime(date) => Bson::DateTime(date),
-        FixedScalar::Decimal128(decimal) => Bson::Decimal128(decimal),
+        FixedSizeScalar::Null => Bson::Null,
+        FixedSizeScalar::Undefined => Bson::Undefined,
+        FixedSizeScalar::MinKey => Bson::MinKey,
+        FixedSizeScalar::MaxKey => Bson::MaxKey,
+        FixedSizeScalar::Boolean(truth) => Bson::Boolean(truth),
+        FixedSizeScalar::Double(pattern) => Bson::Double(pattern),
+        FixedSizeScalar::Int32(number) => Bson::Int32(number),
+        FixedSizeScalar::Int64(number) => Bson::Int64(number),
+        FixedSizeScalar::Timestamp(timestamp) => Bson::Timestamp(timestamp),
+        FixedSizeScalar::ObjectId(id) => Bson::ObjectId(id),
+        FixedSizeScalar::DateTime(date) => Bson::DateTime(date),
+        FixedSizeScalar::Decimal128(decimal) => Bson::Decimal128(decimal),
     }
 }

@@ -35,7 +35,7 @@ module _ (o : Options) where
   given bytes text tree x is =
       let utf8 = IsUtf8-append text newline is.utf8 (IsUtf8-are_ascii newline refl) in
       let kept = output_kept o Canonical bytes (text ++ newline) x utf8 in
-      let shallow = kept.only tree (record { utf8 = utf8; tree_read = read_then text ∙ is.tree_read }) in
+      let shallow = kept.shallow_if_text tree (record { utf8 = utf8; tree_read = read_then text ∙ is.tree_read }) in
       let c = kept.again shallow in
       record {
         tree = c.tree;
@@ -61,7 +61,7 @@ module _ (o : Options) where
   uncanonical n bytes text is same differ = record {
     text = text;
     converts = text_converts o Canonical bytes text (text ++ newline) is refl;
-    differ = record { before = n; counted = refl; same = same; differ = differ };
+    differ = record { common_length = n; counted = refl; same = same; differ = differ };
   }
 
   -- they have no canonical text

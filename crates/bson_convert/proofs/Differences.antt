@@ -13,7 +13,7 @@ fewer : (n m : ℕ) (a b : List ℕ) → n ≤ m → take m a ≡ take m b → t
 fewer n m a b h same = sym (take-take n m a h) ∙ ap (take n) same ∙ take-take n m b h
 
 earlier : (column other : ℕ) (a b : List ℕ) → IsFirstDifferenceAt column a b → IsFirstDifferenceAt other a b → column < other → ⊥
-earlier column other a b x y h = x.differ (fewer column y.before a b (omega (arith, h, y.counted)) y.same)
+earlier column other a b x y h = x.differ (fewer column y.common_length a b (omega (arith, h, y.counted)) y.same)
 
 -- two lists begin to differ in one byte
 pub one_difference : (column other : ℕ) (a b : List ℕ) → IsFirstDifferenceAt column a b → IsFirstDifferenceAt other a b → column ≡ other

@@ -8,10 +8,10 @@ use Rattle.bson_scalar.specs.Written.{WriteFault}
 use Rattle.bson_scalar.specs.declared.form.Form.{Form}
 use Rattle.bson_scalar.specs.declared.form.Form.TheVariants as form
 use Rattle.bson_model.specs.Laws.{HasMeaningIn, IsTreeOfIn}
-use Rattle.bson_model.specs.Normal.{normal_form, InRange, writable_in}
+use Rattle.bson_model.specs.Normal.{normal_form, NumbersInRange, writable_in}
 use Rattle.bson_model.specs.Texts.{HasTextIn, IsTree}
 use Rattle.bson_model.specs.Value.{Value}
-use Rattle.bson_model.specs.Writing.{writes_in}
+use Rattle.bson_model.specs.Writing.{writes_value_in}
 use Rattle.bson_model.specs.Written.{WrittenIn}
 use Rattle.bson_model.proofs.Offered.{has_text_in, in_range_in, means_to_in, read_tree, tree_is_in}
 use Rattle.bson_model.proofs.Offered.{value_read_in, writable_is_in}
@@ -31,12 +31,12 @@ some_tree (Err e) h = cc
 
 module _ (o : Options) (f : Form) where
   -- a value that was read is written as its tree in the form
-  written_as : (v : Value) (u : Data) → InRange v → writable_in o.doubles v ≡ true
-      → WrittenIn o.doubles f (normal_form v) u → (writes_in o.doubles f v ≡ Ok u) × IsTreeOfIn o.doubles f v u
-  written_as v u ranged writable w =
+  written_as : (v : Value) (u : Data) → NumbersInRange v → writable_in o.doubles v ≡ true
+      → WrittenIn o.doubles f (normal_form v) u → (writes_value_in o.doubles f v ≡ Ok u) × IsTreeOfIn o.doubles f v u
+  written_as v u within_type_range writable w =
       let D = o.doubles in
-      let it = some_tree (writes_in D f v) (writable_is_in D f v ∙ writable) in
-      let is = tree_is_in D f v it.0 it.1 ranged in
+      let it = some_tree (writes_value_in D f v) (writable_is_in D f v ∙ writable) in
+      let is = tree_is_in D f v it.0 it.1 within_type_range in
       let same : u ≡ it.0 = is.one u w in
       (it.1 ∙ ap Ok (sym same), subst (IsTreeOfIn D f v) (sym same) is)
 
@@ -53,9 +53,9 @@ module _ (o : Options) (f : Form) where
   again bytes output t v is m w =
       let D = o.doubles in
       let u = w.tree in
-      let ranged = in_range_in D m.means (read_tree bytes t is.tree_read) in
-      let first = written_as v u ranged m.read_form.1 w.is_tree.written in
-      let has : HasTextIn D f v u = has_text_in D f v u first.0 m.read_form.0 ranged in
+      let within_type_range = in_range_in D m.means (read_tree bytes t is.tree_read) in
+      let first = written_as v u within_type_range m.read_form.1 w.is_tree.written in
+      let has : HasTextIn D f v u = has_text_in D f v u first.0 m.read_form.0 within_type_range in
       let x = has.means.0 in
       let meaning : HasMeaningIn D u x = (value_read_in D (λ (y : Value). y) u (Ok x) (means_to_in D has.means.1)).ok in
       let second = written_as x u (in_range_in D has.means.1 has.is_tree) meaning.read_form.1 has.means.3 in
@@ -82,7 +82,7 @@ module _ (o : Options) (f : Form) where
           meaning = a.meaning;
           is_output = of a.value a.is_written;
         };
-        only = λ other is_text. shallow o.doubles f w.tree a.no_float (numbers w.tree a.fits) other
+        shallow_if_text = λ other is_text. shallow o.doubles f w.tree a.no_float (numbers w.tree a.fits) other
             (sym (read_then _) ∙ ap read (sym w.line.text) ∙ is_text.tree_read);
       }
 

@@ -40,10 +40,11 @@ pub record IsWrittenIn (options : Options) (output_form : Form) (value : Value) 
   pub tree : Data
   pub is_tree : IsTreeOfIn options.doubles output_form value tree
   pub line : IsLineOf options output_form tree output
-  pub again : (w : Value) → MeansIn options.doubles tree w → WrittenIn options.doubles output_form (normal_form w) tree
+  pub again : (other_value : Value) → MeansIn options.doubles tree other_value
+      → WrittenIn options.doubles output_form (normal_form other_value) tree
 
 -- that line, or the text that shows the value and a newline
-abbrev pub IsOutputIn : Options → Mode → Value → List ℕ → Type 0
+abbrev pub IsOutputIn : Options → Mode → Value → (output : List ℕ) → Type 0
 IsOutputIn options Canonical value output = IsWrittenIn options form.Canonical value output
 IsOutputIn options Relaxed value output = IsWrittenIn options form.Relaxed value output
 IsOutputIn options Show value output = output ≡ display_text value ++ newline
@@ -64,43 +65,44 @@ pub record ConvertsToItself (options : Options) (output_form : Form) (mode : Mod
   pub tree : Data
   pub text : output ≡ tree_text options.doubles output_form tree ++ newline
   pub again : depth tree ≤ max_depth → ConvertsIn options mode output output
-  pub only : (other : Data) → IsTextOf output other → depth tree ≤ max_depth
+  pub shallow_if_text : (other_tree : Data) → IsTextOf output other_tree → depth tree ≤ max_depth
 
 -- an output in a form is that
-abbrev pub IsFixedPointIn : Options → Mode → List ℕ → Type 0
+abbrev pub IsFixedPointIn : Options → Mode → (output : List ℕ) → Type 0
 IsFixedPointIn options Canonical output = ConvertsToItself options form.Canonical Canonical output
 IsFixedPointIn options Relaxed output = ConvertsToItself options form.Relaxed Relaxed output
 IsFixedPointIn options Show output = Unit {0}
 
 -- what each fault says of the bytes
-abbrev pub IsRejectedIn : Options → Error → List ℕ → Type 0
+abbrev pub IsRejectedIn : Options → Error → (bytes : List ℕ) → Type 0
 IsRejectedIn options NotJson bytes = IsNotJsonText bytes
-IsRejectedIn options (NotExtendedJson place) bytes = (tree : Data) × IsTextOf bytes tree × IsFirstFaultIn options.doubles tree place
+IsRejectedIn options (NotExtendedJson place) bytes = (tree : Data) × IsTextOf bytes tree
+    × IsFirstFaultIn options.doubles tree place
 IsRejectedIn options OutOfMemory bytes = Unit {0}
-IsRejectedIn options other bytes = ⊥
+IsRejectedIn options other_error bytes = ⊥
 
 -- the bytes are the text of a tree that means something
-abbrev pub IsAccepted : Options → List ℕ → Type 0
+abbrev pub IsAccepted : Options → (bytes : List ℕ) → Type 0
 IsAccepted options bytes = (tree : Data) × (value : Value) × IsTextOf bytes tree × MeansIn options.doubles tree value
 
-abbrev pub IsWritten : Form → Value → List ℕ → Type 0
+abbrev pub IsWritten : Form → Value → (output : List ℕ) → Type 0
 IsWritten = IsWrittenIn default_options
 
-abbrev pub IsOutput : Mode → Value → List ℕ → Type 0
+abbrev pub IsOutput : Mode → Value → (output : List ℕ) → Type 0
 IsOutput = IsOutputIn default_options
 
-abbrev pub Converts : Mode → List ℕ → List ℕ → Type 0
+abbrev pub Converts : Mode → (bytes output : List ℕ) → Type 0
 Converts = ConvertsIn default_options
 
-abbrev pub IsFixedPoint : Mode → List ℕ → Type 0
+abbrev pub IsFixedPoint : Mode → (output : List ℕ) → Type 0
 IsFixedPoint = IsFixedPointIn default_options
 
-abbrev pub IsRejected : Error → List ℕ → Type 0
+abbrev pub IsRejected : Error → (bytes : List ℕ) → Type 0
 IsRejected = IsRejectedIn default_options
 
 -- the bytes are the canonical text of the value that they mean, with keys in ascending order: they are converted to
 -- themselves and a newline
-abbrev pub IsCanonicalText : Options → List ℕ → Type 0
+abbrev pub IsCanonicalText : Options → (bytes : List ℕ) → Type 0
 IsCanonicalText options bytes = ConvertsIn options Canonical bytes (bytes ++ newline)
 
 -- the bytes mean a value, whose canonical text is another: they differ from it in the byte of this column, and in none
@@ -111,27 +113,28 @@ pub record IsUncanonicalAt (options : Options) (column : ℕ) (bytes : List ℕ)
   pub differ : IsFirstDifferenceAt column bytes text
 
 -- what each fault says of bytes that are not canonical
-abbrev pub IsUncanonicalIn : Options → Error → List ℕ → Type 0
+abbrev pub IsUncanonicalIn : Options → Error → (bytes : List ℕ) → Type 0
 IsUncanonicalIn options (NotCanonical column) bytes = IsUncanonicalAt options column bytes
 IsUncanonicalIn options fault bytes = IsRejectedIn options fault bytes
 
 -- ---- the text
 
 -- a text of the value in the mode's form, or the one that shows it
-abbrev pub IsTextInMode : Options → Mode → Value → List ℕ → Type 0
+abbrev pub IsTextInMode : Options → Mode → Value → (text : List ℕ) → Type 0
 IsTextInMode options Canonical value text = IsTextWithDoubles options.doubles form.Canonical value text
 IsTextInMode options Relaxed value text = IsTextWithDoubles options.doubles form.Relaxed value text
 IsTextInMode options Show value text = text ≡ display_text value
 
 -- a text for the mode, of the value that the bytes denote
-abbrev pub IsConvertedText : Options → Mode → List ℕ → List ℕ → Type 0
+abbrev pub IsConvertedText : Options → Mode → (bytes text : List ℕ) → Type 0
 IsConvertedText options mode bytes text =
     (value : Value) × HasTextMeaningIn options.doubles bytes value × IsTextInMode options mode value text
 
 -- that text, or a text of the same tree as the bytes', which means something
-abbrev pub IsAttemptResult : Options → Mode → List ℕ → Attempt → Type 0
+abbrev pub IsAttemptResult : Options → Mode → (bytes : List ℕ) → Attempt → Type 0
 IsAttemptResult options mode bytes (Written text) = IsConvertedText options mode bytes text.items
-IsAttemptResult options mode bytes (Normalized text) = IsUtf8 bytes × (read (string_bytes text) ≡ read bytes) × IsAccepted options (string_bytes text)
+IsAttemptResult options mode bytes (Normalized text) = IsUtf8 bytes × (read (string_bytes text) ≡ read bytes)
+    × IsAccepted options (string_bytes text)
 
 -- the text that was written is UTF-8; the other is by its type
 abbrev pub IsUtf8Attempt : Attempt → Type 0

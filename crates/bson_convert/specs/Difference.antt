@@ -2,8 +2,8 @@
 use Rattle.std.specs.Prelude.{◌≡◌, ◌≢◌, ℕ, suc, List, take}
 
 -- they differ in the byte of this column, counted from 1, and in none before it
-pub record IsFirstDifferenceAt (column : ℕ) (a b : List ℕ) : Type 0 where
-  pub before : ℕ
-  pub counted : column ≡ suc before
-  pub same : take before a ≡ take before b
-  pub differ : take column a ≢ take column b
+pub record IsFirstDifferenceAt (column : ℕ) (bytes other_bytes : List ℕ) : Type 0 where
+  pub common_length : ℕ
+  pub counted : column ≡ suc common_length
+  pub same : take common_length bytes ≡ take common_length other_bytes
+  pub differ : take column bytes ≢ take column other_bytes

@@ -17,7 +17,7 @@ name_of_mode mode.Relaxed = codes "relaxed"
 name_of_mode mode.Show = codes "show"
 
 abbrev pub reason_message : Reason → List ℕ
-reason_message (reason.BadObjectId e) = codes "bad object id"
+reason_message (reason.BadObjectId id_error) = codes "bad object id"
 reason_message (reason.WrongShape message) = codes "not Extended JSON"
 
 abbrev pub no_bytes_message : NoBytes → List ℕ
@@ -30,14 +30,14 @@ abbrev pub error_message : Error → List ℕ
 error_message error.CannotRead = codes "cannot read"
 error_message error.NotJson = codes "not JSON"
 error_message (error.NotExtendedJson place) = reason_message place.reason
-error_message (error.NoBytes why) = no_bytes_message why
+error_message (error.NoBytes no_bytes) = no_bytes_message no_bytes
 error_message (error.NotCanonical column) = codes "not canonical Extended JSON"
 error_message error.OutOfMemory = codes "out of memory"
 error_message error.CannotWrite = codes "cannot write"
 
 -- the kind of a text's first error
 abbrev pub fault_of_reason : Reason → Fault
-fault_of_reason (reason.BadObjectId e) = fault.BadObjectId
+fault_of_reason (reason.BadObjectId id_error) = fault.BadObjectId
 fault_of_reason (reason.WrongShape message) = fault.NotExtendedJson
 
 -- the kind of an error; missing bytes and a text that is not canonical are not errors of a run
@@ -45,7 +45,7 @@ abbrev pub fault_kind : Error → Option Fault
 fault_kind error.CannotRead = Some fault.CannotRead
 fault_kind error.NotJson = Some fault.NotJson
 fault_kind (error.NotExtendedJson place) = Some (fault_of_reason place.reason)
-fault_kind (error.NoBytes why) = None
+fault_kind (error.NoBytes no_bytes) = None
 fault_kind (error.NotCanonical column) = None
 fault_kind error.OutOfMemory = Some fault.OutOfMemory
 fault_kind error.CannotWrite = Some fault.CannotWrite

@@ -27,12 +27,12 @@ use std::alloc::{AllocError, Global};
 /// println!(rt; "{one} {other}")?; // true false
 /// ```
 pub fn is_canonical_text(alloc: Global, options: Options, bytes: &[u8]) -> Result<bool, AllocError>
-    ensures { IfOk result (λ b. IsTrue b ↔ IsCanonicalText options bytes.now) }
+    ensures { IfOk result (λ is_canonical. IsTrue is_canonical ↔ IsCanonicalText options bytes.now) }
 {
     match check_canonical(alloc, options, bytes) {
         Ok(()) => Ok(true),
         Err(error) => {
-            if error.is_memory() {
+            if error.is_out_of_memory() {
                 Err(AllocError)
             } else {
                 Ok(false)
@@ -88,16 +88,17 @@ pub fn check_canonical_line(
 }
 
 // How many bytes two texts have in common at their beginning.
-fn common_len(one: &[u8], other: &[u8]) -> usize
-    ensures short { result ≤ length one.now }
-    ensures common { take result one.now ≡ take result other.now }
-    ensures most { one.now ≢ other.now → take (suc result) one.now ≢ take (suc result) other.now }
+fn common_len(left_text: &[u8], right_text: &[u8]) -> usize
+    ensures short { result ≤ length left_text.now }
+    ensures common { take result left_text.now ≡ take result right_text.now }
+    ensures maximal { left_text.now ≢ right_text.now
+        → take (suc result) left_text.now ≢ take (suc result) right_text.now }
 {
-    let most = one.len().min(other.len());
-    for at in 0..most {
-        if one[at] != other[at] {
-            return at;
+    let shorter_len = left_text.len().min(right_text.len());
+    for byte_index in 0..shorter_len {
+        if left_text[byte_index] != right_text[byte_index] {
+            return byte_index;
         }
     }
-    most
+    shorter_len
 }

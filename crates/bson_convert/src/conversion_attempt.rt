@@ -1,12 +1,12 @@
 //! A text that is written as another is read, and why one means nothing.
 //!
 //! If a text cannot be written as it is read, it is normalized: each object has each key once, in
-//! ascending order. The normalized text has the same tree. One walk over it finds the first fault. If
+//! ascending order. The normalized text has the same tree. One traversal of it finds the first fault. If
 //! there is none, the normalized text is written as it is read.
 ghost use Rattle.std.specs.Prelude.{◌≡◌, IfOk, IfErr, IsUtf8, OnOk, ℕ, List, string_bytes};
 ghost use Rattle.serde_json.specs.Read.{read};
 ghost use Rattle.bson_tokens.specs.Normalized.{IsNormalizedText};
-ghost use Rattle.bson_tokens.specs.ReadOutcomes.{InvalidIfNotRead};
+ghost use Rattle.bson_tokens.specs.ReadOutcomes.{NothingReadIfInvalid};
 ghost use Rattle.bson_convert.specs.Convert.{IsAccepted, IsConvertedText, IsRejectedIn, IsAttemptResult, IsUtf8Attempt};
 ghost use Rattle.bson.specs.declared.extjson.options.Options.{Options};
 
@@ -72,11 +72,11 @@ pub(crate) fn try_line(
     match stream_text(alloc, options, mode, text, scratch) {
         Ok(written) => Ok(Attempt::Written(written)),
         Err(TraversalError::OutOfMemory) => Err(Error::OutOfMemory),
-        Err(_) => Ok(Attempt::Normalized(normalize_faultless(alloc, options, text)?)),
+        Err(_) => Ok(Attempt::Normalized(normalize_if_valid(alloc, options, text)?)),
     }
 }
 
-/// The text that the mode asks for of an normalized text that has a meaning.
+/// The text that the mode asks for of a normalized text that has a meaning.
 pub(crate) fn read_normalized(
     alloc: Global,
     options: Options,
@@ -125,12 +125,12 @@ pub fn normalize(alloc: Global, arrangement: Arrangement, text: &str) -> Result<
 {
     match normalize_text(alloc, arrangement, text) {
         Ok(normalized) => Ok(normalized),
-        Err(error) => Err(no_tree(error)),
+        Err(error) => Err(error_of_tree(error)),
     }
 }
 
 // The normalized text by ascending keys of a text that has a meaning.
-fn normalize_faultless(alloc: Global, options: Options, text: &str) -> Result<String, Error>
+fn normalize_if_valid(alloc: Global, options: Options, text: &str) -> Result<String, Error>
     ensures ok { IfOk result (λ normalized. IsAccepted options (string_bytes normalized)) }
     ensures same { IfOk result (λ normalized. read (string_bytes normalized) ≡ read text.now) }
     ensures fault { IfErr result (λ fault. IsRejectedIn options fault text.now) }
@@ -157,13 +157,14 @@ pub fn refuse(alloc: Global, options: Options, text: &str) -> Result<(), Error>
     match first_fault_in(alloc, options.doubles, text) {
         Ok(None) => Ok(()),
         Ok(Some(place)) => Err(Error::NotExtendedJson(place)),
-        Err(error) => Err(no_tree(error)),
+        Err(error) => Err(error_of_tree(error)),
     }
 }
 
 // The fault of a text of which no tree was read.
-fn no_tree(error: json::Error) -> Error
-    ensures { (options : Options) (bytes : List ℕ) → InvalidIfNotRead (read bytes) error → IsRejectedIn options result bytes }
+fn error_of_tree(error: json::Error) -> Error
+    ensures { (options : Options) (bytes : List ℕ) → NothingReadIfInvalid (read bytes) error
+        → IsRejectedIn options result bytes }
 {
     match error {
         json::Error::Invalid => Error::NotJson,

@@ -40,7 +40,8 @@ pub fn convert(alloc: Global, mode: Mode, bytes: &[u8]) -> Result<Vec<u8>, Error
     ensures ok { IfOk result (λ output. Converts mode bytes.now output.items) }
     ensures utf8 { IfOk result (λ output. IsUtf8 output.items) }
     ensures again { IfOk result (λ output. IsFixedPoint mode output.items) }
-    ensures one { IfOk result (λ output. (other : List ℕ) → Converts mode bytes.now other → other ≡ output.items) }
+    ensures unique { IfOk result
+        (λ output. (other_output : List ℕ) → Converts mode bytes.now other_output → other_output ≡ output.items) }
     ensures accepts { (tree : Data) (value : model.Value) → IsTextOf bytes.now tree → Means tree value
         → IfErr result (λ fault. fault ≡ Error.OutOfMemory) }
     ensures fault { IfErr result (λ fault. IsRejected fault bytes.now) }
@@ -63,8 +64,8 @@ pub fn convert_sorted(
     ensures ok { IfOk result (λ output. ConvertsIn options mode bytes.now output.items) }
     ensures utf8 { IfOk result (λ output. IsUtf8 output.items) }
     ensures again { IfOk result (λ output. IsFixedPointIn options mode output.items) }
-    ensures one { IfOk result (λ output. (other : List ℕ) → ConvertsIn options mode bytes.now other
-        → other ≡ output.items) }
+    ensures unique { IfOk result (λ output. (other_output : List ℕ) → ConvertsIn options mode bytes.now other_output
+        → other_output ≡ output.items) }
     ensures accepts { (tree : Data) (value : model.Value) → IsTextOf bytes.now tree
         → MeansIn options.doubles tree value → IfErr result (λ fault. fault ≡ Error.OutOfMemory) }
     ensures fault { IfErr result (λ fault. IsRejectedIn options fault bytes.now) }
@@ -87,8 +88,8 @@ pub fn convert_line(
     ensures ok { IfOk result (λ output. ConvertsIn options mode bytes.now output.items) }
     ensures utf8 { IfOk result (λ output. IsUtf8 output.items) }
     ensures again { IfOk result (λ output. IsFixedPointIn options mode output.items) }
-    ensures one { IfOk result (λ output. (other : List ℕ) → ConvertsIn options mode bytes.now other
-        → other ≡ output.items) }
+    ensures unique { IfOk result (λ output. (other_output : List ℕ) → ConvertsIn options mode bytes.now other_output
+        → other_output ≡ output.items) }
     ensures accepts { (tree : Data) (value : model.Value) → IsTextOf bytes.now tree
         → MeansIn options.doubles tree value → IfErr result (λ fault. fault ≡ Error.OutOfMemory) }
     ensures fault { IfErr result (λ fault. IsRejectedIn options fault bytes.now) }
@@ -118,7 +119,7 @@ pub fn convert_whole(
 {
     let attempt = try_text(alloc, options, mode, &bytes)?;
     drop(bytes);
-    let text = finish(alloc, options, mode, attempt)?;
+    let text = finish_attempt(alloc, options, mode, attempt)?;
     end_line(text)
 }
 
@@ -164,11 +165,16 @@ pub(crate) fn line_text(
     ensures fault { IfErr result (λ fault. IsRejectedIn options fault bytes.now) }
 {
     let attempt = try_line(alloc, options, mode, bytes, scratch)?;
-    finish(alloc, options, mode, attempt)
+    finish_attempt(alloc, options, mode, attempt)
 }
 
 // Returns the text that was already written, or writes the text of the normalized input.
-fn finish(alloc: Global, options: Options, mode: Mode, attempt: Attempt) -> Result<Vec<u8>, Error>
+fn finish_attempt(
+    alloc: Global,
+    options: Options,
+    mode: Mode,
+    attempt: Attempt,
+) -> Result<Vec<u8>, Error>
     ensures ok { (bytes : List ℕ) → IsAttemptResult options mode bytes attempt
         → IfOk result (λ text. IsConvertedText options mode bytes text.items) }
     ensures utf8 { IsUtf8Attempt attempt → IfOk result (λ text. IsUtf8 text.items) }

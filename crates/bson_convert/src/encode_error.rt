@@ -11,7 +11,7 @@ ghost use Rattle.bson_convert.specs.Messages.{no_bytes_message};
 /// ```
 #[derive(Clone, Copy, PartialEq, Eq, Debug)]
 pub enum NoBytes {
-    /// The value is no document.
+    /// The value is not a document.
     NoDocument,
     /// A key has a 0 byte in it, which would end it.
     ZeroInKey,

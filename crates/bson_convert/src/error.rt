@@ -64,7 +64,7 @@ impl Error {
                 Reason::BadObjectId(_) => "bad object id",
                 Reason::WrongShape(_) => "not Extended JSON",
             },
-            Error::NoBytes(why) => why.message(),
+            Error::NoBytes(no_bytes) => no_bytes.message(),
             Error::NotCanonical(_) => "not canonical Extended JSON",
             Error::OutOfMemory => "out of memory",
             Error::CannotWrite => "cannot write",
@@ -72,7 +72,7 @@ impl Error {
     }
 
     /// Returns whether an allocation failed.
-    pub fn is_memory(&self) -> bool
+    pub fn is_out_of_memory(&self) -> bool
         ensures { MatchBool result (self.now ≡ Error.OutOfMemory) (self.now ≢ Error.OutOfMemory) }
     {
         matches!(self, Error::OutOfMemory)

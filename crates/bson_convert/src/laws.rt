@@ -10,8 +10,9 @@ ghost use Rattle.bson_convert.specs.declared.mode.Mode.TheVariants.{Canonical};
 /// Proves that values with one normal form have one canonical text. Conversion to the canonical
 /// form gives it, followed by a newline, unless it nests deeper than a text may.
 pub fn canonical_texts_are_one()
-    ensures one { (options : Options) (bytes other : List ℕ) (a : IsCanonicalText options bytes)
-        (b : IsCanonicalText options other) → normal_form a.value ≡ normal_form b.value → bytes ≡ other }
+    ensures unique { (options : Options) (bytes other_bytes : List ℕ) (left_canonical : IsCanonicalText options bytes)
+        (right_canonical : IsCanonicalText options other_bytes)
+        → normal_form left_canonical.value ≡ normal_form right_canonical.value → bytes ≡ other_bytes }
     ensures given { (options : Options) (bytes text : List ℕ) (tree : Data)
         → ConvertsIn options Canonical bytes (text ++ newline) → IsTextOf text tree → IsCanonicalText options text }
 {}

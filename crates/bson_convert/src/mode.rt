@@ -24,7 +24,7 @@ impl Mode {
     /// Returns the mode with this name: `canonical`, `relaxed` or `show`.
     pub fn from_name(name: &str) -> Option<Mode>
         ensures named { IfSome result (λ mode. name.now ≡ name_of_mode mode) }
-        ensures other { result ≡ None → (mode : Mode) → name.now ≡ name_of_mode mode → ⊥ }
+        ensures unknown_name { result ≡ None → (mode : Mode) → name.now ≡ name_of_mode mode → ⊥ }
     {
         match name {
             "canonical" => Some(Mode::Canonical),
@@ -39,11 +39,11 @@ impl Mode {
 /// else.
 pub fn mode_of(args: &[String]) -> Option<Mode>
     ensures named { IfSome result (λ mode. map string_bytes args.now ≡ name_of_mode mode ∷ []) }
-    ensures other { result ≡ None → (mode : Mode) → map string_bytes args.now ≡ name_of_mode mode ∷ [] → ⊥ }
+    ensures unknown_name { result ≡ None → (mode : Mode) → map string_bytes args.now ≡ name_of_mode mode ∷ [] → ⊥ }
 {
-    let (word, rest) = args.split_first()?;
-    if !rest.is_empty() {
+    let (mode_name, extra_args) = args.split_first()?;
+    if !extra_args.is_empty() {
         return None;
     }
-    Mode::from_name(word.as_str())
+    Mode::from_name(mode_name.as_str())
 }

@@ -12,7 +12,7 @@ use std::process::ExitCode;
 /// # Errors
 ///
 /// - `OutOfMemory`: an allocation failed.
-pub fn words_given<R: Env + AllocGlobal>(rt: &R) -> Result<Option<Vec<String>>, Fault>
+pub fn command_line_arguments<R: Env + AllocGlobal>(rt: &R) -> Result<Option<Vec<String>>, Fault>
     ensures { IfErr result (λ fault. fault ≡ Fault.OutOfMemory) }
 {
     let mut args = match env::args(rt) {

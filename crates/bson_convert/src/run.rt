@@ -1,6 +1,6 @@
 //! One run: from the bytes of a reader to the bytes for a writer.
 ghost use Rattle.std.specs.Prelude.{IfErr, OnOk};
-ghost use Rattle.bson_convert.specs.Run.{Done, DoneIn, RunFails, RunFailsIn};
+ghost use Rattle.bson_convert.specs.Run.{RunSucceeds, RunSucceedsIn, RunFails, RunFailsIn};
 
 use crate::convert::convert_whole;
 use crate::fault::Fault;
@@ -29,7 +29,8 @@ pub fn run<R: Read, W: Write>(
     writer: &mut W,
 ) -> Result<(), Fault>
     ensures done { OnOk result
-        (Done mode (R.remaining reader.old) (R.remaining reader.new) (W.contents writer.old) (W.contents writer.new)) }
+        (RunSucceeds mode (R.remaining reader.old) (R.remaining reader.new) (W.contents writer.old)
+        (W.contents writer.new)) }
     ensures fails { IfErr result
         (λ fault. RunFails fault mode (R.remaining reader.old) (R.remaining reader.new) (W.contents writer.old)
         (W.contents writer.new)) }
@@ -51,10 +52,11 @@ pub fn convert_stream<R: Read, W: Write>(
     writer: &mut W,
 ) -> Result<(), Fault>
     ensures done { OnOk result
-        (DoneIn options mode (R.remaining reader.old) (R.remaining reader.new) (W.contents writer.old)
+        (RunSucceedsIn options mode (R.remaining reader.old) (R.remaining reader.new) (W.contents writer.old)
         (W.contents writer.new)) }
     ensures fails { IfErr result
-        (λ fault. RunFailsIn options fault mode (R.remaining reader.old) (R.remaining reader.new) (W.contents writer.old)
+        (λ fault. RunFailsIn options fault mode (R.remaining reader.old) (R.remaining reader.new)
+        (W.contents writer.old)
         (W.contents writer.new)) }
 {
     let bytes = read_whole(alloc, reader)?;

@@ -8,7 +8,7 @@ use std::alloc::Global;
 use std::io::{Read, Write};
 
 /// The capacity of a pipe.
-const BUFFER: usize = 65536;
+const BUFFER_LEN: usize = 65536;
 
 /// Reads until the reader is at its end.
 ///
@@ -17,11 +17,13 @@ const BUFFER: usize = 65536;
 /// - `CannotRead`: the reader failed, `Interrupted` too.
 /// - `OutOfMemory`: an allocation failed.
 pub fn read_whole<R: Read>(alloc: Global, reader: &mut R) -> Result<Vec<u8>, Fault>
-    ensures all { IfOk result (λ v. ReadsAll (R.remaining reader.old) (R.remaining reader.new) v.items) }
-    ensures fault { IfErr result (λ e. (e ≡ Fault.CannotRead) ⊎ (e ≡ Fault.OutOfMemory)) }
+    ensures all { IfOk result
+        (λ whole_input. ReadsAll (R.remaining reader.old) (R.remaining reader.new) whole_input.items) }
+    ensures fault { IfErr result (λ stream_fault. (stream_fault ≡ Fault.CannotRead)
+        ⊎ (stream_fault ≡ Fault.OutOfMemory)) }
 {
     let mut bytes = Vec::new(alloc);
-    let mut buffer = [0u8; BUFFER];
+    let mut buffer = [0u8; BUFFER_LEN];
     loop {
         let Ok(count) = reader.read(&mut buffer) else {
             return Err(Fault::CannotRead);
@@ -45,13 +47,13 @@ pub fn write_whole<W: Write>(writer: &mut W, bytes: &[u8]) -> Result<(), Fault>
     ensures ok { OnOk result (Appends (W.contents writer.old) (W.contents writer.new) bytes.now) }
     ensures cut { OnErr result (WritesBeginning (W.contents writer.old) (W.contents writer.new) bytes.now) }
     ensures part { OnErr result (WritesPart (W.contents writer.old) (W.contents writer.new) bytes.now) }
-    ensures fault { IfErr result (λ e. e ≡ Fault.CannotWrite) }
+    ensures fault { IfErr result (λ stream_fault. stream_fault ≡ Fault.CannotWrite) }
 {
-    let mut at = 0;
-    while at < bytes.len() {
-        match writer.write(&bytes[at..]) {
+    let mut written_count = 0;
+    while written_count < bytes.len() {
+        match writer.write(&bytes[written_count..]) {
             Ok(0) | Err(_) => return Err(Fault::CannotWrite),
-            Ok(count) => at += count,
+            Ok(count) => written_count += count,
         }
     }
     Ok(())

@@ -11,7 +11,7 @@ use Rattle.jiff.specs.Types.{Date}
 use Rattle.jiff_core.proofs.DateLemmas.{epoch_day_range}
 use Rattle.jiff_fmt.specs.Reader.{fraction_value}
 use Rattle.jiff_fmt.proofs.ReaderLemmas.{tenth, ten_pow-pos}
-use Rattle.bson_datetime.specs.Rfc3339Parser.{nanos_of}
+use Rattle.bson_datetime.specs.Rfc3339Parser.{epoch_nanos}
 use Rattle.bson_datetime.specs.Rfc3339Grammar.{DenotesDateTime, Offset, utc, plus, minus, IsOffsetInRange, offset_seconds}
 
 day_range : (y m d : ℕ) → IsCivilDate (pos y) m d → IsEpochDay (days_from_civil (pos y) m d)
@@ -25,7 +25,7 @@ offset_range (plus h m) is = let a : h < 24 = is.0 in let b : m < 60 = is.1 in o
 offset_range (minus h m) is = let a : h < 24 = is.0 in let b : m < 60 = is.1 in omega (arith, signed_arith)
 
 fits : (day o : ℤ) (s n : ℕ) → IsEpochDay day → s < 86_400 → n < 1_000_000_000 → IsWithin 86_399 o
-    → FitsSigned w64 (int_div (nanos_of day s n o) (pos 1_000_000))
+    → FitsSigned w64 (int_div (epoch_nanos day s n o) (pos 1_000_000))
 fits day o s n a b c d = omega (arith, signed_arith)
 
 fraction_small : (k : ℕ) (ds : List ℕ) → All IsAsciiDigit ds → fraction_value k ds < 10 ^ k

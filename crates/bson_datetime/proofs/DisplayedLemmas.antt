@@ -8,7 +8,7 @@ use Rattle.jiff.specs.Words.{epoch_day}
 use Rattle.jiff.proofs.Family.{civil_nanos-parts, time_nanos_bound, civil_nanos_range}
 use Rattle.jiff.proofs.SpanFacts.{signed_arith}
 use Rattle.bson_datetime.specs.JiffConversion.{HasJiffTime, fields_of}
-use Rattle.bson_datetime.specs.CivilTime.{Civil, IsCivil, HasCivilTime, IsCivilMillis, civil_of, day_of_millis, time_of_millis}
+use Rattle.bson_datetime.specs.CivilTime.{CivilDateTime, IsCivilDateTime, HasCivilTime, IsCivilMillis, civil_of_millis, day_of_millis, time_of_millis}
 use Rattle.bson_datetime.specs.DateTimeText.{date_time_text, is_civil_millis, civil_text, rfc3339_text, civil_rfc3339_text}
 use Rattle.bson_datetime.proofs.CivilLemmas.{date_of-date, size_of}
 use Rattle.bson_datetime.proofs.MomentExists.{moment_at}
@@ -55,9 +55,9 @@ milli_is : (t : Time) → time_millis t % 1000 ≡ t.subsec_nanosecond / 1_000_0
 milli_is t = omega arith
 
 -- the function gives the fields of jiff's date and time
-pub civil_of-jiff : (ms : ℤ) (at : DateTime) → HasJiffTime ms at → civil_of ms ≡ fields_of at
-unfolding civil_of
-civil_of-jiff ms at is =
+pub civil_of_millis-jiff : (ms : ℤ) (at : DateTime) → HasJiffTime ms at → civil_of_millis ms ≡ fields_of at
+unfolding civil_of_millis
+civil_of_millis-jiff ms at is =
     rw (
       day_of_millis-moment ms at is,
       time_of_millis-moment ms at is,
@@ -70,7 +70,7 @@ civil_of-jiff ms at is =
 
 pub display_text-moment : (ms : ℤ) (at : DateTime) → HasJiffTime ms at → date_time_text ms ≡ civil_text (fields_of at)
 unfolding date_time_text
-display_text-moment ms at is = rw (in_range ms (moment-range ms at is), civil_of-jiff ms at is) refl
+display_text-moment ms at is = rw (in_range ms (moment-range ms at is), civil_of_millis-jiff ms at is) refl
 
 -- jiff's date and time has the fields of the moment
 moment-fields : (ms : ℤ) (at : DateTime) → HasJiffTime ms at → HasCivilTime ms (fields_of at)
@@ -80,13 +80,13 @@ moment-fields ms at is = (
 )
 
 -- each moment of the years -9999 to 9999 has the fields that the function gives
-pub moment-civil_of : (ms : ℤ) → IsCivilMillis ms → HasCivilTime ms (civil_of ms)
-moment-civil_of ms h =
+pub moment-civil_of_millis : (ms : ℤ) → IsCivilMillis ms → HasCivilTime ms (civil_of_millis ms)
+moment-civil_of_millis ms h =
     let at = moment_at ms h in
-    rw (civil_of-jiff ms at.0 at.1) (moment-fields ms at.0 at.1)
+    rw (civil_of_millis-jiff ms at.0 at.1) (moment-fields ms at.0 at.1)
 
 -- jiff's date and time with these fields
-jiff_of : (c : Civil) → IsCivil c → DateTime
+jiff_of : (c : CivilDateTime) → IsCivilDateTime c → DateTime
 jiff_of c is =
     let time : Time = record {
       hour = c.hour;
@@ -110,24 +110,24 @@ jiff_of c is =
       time = time;
     }
 
-fields_of-jiff_of : (c : Civil) (is : IsCivil c) → fields_of (jiff_of c is) ≡ c
+fields_of-jiff_of : (c : CivilDateTime) (is : IsCivilDateTime c) → fields_of (jiff_of c is) ≡ c
 unfolding jiff_of
 fields_of-jiff_of c is =
     let whole : c.millisecond * 1_000_000 / 1_000_000 ≡ c.millisecond = omega arith in
     rw whole refl
 
-jiff_of-moment : (ms : ℤ) (c : Civil) (is : HasCivilTime ms c) → HasJiffTime ms (jiff_of c is.0)
+jiff_of-moment : (ms : ℤ) (c : CivilDateTime) (is : HasCivilTime ms c) → HasJiffTime ms (jiff_of c is.0)
 unfolding jiff_of
 jiff_of-moment ms c is = omega (arith, signed_arith, civil_nanos-parts (jiff_of c is.0), is.1)
 
 -- a moment has one date and time
-pub civil_of-moment : (ms : ℤ) (c : Civil) → HasCivilTime ms c → civil_of ms ≡ c
-civil_of-moment ms c is = civil_of-jiff ms (jiff_of c is.0) (jiff_of-moment ms c is) ∙ fields_of-jiff_of c is.0
+pub civil_of_millis-moment : (ms : ℤ) (c : CivilDateTime) → HasCivilTime ms c → civil_of_millis ms ≡ c
+civil_of_millis-moment ms c is = civil_of_millis-jiff ms (jiff_of c is.0) (jiff_of-moment ms c is) ∙ fields_of-jiff_of c is.0
 
 -- and is in the years that the calendar has
-pub moment-within : (ms : ℤ) (c : Civil) → HasCivilTime ms c → IsCivilMillis ms
+pub moment-within : (ms : ℤ) (c : CivilDateTime) → HasCivilTime ms c → IsCivilMillis ms
 moment-within ms c is = moment-range ms (jiff_of c is.0) (jiff_of-moment ms c is)
 
-pub rfc-fields : (ms : ℤ) (c : Civil) → HasCivilTime ms c → rfc3339_text ms ≡ civil_rfc3339_text c
+pub rfc-fields : (ms : ℤ) (c : CivilDateTime) → HasCivilTime ms c → rfc3339_text ms ≡ civil_rfc3339_text c
 unfolding rfc3339_text
-rfc-fields ms c is = rw (civil_of-moment ms c is) refl
+rfc-fields ms c is = rw (civil_of_millis-moment ms c is) refl

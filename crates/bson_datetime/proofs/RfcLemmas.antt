@@ -13,7 +13,7 @@ use Rattle.jiff_fmt.proofs.TextLemmas.{trailing_zeros-step, trailing_zeros-stop,
 use Rattle.jiff_fmt.proofs.TextLemmas.{places-end, significant-not_zero}
 use Rattle.bson_datetime.specs.JiffConversion.{HasJiffTime}
 use Rattle.bson_datetime.specs.DateTimeText.{rfc3339_text, thousandths_text}
-use Rattle.bson_datetime.proofs.DisplayedLemmas.{civil_of-jiff}
+use Rattle.bson_datetime.proofs.DisplayedLemmas.{civil_of_millis-jiff}
 
 -- the six zeros of a whole millisecond, in nanoseconds
 six_zeros : (k : ℕ) → trailing_zeros 8 (k * 1_000_000) ≡ 6 + trailing_zeros 2 k
@@ -138,4 +138,4 @@ rfc-jiff ms at y is year =
     let k = at.time.subsec_nanosecond / 1_000_000 in
     let whole : k * 1_000_000 ≡ at.time.subsec_nanosecond = omega (arith, signed_arith, civil_nanos-parts at) in
     let part = rw whole at (fraction_part-millis k (omega arith)) in
-    rw (civil_of-jiff ms at is, year, ← part) (simp append_assoc refl)
+    rw (civil_of_millis-jiff ms at is, year, ← part) (simp append_assoc refl)

@@ -19,7 +19,7 @@ use Rattle.jiff_core.specs.Time.{time_seconds}
 use Rattle.jiff_core.proofs.CalendarLemmas.{days_in_month_bounds}
 use Rattle.bson_datetime.specs.JiffConversion.{HasJiffTime}
 use Rattle.bson_datetime.specs.Rfc3339Parser.{two_digits, four_digits, two_digits_below, after_byte, after_letter, day_number}
-use Rattle.bson_datetime.specs.Rfc3339Parser.{date_part, time_part, fraction_part, offset_part, parsed_rfc3339_millis, nanos_of}
+use Rattle.bson_datetime.specs.Rfc3339Parser.{date_part, time_part, fraction_part, offset_part, parsed_rfc3339_millis, epoch_nanos}
 use Rattle.bson_datetime.specs.CivilTime.{IsRfc3339Millis}
 use Rattle.bson_datetime.specs.DateTimeText.{rfc3339_text}
 use Rattle.bson_datetime.proofs.MomentExists.{moment_at}
@@ -120,9 +120,9 @@ int_div-whole (pos n) = omega (arith, signed_arith)
 int_div-whole (negsuc n) = omega (arith, signed_arith)
 
 -- the nanoseconds of a moment's parts
-nanos_of-moment : (at : DateTime)
-    → nanos_of (epoch_day at.date) (time_seconds at.time) at.time.subsec_nanosecond (pos 0) ≡ civil_nanos at
-nanos_of-moment at = omega (arith, signed_arith, civil_nanos-parts at)
+epoch_nanos-moment : (at : DateTime)
+    → epoch_nanos (epoch_day at.date) (time_seconds at.time) at.time.subsec_nanosecond (pos 0) ≡ civil_nanos at
+epoch_nanos-moment at = omega (arith, signed_arith, civil_nanos-parts at)
 
 parsed_rfc3339_millis-parts : (at : DateTime) (y : ℕ) (ms : ℤ) → at.date.year ≡ pos y → y < 10_000 → HasJiffTime ms at
     → parsed_rfc3339_millis (iso_datetime_text at ++ 90 ∷ []) ≡ Some ms
@@ -134,8 +134,8 @@ parsed_rfc3339_millis-parts at y ms year small is =
     let after_t = pad2 t.hour ++ 58 ∷ pad2 t.minute ++ 58 ∷ pad2 t.second ++ after_second in
     let shape : iso_datetime_text at ++ 90 ∷ [] ≡ pad4 y ++ 45 ∷ pad2 d.month ++ 45 ∷ pad2 d.day ++ 84 ∷ after_t =
     rw year (simp append_assoc refl) in
-    let value : int_div (nanos_of (epoch_day d) (time_seconds t) t.subsec_nanosecond (pos 0)) (pos 1_000_000) ≡ ms =
-    rw (nanos_of-moment at, is) (int_div-whole ms) in
+    let value : int_div (epoch_nanos (epoch_day d) (time_seconds t) t.subsec_nanosecond (pos 0)) (pos 1_000_000) ≡ ms =
+    rw (epoch_nanos-moment at, is) (int_div-whole ms) in
     rw (
       shape,
       date_part-text d y (84 ∷ after_t) year small,

@@ -4,9 +4,9 @@ use Rattle.std.proofs.Common.{length-append, ℤ, pos}
 use Rattle.std.specs.Prelude.{codes, if◌then◌else◌}
 use Rattle.std.proofs.lemmas.Bool.{cases_Bool}
 use Rattle.jiff.proofs.SpanFacts.{signed_arith}
-use Rattle.bson_datetime.specs.CivilTime.{Civil, IsRfc3339Millis}
+use Rattle.bson_datetime.specs.CivilTime.{CivilDateTime, IsRfc3339Millis}
 use Rattle.bson_datetime.specs.DateTimeText.{thousandths_text, rfc3339_text, civil_rfc3339_text}
-use Rattle.bson_datetime.proofs.DisplayedLemmas.{civil_of-jiff}
+use Rattle.bson_datetime.proofs.DisplayedLemmas.{civil_of_millis-jiff}
 use Rattle.bson_datetime.proofs.MomentExists.{moment_at}
 use Rattle.bson_datetime.proofs.MomentLemmas.{moment-not_negative}
 
@@ -31,7 +31,7 @@ fraction-length n =
       | inr a ↦ rw a (omega (arith, thousandths_text-length n))
     ]
 
-civil_rfc3339_text-length : (c : Civil) (y : ℕ) → c.year ≡ pos y → length (civil_rfc3339_text c) ≤ 24
+civil_rfc3339_text-length : (c : CivilDateTime) (y : ℕ) → c.year ≡ pos y → length (civil_rfc3339_text c) ≤ 24
 civil_rfc3339_text-length c y year =
     rw year (omega (arith, length-append (fraction c.millisecond) (codes "Z"), fraction-length c.millisecond))
 
@@ -41,4 +41,4 @@ unfolding rfc3339_text
 rfc-length ms h =
     let at = moment_at ms (omega (arith, signed_arith, h.0), h.1) in
     let year = moment-not_negative ms at.0 at.1 h.0 in
-    rw (civil_of-jiff ms at.0 at.1) (civil_rfc3339_text-length _ year.0 year.1)
+    rw (civil_of_millis-jiff ms at.0 at.1) (civil_rfc3339_text-length _ year.0 year.1)

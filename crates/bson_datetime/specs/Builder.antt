@@ -1,6 +1,6 @@
 -- The builder of a date-time: its fields after each call.
 use Rattle.std.specs.Prelude.{ℕ, ℤ, None, Some, unwrap_or}
-use Rattle.bson_datetime.specs.CivilTime.{Civil}
+use Rattle.bson_datetime.specs.CivilTime.{CivilDateTime}
 use Rattle.bson_datetime.specs.declared.builder.DateTimeBuilder.{DateTimeBuilder}
 use Rattle.bson_datetime.specs.declared.builder.NoYear.{NoYear}
 use Rattle.bson_datetime.specs.declared.builder.NoMonth.{NoMonth}
@@ -20,49 +20,49 @@ empty_builder = record {
 
 -- a builder with one more field set; the other fields are unchanged
 abbrev pub with_year : {M D : Type 0} → ℤ → DateTimeBuilder NoYear M D → DateTimeBuilder Year M D
-with_year n builder = record {
-  year = record { number = n };
+with_year new_value builder = record {
+  year = record { calendar_value = new_value };
   month = builder.month;
   day = builder.day;
   time = builder.time;
 }
 
 abbrev pub with_month : {Y D : Type 0} → ℕ → DateTimeBuilder Y NoMonth D → DateTimeBuilder Y Month D
-with_month n builder = record {
+with_month new_value builder = record {
   year = builder.year;
-  month = record { number = n };
+  month = record { calendar_value = new_value };
   day = builder.day;
   time = builder.time;
 }
 
 abbrev pub with_day : {Y M : Type 0} → ℕ → DateTimeBuilder Y M NoDay → DateTimeBuilder Y M Day
-with_day n builder = record {
+with_day new_value builder = record {
   year = builder.year;
   month = builder.month;
-  day = record { number = n };
+  day = record { calendar_value = new_value };
   time = builder.time;
 }
 
 -- the time of day: the last call counts
 module _ {Y M D : Type 0} where
   abbrev pub with_hour : ℕ → DateTimeBuilder Y M D → DateTimeBuilder Y M D
-  with_hour n builder = record builder { time = record builder.time { hour = Some n } }
+  with_hour new_value builder = record builder { time = record builder.time { hour = Some new_value } }
 
   abbrev pub with_minute : ℕ → DateTimeBuilder Y M D → DateTimeBuilder Y M D
-  with_minute n builder = record builder { time = record builder.time { minute = Some n } }
+  with_minute new_value builder = record builder { time = record builder.time { minute = Some new_value } }
 
   abbrev pub with_second : ℕ → DateTimeBuilder Y M D → DateTimeBuilder Y M D
-  with_second n builder = record builder { time = record builder.time { second = Some n } }
+  with_second new_value builder = record builder { time = record builder.time { second = Some new_value } }
 
   abbrev pub with_millisecond : ℕ → DateTimeBuilder Y M D → DateTimeBuilder Y M D
-  with_millisecond n builder = record builder { time = record builder.time { millisecond = Some n } }
+  with_millisecond new_value builder = record builder { time = record builder.time { millisecond = Some new_value } }
 
 -- the date and time of a builder whose date is set; a part of the time that was not set is 0
-abbrev pub civil_fields : DateTimeBuilder Year Month Day → Civil
+abbrev pub civil_fields : DateTimeBuilder Year Month Day → CivilDateTime
 civil_fields builder = record {
-  year = builder.year.number;
-  month = builder.month.number;
-  day = builder.day.number;
+  year = builder.year.calendar_value;
+  month = builder.month.calendar_value;
+  day = builder.day.calendar_value;
   hour = unwrap_or builder.time.hour 0;
   minute = unwrap_or builder.time.minute 0;
   second = unwrap_or builder.time.second 0;

@@ -7,7 +7,7 @@ use Rattle.jiff.specs.Words.{IsBetween, days_in_year, days_in_month}
 use Rattle.jiff_core.specs.Calendar.{IsCivilDate, days_from_civil}
 
 -- a date and a time of day in UTC
-pub record Civil : Type 0 where
+pub record CivilDateTime : Type 0 where
   pub year : ℤ
   pub month : ℕ
   pub day : ℕ
@@ -17,55 +17,59 @@ pub record Civil : Type 0 where
   pub millisecond : ℕ
 
 -- the calendar has the date, and a day has the time
-abbrev pub IsCivil : Civil → Type 0
-IsCivil civil =
-    IsCivilDate civil.year civil.month civil.day × (civil.hour < 24) × (civil.minute < 60) × (civil.second < 60) × (civil.millisecond < 1000)
+abbrev pub IsCivilDateTime : CivilDateTime → Type 0
+IsCivilDateTime civil =
+    IsCivilDate civil.year civil.month civil.day × (civil.hour < 24) × (civil.minute < 60) × (civil.second < 60)
+    × (civil.millisecond < 1000)
 
 -- a day has the time
-abbrev pub IsTimeOfDay : Civil → Type 0
+abbrev pub IsTimeOfDay : CivilDateTime → Type 0
 IsTimeOfDay civil = (civil.hour < 24) × (civil.minute < 60) × (civil.second < 60) × (civil.millisecond < 1000)
 
 -- the milliseconds since midnight
-abbrev pub millis_of_day : Civil → ℕ
+abbrev pub millis_of_day : CivilDateTime → ℕ
 millis_of_day civil = (civil.hour * 3600 + civil.minute * 60 + civil.second) * 1000 + civil.millisecond
 
 -- the date and time exists, and is this number of milliseconds after 1970-01-01T00:00:00Z
-abbrev pub HasCivilTime : ℤ → Civil → Type 0
-HasCivilTime ms civil =
-    IsCivil civil × (ms ≡ (days_from_civil civil.year civil.month civil.day *ℤ pos 86_400_000) +ℤ pos (millis_of_day civil))
+abbrev pub HasCivilTime : (millis : ℤ) → CivilDateTime → Type 0
+HasCivilTime millis civil =
+    IsCivilDateTime civil
+    × (millis ≡ (days_from_civil civil.year civil.month civil.day *ℤ pos 86_400_000) +ℤ pos (millis_of_day civil))
 
 -- milliseconds of the years -9999 to 9999, which have a date and time
-abbrev pub IsCivilMillis : ℤ → Type 0
-IsCivilMillis ms = IsBetween (neg_ℤ (pos 377_705_116_800_000)) (pos 253_402_300_799_999) ms
+abbrev pub IsCivilMillis : (millis : ℤ) → Type 0
+IsCivilMillis millis = IsBetween (neg_ℤ (pos 377_705_116_800_000)) (pos 253_402_300_799_999) millis
 
 -- milliseconds of the years 0000 to 9999, which RFC 3339 can write
-abbrev pub IsRfc3339Millis : ℤ → Type 0
-IsRfc3339Millis ms = IsBetween (neg_ℤ (pos 62_167_219_200_000)) (pos 253_402_300_799_999) ms
+abbrev pub IsRfc3339Millis : (millis : ℤ) → Type 0
+IsRfc3339Millis millis = IsBetween (neg_ℤ (pos 62_167_219_200_000)) (pos 253_402_300_799_999) millis
 
--- ---- The date and time of milliseconds, as a function: `HasCivilTime ms (civil_of ms)` for the years -9999 to 9999.
+-- ---- The date and time of milliseconds, as a function: `HasCivilTime millis (civil_of_millis millis)` for the years -9999 to 9999.
 
 -- the number of the day, from 1970-01-01, and the milliseconds since its midnight. The division rounds down, so that a
 -- negative number of milliseconds has the fields of its own day.
-abbrev pub day_of_millis : ℤ → ℤ
-day_of_millis ms = int_div_euclid ms (pos 86_400_000)
+abbrev pub day_of_millis : (millis : ℤ) → ℤ
+day_of_millis millis = int_div_euclid millis (pos 86_400_000)
 
-abbrev pub time_of_millis : ℤ → ℕ
-time_of_millis ms = unsigned_abs (int_rem_euclid ms (pos 86_400_000))
+abbrev pub time_of_millis : (millis : ℤ) → ℕ
+time_of_millis millis = unsigned_abs (int_rem_euclid millis (pos 86_400_000))
 
--- the year of a day, and the number of days before it in this year. The day is `n` days after the first day of the year
+-- the year of a day, and the number of days before it in this year. The day is `day_offset` days after the first day of the year
 -- that is `years` years after -10000. Subtracts each year that is over.
-unfoldable pub year_and_day : ℕ → ℕ → ℕ → ℕ × ℕ
-year_and_day zero years n = (years, n)
-year_and_day (suc more) years n =
-    let long = days_in_year (pos years -ℤ pos 10000) in
-    if nat_lt n long then (years, n) else year_and_day more (suc years) (n - long)
+unfoldable pub year_and_day : (fuel years day_offset : ℕ) → ℕ × ℕ
+year_and_day zero years day_offset = (years, day_offset)
+year_and_day (suc fuel) years day_offset =
+    let days_in_period = days_in_year (pos years -ℤ pos 10000) in
+    if nat_lt day_offset days_in_period then (years, day_offset)
+    else year_and_day fuel (suc years) (day_offset - days_in_period)
 
 -- the same for the months of a year
-unfoldable pub month_and_day : ℤ → ℕ → ℕ → ℕ → ℕ × ℕ
-month_and_day y zero month n = (month, n)
-month_and_day y (suc more) month n =
-    let long = days_in_month y month in
-    if nat_lt n long then (month, n) else month_and_day y more (suc month) (n - long)
+unfoldable pub month_and_day : (calendar_year : ℤ) → (fuel month day_offset : ℕ) → ℕ × ℕ
+month_and_day calendar_year zero month day_offset = (month, day_offset)
+month_and_day calendar_year (suc fuel) month day_offset =
+    let days_in_period = days_in_month calendar_year month in
+    if nat_lt day_offset days_in_period then (month, day_offset)
+    else month_and_day calendar_year fuel (suc month) (day_offset - days_in_period)
 
 pub record CivilDate : Type 0 where
   pub year : ℤ
@@ -73,16 +77,16 @@ pub record CivilDate : Type 0 where
   pub day : ℕ
 
 -- the date of a day number: day 0 is 4371953 days after -10000-01-01
-unfoldable pub civil_date : ℤ → CivilDate
+unfoldable pub civil_date : (day : ℤ) → CivilDate
 civil_date day =
-    let y = year_and_day 20000 0 (unsigned_abs (day +ℤ pos 4_371_953)) in
-    let m = month_and_day (pos y.0 -ℤ pos 10000) 12 1 y.1 in
-    record { year = pos y.0 -ℤ pos 10000; month = m.0; day = m.1 + 1 }
+    let year_pair = year_and_day 20000 0 (unsigned_abs (day +ℤ pos 4_371_953)) in
+    let month_pair = month_and_day (pos year_pair.0 -ℤ pos 10000) 12 1 year_pair.1 in
+    record { year = pos year_pair.0 -ℤ pos 10000; month = month_pair.0; day = month_pair.1 + 1 }
 
-unfoldable pub civil_of : ℤ → Civil
-civil_of ms =
-    let date = civil_date (day_of_millis ms) in
-    let time = time_of_millis ms in
+unfoldable pub civil_of_millis : (millis : ℤ) → CivilDateTime
+civil_of_millis millis =
+    let date = civil_date (day_of_millis millis) in
+    let time = time_of_millis millis in
     record {
       year = date.year;
       month = date.month;

@@ -13,13 +13,13 @@ abbrev pub whole_millis : Duration → ℕ
 whole_millis duration = as_nanos duration / 1_000_000
 
 -- a length in milliseconds, as the nanoseconds of a duration
-abbrev pub nanos_of_millis : ℤ → ℤ
-nanos_of_millis ms = ms *ℤ pos 1_000_000
+abbrev pub nanos_of_millis : (millis : ℤ) → ℤ
+nanos_of_millis millis = millis *ℤ pos 1_000_000
 
 -- the exact sum with a duration, but at most the last date-time
-abbrev pub saturating_sum : ℤ → Duration → ℤ
-saturating_sum ms duration = int_min max_millis (ms +ℤ pos (whole_millis duration))
+abbrev pub saturating_sum : (millis : ℤ) → Duration → ℤ
+saturating_sum millis duration = int_min max_millis (millis +ℤ pos (whole_millis duration))
 
 -- the milliseconds since `earlier`, or 0 if `earlier` is later
-abbrev pub millis_since : ℤ → ℤ → ℤ
-millis_since ms earlier = int_max (pos 0) (ms -ℤ earlier)
+abbrev pub millis_since : (millis earlier : ℤ) → ℤ
+millis_since millis earlier = int_max (pos 0) (millis -ℤ earlier)

@@ -15,9 +15,9 @@ IsCannotFormat (CannotFormat message) = message ≡ YearOutOfRange
 IsCannotFormat _ = ⊥
 
 -- the string, or the parts, are rejected with this message
-abbrev pub IsInvalidFor : Message → Error → Type 0
-IsInvalidFor why (InvalidTimestamp message) = message ≡ why
-IsInvalidFor why _ = ⊥
+abbrev pub IsInvalidWithMessage : Message → Error → Type 0
+IsInvalidWithMessage expected_message (InvalidTimestamp message) = message ≡ expected_message
+IsInvalidWithMessage expected_message _ = ⊥
 
 abbrev pub IsOutOfMemory : Error → Type 0
 IsOutOfMemory OutOfMemory = Unit {0}

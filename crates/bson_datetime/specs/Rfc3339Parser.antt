@@ -16,112 +16,115 @@ Parsed A = Option (A × List ℕ)
 
 infixl 10 ◌>>=◌
 abbrev pub ◌>>=◌ : {A B : Type 0} → Option A → (A → Option B) → Option B
-None >>= f = None
-(Some x) >>= f = f x
+None >>= next_step = None
+(Some parsed) >>= next_step = next_step parsed
 
 -- two digits at the start
-unfoldable pub two_digits : List ℕ → Parsed ℕ
-two_digits (high ∷ low ∷ rest) =
+unfoldable pub two_digits : (text : List ℕ) → Parsed ℕ
+two_digits (high ∷ low ∷ remaining_text) =
     if is_ascii_digit high && is_ascii_digit low
-    then Some ((high - 48) * 10 + (low - 48), rest)
+    then Some ((high - 48) * 10 + (low - 48), remaining_text)
     else None
 two_digits _ = None
 
 -- four digits at the start
-unfoldable pub four_digits : List ℕ → Parsed ℕ
+unfoldable pub four_digits : (text : List ℕ) → Parsed ℕ
 four_digits text = do
   century ← two_digits text
   year ← two_digits century.1
   Some (century.0 * 100 + year.0, year.1)
 
 -- two digits of a number below the bound
-unfoldable pub two_digits_below : ℕ → List ℕ → Parsed ℕ
+unfoldable pub two_digits_below : (bound : ℕ) → List ℕ → Parsed ℕ
 two_digits_below bound text = do
-  n ← two_digits text
-  if nat_le bound n.0 then None else Some n
+  parsed_number ← two_digits text
+  if nat_le bound parsed_number.0 then None else Some parsed_number
 
 -- the string after this byte at its start
-unfoldable pub after_byte : ℕ → List ℕ → Option (List ℕ)
+unfoldable pub after_byte : (byte : ℕ) → List ℕ → Option (List ℕ)
 after_byte byte [] = None
-after_byte byte (first ∷ rest) = if first == byte then Some rest else None
+after_byte byte (first_byte ∷ remaining_text) = if first_byte == byte then Some remaining_text else None
 
 -- the string after this letter, of either case, at its start
-unfoldable pub after_letter : ℕ → List ℕ → Option (List ℕ)
+unfoldable pub after_letter : (upper : ℕ) → List ℕ → Option (List ℕ)
 after_letter upper [] = None
-after_letter upper (first ∷ rest) = if (first == upper) || (first == upper + 32) then Some rest else None
+after_letter upper (first_byte ∷ remaining_text) =
+    if (first_byte == upper) || (first_byte == upper + 32) then Some remaining_text else None
 
 -- the day number, if the calendar has the day
-unfoldable pub day_number : ℕ → ℕ → ℕ → Option ℤ
+unfoldable pub day_number : (year month day : ℕ) → Option ℤ
 day_number year month day =
     if nat_le 1 month && nat_le month 12 && nat_le 1 day && nat_le day (days_in_month (pos year) month)
     then Some (days_from_civil (pos year) month day)
     else None
 
 -- `YYYY-MM-DD`, as a day number
-unfoldable pub date_part : List ℕ → Parsed ℤ
+unfoldable pub date_part : (text : List ℕ) → Parsed ℤ
 date_part text = do
   year ← four_digits text
-  tail ← after_byte 45 year.1
-  month ← two_digits tail
-  next_tail ← after_byte 45 month.1
-  day ← two_digits next_tail
+  after_separator ← after_byte 45 year.1
+  month ← two_digits after_separator
+  after_second_separator ← after_byte 45 month.1
+  day ← two_digits after_second_separator
   number ← day_number year.0 month.0 day.0
   Some (number, day.1)
 
 -- `hh:mm:ss`, in seconds
-unfoldable pub time_part : List ℕ → Parsed ℕ
+unfoldable pub time_part : (text : List ℕ) → Parsed ℕ
 time_part text = do
   hour ← two_digits_below 24 text
-  tail ← after_byte 58 hour.1
-  minute ← two_digits_below 60 tail
-  next_tail ← after_byte 58 minute.1
-  second ← two_digits_below 60 next_tail
+  after_separator ← after_byte 58 hour.1
+  minute ← two_digits_below 60 after_separator
+  after_second_separator ← after_byte 58 minute.1
+  second ← two_digits_below 60 after_second_separator
   Some (hour.0 * 3600 + minute.0 * 60 + second.0, second.1)
 
 -- a point and at least one digit, in nanoseconds; 0 without a point
-unfoldable pub fraction_part : List ℕ → Parsed ℕ
+unfoldable pub fraction_part : (text : List ℕ) → Parsed ℕ
 fraction_part [] = Some (0, [])
-fraction_part (first ∷ rest) =
-    if first == 46 then
-    (let len = prefix_len is_ascii_digit rest in
-    if len == 0 then None else Some (fraction_value 9 (take len rest), drop len rest))
-    else Some (0, first ∷ rest)
+fraction_part (first_byte ∷ remaining_text) =
+    if first_byte == 46 then
+    (let len = prefix_len is_ascii_digit remaining_text in
+    if len == 0 then None else Some (fraction_value 9 (take len remaining_text), drop len remaining_text))
+    else Some (0, first_byte ∷ remaining_text)
 
 -- `hh:mm`, in seconds
-unfoldable pub hours_minutes : List ℕ → Parsed ℕ
+unfoldable pub hours_minutes : (text : List ℕ) → Parsed ℕ
 hours_minutes text = do
   hour ← two_digits_below 24 text
-  tail ← after_byte 58 hour.1
-  minute ← two_digits_below 60 tail
+  after_separator ← after_byte 58 hour.1
+  minute ← two_digits_below 60 after_separator
   Some (hour.0 * 3600 + minute.0 * 60, minute.1)
 
 -- `Z`, or a sign and `hh:mm`: how many seconds the clock is ahead
-unfoldable pub offset_part : List ℕ → Parsed ℤ
+unfoldable pub offset_part : (text : List ℕ) → Parsed ℤ
 offset_part [] = None
-offset_part (first ∷ rest) =
-    if (first == 90) || (first == 122) then Some (pos 0, rest)
-    else if first == 43 then option_map (λ n. (pos n.0, n.1)) (hours_minutes rest)
-    else if first == 45 then option_map (λ n. (neg_ℤ (pos n.0), n.1)) (hours_minutes rest)
+offset_part (first_byte ∷ remaining_text) =
+    if (first_byte == 90) || (first_byte == 122) then Some (pos 0, remaining_text)
+    else if first_byte == 43
+    then option_map (λ parsed_number. (pos parsed_number.0, parsed_number.1)) (hours_minutes remaining_text)
+    else if first_byte == 45
+    then option_map (λ parsed_number. (neg_ℤ (pos parsed_number.0), parsed_number.1)) (hours_minutes remaining_text)
     else None
 
 -- the nanoseconds since the epoch of a day number, the seconds of the day, a fraction and an offset
-abbrev pub nanos_of : ℤ → ℕ → ℕ → ℤ → ℤ
-nanos_of day seconds nanos offset =
+abbrev pub epoch_nanos : (day : ℤ) → (seconds nanos : ℕ) → (offset : ℤ) → ℤ
+epoch_nanos day seconds nanos offset =
     ((day *ℤ pos 86_400) +ℤ pos seconds -ℤ offset) *ℤ pos 1_000_000_000 +ℤ pos nanos
 
 -- the date-time that a string denotes, if it denotes one
-unfoldable pub parsed_rfc3339_millis : List ℕ → Option ℤ
+unfoldable pub parsed_rfc3339_millis : (text : List ℕ) → Option ℤ
 parsed_rfc3339_millis text = do
   day ← date_part text
-  tail ← after_letter 84 day.1
-  time ← time_part tail
+  after_separator ← after_letter 84 day.1
+  time ← time_part after_separator
   nanos ← fraction_part time.1
   offset ← offset_part nanos.1
-  if length offset.1 == 0 then Some (int_div (nanos_of day.0 time.0 nanos.0 offset.0) (pos 1_000_000)) else None
+  if length offset.1 == 0 then Some (int_div (epoch_nanos day.0 time.0 nanos.0 offset.0) (pos 1_000_000)) else None
 
 -- the result of a parsing function, with the remaining bytes in place of the reference to them
-abbrev pub parsed_view : {A : Type 0} → Option (A × Bor (List ℕ)) → Parsed A
-parsed_view r = option_map (λ p. (p.0, p.1.now)) r
+abbrev pub parse_result_bytes : {A : Type 0} → Option (A × Bor (List ℕ)) → Parsed A
+parse_result_bytes parse_result = option_map (λ parsed_part. (parsed_part.0, parsed_part.1.now)) parse_result
 
-abbrev pub remaining_view : Option (Bor (List ℕ)) → Option (List ℕ)
-remaining_view r = option_map (λ tail. tail.now) r
+abbrev pub remaining_bytes_of : Option (Bor (List ℕ)) → Option (List ℕ)
+remaining_bytes_of parse_result = option_map (λ after_separator. after_separator.now) parse_result

@@ -3,8 +3,8 @@
 ghost use Rattle.std.specs.Prelude.{◌≡◌, ◌↔◌, IsOk, IfOk, IfErr};
 ghost use Rattle.jiff.specs.Words.{IsEpochDay};
 ghost use Rattle.jiff_core.specs.Calendar.{IsCivilDate, days_from_civil};
-ghost use Rattle.bson_datetime.specs.Errors.{IsInvalidFor, IsInvalidTimestamp};
-ghost use Rattle.bson_datetime.specs.CivilTime.{IsCivil, HasCivilTime, IsTimeOfDay, civil_of};
+ghost use Rattle.bson_datetime.specs.Errors.{IsInvalidWithMessage, IsInvalidTimestamp};
+ghost use Rattle.bson_datetime.specs.CivilTime.{IsCivilDateTime, HasCivilTime, IsTimeOfDay, civil_of_millis};
 
 use crate::error::Message;
 use crate::{DateTime, Error, Result};
@@ -13,7 +13,7 @@ use jiff::civil::Date;
 /// The year is set.
 #[derive(Drop)]
 pub struct Year {
-    number: i32,
+    calendar_value: i32,
 }
 
 /// The year is not set.
@@ -23,7 +23,7 @@ pub struct NoYear {}
 /// The month is set.
 #[derive(Drop)]
 pub struct Month {
-    number: u8,
+    calendar_value: u8,
 }
 
 /// The month is not set.
@@ -33,7 +33,7 @@ pub struct NoMonth {}
 /// The day of the month is set.
 #[derive(Drop)]
 pub struct Day {
-    number: u8,
+    calendar_value: u8,
 }
 
 /// The day of the month is not set.
@@ -95,7 +95,9 @@ impl<M, D> DateTimeBuilder<NoYear, M, D> {
         ensures { result ≡ with_year year self }
     {
         DateTimeBuilder {
-            year: Year { number: year },
+            year: Year {
+                calendar_value: year,
+            },
             month: self.month,
             day: self.day,
             time: self.time,
@@ -112,7 +114,9 @@ impl<Y, D> DateTimeBuilder<Y, NoMonth, D> {
     {
         DateTimeBuilder {
             year: self.year,
-            month: Month { number: month },
+            month: Month {
+                calendar_value: month,
+            },
             day: self.day,
             time: self.time,
         }
@@ -129,7 +133,9 @@ impl<Y, M> DateTimeBuilder<Y, M, NoDay> {
         DateTimeBuilder {
             year: self.year,
             month: self.month,
-            day: Day { number: day },
+            day: Day {
+                calendar_value: day,
+            },
             time: self.time,
         }
     }
@@ -184,12 +190,12 @@ impl DateTimeBuilder<Year, Month, Day> {
     /// - `InvalidTimestamp` with `NoSuchDay`: the time of day is in range, and the date is out of
     ///   range or does not exist.
     pub fn build(self) -> Result<DateTime>
-        ensures exists { IsOk result ↔ IsCivil (civil_fields self) }
-        ensures value { IfOk result (λ ms. HasCivilTime ms (civil_fields self)) }
-        ensures fields { IfOk result (λ ms. civil_of ms ≡ civil_fields self) }
+        ensures exists { IsOk result ↔ IsCivilDateTime (civil_fields self) }
+        ensures value { IfOk result (λ built_millis. HasCivilTime built_millis (civil_fields self)) }
+        ensures fields { IfOk result (λ built_millis. civil_of_millis built_millis ≡ civil_fields self) }
         ensures err { IfErr result IsInvalidTimestamp }
-        ensures time { ¬ (IsTimeOfDay (civil_fields self)) → IfErr result (IsInvalidFor Message.NoSuchTime) }
-        ensures day { IsTimeOfDay (civil_fields self) → IfErr result (IsInvalidFor Message.NoSuchDay) }
+        ensures time { ¬ (IsTimeOfDay (civil_fields self)) → IfErr result (IsInvalidWithMessage Message.NoSuchTime) }
+        ensures day { IsTimeOfDay (civil_fields self) → IfErr result (IsInvalidWithMessage Message.NoSuchDay) }
     {
         let hour = self.time.hour.unwrap_or(0);
         let minute = self.time.minute.unwrap_or(0);
@@ -198,19 +204,23 @@ impl DateTimeBuilder<Year, Month, Day> {
         if hour > 23 || minute > 59 || second > 59 || millisecond > 999 {
             return Err(NO_SUCH_TIME);
         }
-        let day = day_number(self.year.number, self.month.number, self.day.number)?;
+        let day = day_number(
+            self.year.calendar_value,
+            self.month.calendar_value,
+            self.day.calendar_value,
+        )?;
         let seconds = hour as u32 * 3600 + minute as u32 * 60 + second as u32;
         let time = seconds * 1000 + millisecond as u32;
         Ok(DateTime::from_millis(day * 86_400_000 + time as i64))
     }
 }
 
-// The number of a day from 1970-01-01, if the calendar has the day.
+// How many days after 1970-01-01 a day is, if the calendar has the day.
 fn day_number(year: i32, month: u8, day: u8) -> Result<i64>
     ensures exists { IsOk result ↔ IsCivilDate year month day }
-    ensures value { IfOk result (λ n. n ≡ days_from_civil year month day) }
+    ensures value { IfOk result (λ epoch_day. epoch_day ≡ days_from_civil year month day) }
     ensures bound { IfOk result IsEpochDay }
-    ensures err { IfErr result (IsInvalidFor Message.NoSuchDay) }
+    ensures err { IfErr result (IsInvalidWithMessage Message.NoSuchDay) }
 {
     if year < -9999 || year > 9999 || month > 12 || day > 31 {
         return Err(NO_SUCH_DAY);

@@ -3,7 +3,7 @@
 ghost use Rattle.std.specs.Prelude.{◌≡◌, ◌↔◌, pos, ℤ, ◌+ℤ◌, ◌-ℤ◌, ◌<ℤ◌, IsSome, IsNone, IfSome};
 ghost use Rattle.std.specs.Int.{saturate_signed, w64};
 ghost use Rattle.std.specs.Duration.{as_nanos};
-ghost use Rattle.bson_datetime.specs.CivilTime.{Civil, HasCivilTime, IsCivilMillis, civil_of};
+ghost use Rattle.bson_datetime.specs.CivilTime.{CivilDateTime, HasCivilTime, IsCivilMillis, civil_of_millis};
 ghost use Rattle.bson_datetime.specs.DateTimeSums.{saturating_sum, millis_since, nanos_of_millis};
 ghost use Rattle.bson_datetime.specs.JiffConversion.{HasJiffTime};
 
@@ -34,9 +34,9 @@ pub struct DateTime {
 impl Model for DateTime {
     ghost Value = { ℤ };
 
-    ghost view = { λ d. d.millis };
+    ghost view = { λ date_time. date_time.millis };
 
-    ghost inverse = { λ z. record { millis = z } };
+    ghost inverse = { λ number. record { millis = number } };
 }
 
 impl DateTime {
@@ -69,8 +69,9 @@ impl DateTime {
 
         // A date-time of the years -9999 to 9999 has one date and time, which its strings show.
         // No other date-time has one.
-        ensures exists { IsCivilMillis self → HasCivilTime self (civil_of self) }
-        ensures only { (c : Civil) → HasCivilTime self c → IsCivilMillis self × (civil_of self ≡ c) }
+        ensures exists { IsCivilMillis self → HasCivilTime self (civil_of_millis self) }
+        ensures only { (civil_time : CivilDateTime) → HasCivilTime self civil_time
+            → IsCivilMillis self × (civil_of_millis self ≡ civil_time) }
     {
         self.millis
     }
@@ -100,7 +101,7 @@ impl DateTime {
     /// Returns the exact time since `earlier`, or `None` if `earlier` is later than this date-time.
     pub fn checked_duration_since(self, earlier: DateTime) -> Option<Duration>
         ensures none { IsNone result ↔ (self <ℤ earlier) }
-        ensures value { IfSome result (λ d. pos (as_nanos d) ≡ nanos_of_millis (self -ℤ earlier)) }
+        ensures value { IfSome result (λ duration. pos (as_nanos duration) ≡ nanos_of_millis (self -ℤ earlier)) }
     {
         if self.millis < earlier.millis {
             return None;
@@ -113,7 +114,7 @@ impl DateTime {
         ensures { pos (as_nanos result) ≡ nanos_of_millis (millis_since self earlier) }
     {
         match self.checked_duration_since(earlier) {
-            Some(since) => since,
+            Some(elapsed) => elapsed,
             None => Duration::ZERO,
         }
     }
@@ -122,10 +123,10 @@ impl DateTime {
     pub(crate) fn civil(self) -> Option<civil::DateTime>
         ensures exists { IsSome result ↔ IsCivilMillis self }
         ensures value { IfSome result (HasJiffTime self) }
-        ensures fields { IsCivilMillis self → HasCivilTime self (civil_of self) }
+        ensures fields { IsCivilMillis self → HasCivilTime self (civil_of_millis self) }
     {
         match jiff_core::civil::DateTime::from_nanosecond(self.millis as i128 * 1_000_000) {
-            Ok(at) => Some(civil::DateTime::from_plain(at)),
+            Ok(jiff_time) => Some(civil::DateTime::from_plain(jiff_time)),
             Err(_) => None,
         }
     }
@@ -137,7 +138,7 @@ impl DateTime {
     ghost use Rattle.bson_datetime.specs.Rfc3339Parser.{parsed_rfc3339_millis};
     ghost use Rattle.bson_datetime.specs.Rfc3339Grammar.{DenotesDateTime};
     ghost use Rattle.bson_datetime.specs.DateTimeText.{rfc3339_text, civil_rfc3339_text};
-    ghost use Rattle.bson_datetime.specs.Errors.{IsCannotFormat, IsInvalidFor, IsInvalidTimestamp};
+    ghost use Rattle.bson_datetime.specs.Errors.{IsCannotFormat, IsInvalidWithMessage, IsInvalidTimestamp};
     ghost use Rattle.bson_datetime.specs.Errors.{IsOutOfMemory};
 
     /// Writes the RFC 3339 string (section 5.6) in UTC, for example `1998-02-12T00:01:00.023Z`. The
@@ -150,19 +151,21 @@ impl DateTime {
     /// - `OutOfMemory`: a request for memory was refused.
     pub fn try_to_rfc3339_string(self, alloc: Global) -> Result<String>
         ensures ok { IfOk result (λ text. string_bytes text ≡ rfc3339_text self) }
-        ensures fields { IfOk result (λ text. (c : Civil) → HasCivilTime self c → string_bytes text ≡ civil_rfc3339_text c) }
+        ensures fields { IfOk result
+            (λ text. (civil_time : CivilDateTime) → HasCivilTime self civil_time
+            → string_bytes text ≡ civil_rfc3339_text civil_time) }
         ensures reads_back { IfOk result (λ text. DenotesDateTime (string_bytes text) self) }
 
         ensures in_years { OnOk result (IsRfc3339Millis self) }
-        ensures err { IfErr result (λ e. (IsCannotFormat e × ¬ (IsRfc3339Millis self)) ⊎ IsOutOfMemory e) }
+        ensures err { IfErr result (λ error. (IsCannotFormat error × ¬ (IsRfc3339Millis self)) ⊎ IsOutOfMemory error) }
     {
-        let Some(at) = self.civil() else {
+        let Some(jiff_time) = self.civil() else {
             return Err(CANNOT_FORMAT);
         };
-        if at.year() < 0 {
+        if jiff_time.year() < 0 {
             return Err(CANNOT_FORMAT);
         }
-        match format!(in alloc; "{at}Z") {
+        match format!(in alloc; "{jiff_time}Z") {
             Ok(text) => Ok(text),
             Err(_) => Err(Error::OutOfMemory),
         }
@@ -179,17 +182,21 @@ impl DateTime {
     /// - `InvalidTimestamp` with `NotRfc3339`: the string has another form, or one of its parts is
     ///   out of range. A second of 60 is out of range.
     pub fn parse_rfc3339_str(text: &str) -> Result<DateTime>
-        ensures ok { IfOk result (λ ms. DenotesDateTime text.now ms) }
-        ensures refused { IfErr result (λ e. IsInvalidTimestamp e × ((ms : ℤ) → ¬ (DenotesDateTime text.now ms))) }
-        ensures message { IfErr result (IsInvalidFor Message.NotRfc3339) }
+        ensures ok { IfOk result (λ denoted_millis. DenotesDateTime text.now denoted_millis) }
+        ensures refused { IfErr result
+            (λ error. IsInvalidTimestamp error × ((denoted_millis : ℤ) → ¬ (DenotesDateTime text.now denoted_millis))) }
+        ensures message { IfErr result (IsInvalidWithMessage Message.NotRfc3339) }
 
         // A string denotes at most one date-time. `parsed_rfc3339_millis`, which reads it from its start,
         // returns this one.
-        ensures one { (a b : ℤ) → DenotesDateTime text.now a → DenotesDateTime text.now b → a ≡ b }
-        ensures grammar { (ms : ℤ) → (parsed_rfc3339_millis text.now ≡ Some ms) ↔ DenotesDateTime text.now ms }
+        ensures one { (millis other_millis : ℤ) → DenotesDateTime text.now millis
+            → DenotesDateTime text.now other_millis → millis ≡ other_millis }
+        ensures grammar { (denoted_millis : ℤ)
+            → (parsed_rfc3339_millis text.now ≡ Some denoted_millis) ↔ DenotesDateTime text.now denoted_millis }
 
         // Every date-time of the years 0000 to 9999 round-trips through its string.
-        ensures round_trip { (ms : ℤ) → IsRfc3339Millis ms → text.now ≡ rfc3339_text ms → result ≡ Ok ms }
+        ensures round_trip { (denoted_millis : ℤ) → IsRfc3339Millis denoted_millis
+            → text.now ≡ rfc3339_text denoted_millis → result ≡ Ok denoted_millis }
     {
         match rfc3339::parse(text.as_bytes()) {
             Some(millis) => Ok(DateTime::from_millis(millis)),
@@ -212,21 +219,21 @@ impl fmt::Display for DateTime {
     ghost use Rattle.std.specs.Prelude.{Some};
     ghost use Rattle.bson_datetime.specs.DateTimeText.{date_time_text};
 
-    ghost output = { λ ms. Some (date_time_text ms) };
+    ghost output = { λ millis. Some (date_time_text millis) };
 
-    fn fmt<W: fmt::Write>(&self, f: &mut fmt::Formatter<W>) -> fmt::Result {
-        let Some(at) = self.civil() else {
+    fn fmt<W: fmt::Write>(&self, formatter: &mut fmt::Formatter<W>) -> fmt::Result {
+        let Some(jiff_time) = self.civil() else {
             let millis = self.millis;
-            return write!(f, "{millis}");
+            return write!(formatter, "{millis}");
         };
-        let text = CivilText { at };
-        write!(f, "{text}")
+        let text = CivilText { jiff_time };
+        write!(formatter, "{text}")
     }
 }
 
 /// Writes it for example as `DateTime(2023-01-23 20:11:47.316 +00:00:00)`.
 impl fmt::Debug for DateTime {
-    fn fmt<W: fmt::Write>(&self, f: &mut fmt::Formatter<W>) -> fmt::Result {
-        write!(f, "DateTime({self})")
+    fn fmt<W: fmt::Write>(&self, formatter: &mut fmt::Formatter<W>) -> fmt::Result {
+        write!(formatter, "DateTime({self})")
     }
 }

@@ -11,121 +11,126 @@ use std::fmt;
 // A number below 100, in two digits.
 #[derive(Clone, Copy)]
 pub(crate) struct TwoDigits {
-    pub value: u8,
-    pub ghost small: { value < 100 },
+    pub displayed_number: u8,
+    pub ghost small: { displayed_number < 100 },
 }
 
 impl fmt::Display for TwoDigits {
-    ghost output = { λ x. Some (two_digit_text x.value) };
+    ghost output = { λ shown. Some (two_digit_text shown.displayed_number) };
 
-    fn fmt<W: fmt::Write>(&self, f: &mut fmt::Formatter<W>) -> fmt::Result {
-        let high = (b'0' + self.value / 10) as char;
-        let low = (b'0' + self.value % 10) as char;
-        write!(f, "{high}{low}")
+    fn fmt<W: fmt::Write>(&self, formatter: &mut fmt::Formatter<W>) -> fmt::Result {
+        let tens_digit = (b'0' + self.displayed_number / 10) as char;
+        let ones_digit = (b'0' + self.displayed_number % 10) as char;
+        write!(formatter, "{tens_digit}{ones_digit}")
     }
 }
 
 // An hour without a leading zero.
 #[derive(Clone, Copy)]
 pub(crate) struct Hour {
-    pub value: u8,
-    pub ghost small: { value < 100 },
+    pub displayed_number: u8,
+    pub ghost small: { displayed_number < 100 },
 }
 
 impl fmt::Display for Hour {
-    ghost output = { λ x. Some (hour_text x.value) };
+    ghost output = { λ shown. Some (hour_text shown.displayed_number) };
 
-    fn fmt<W: fmt::Write>(&self, f: &mut fmt::Formatter<W>) -> fmt::Result {
-        let high = (b'0' + self.value / 10) as char;
-        let low = (b'0' + self.value % 10) as char;
-        if self.value < 10 {
-            return write!(f, "{low}");
+    fn fmt<W: fmt::Write>(&self, formatter: &mut fmt::Formatter<W>) -> fmt::Result {
+        let tens_digit = (b'0' + self.displayed_number / 10) as char;
+        let ones_digit = (b'0' + self.displayed_number % 10) as char;
+        if self.displayed_number < 10 {
+            return write!(formatter, "{ones_digit}");
         }
-        write!(f, "{high}{low}")
+        write!(formatter, "{tens_digit}{ones_digit}")
     }
 }
 
 // A fraction in thousandths: at least one digit, and no further zeros at the end.
 #[derive(Clone, Copy)]
 pub(crate) struct Fraction {
-    pub value: u16,
-    pub ghost small: { value < 1000 },
+    pub displayed_number: u16,
+    pub ghost small: { displayed_number < 1000 },
 }
 
 impl fmt::Display for Fraction {
-    ghost output = { λ x. Some (thousandths_text x.value) };
+    ghost output = { λ shown. Some (thousandths_text shown.displayed_number) };
 
-    fn fmt<W: fmt::Write>(&self, f: &mut fmt::Formatter<W>) -> fmt::Result {
-        let first = (b'0' + (self.value / 100) as u8) as char;
-        let second = (b'0' + (self.value / 10 % 10) as u8) as char;
-        let third = (b'0' + (self.value % 10) as u8) as char;
-        if self.value % 100 == 0 {
-            return write!(f, "{first}");
+    fn fmt<W: fmt::Write>(&self, formatter: &mut fmt::Formatter<W>) -> fmt::Result {
+        let tenths_digit = (b'0' + (self.displayed_number / 100) as u8) as char;
+        let hundredths_digit = (b'0' + (self.displayed_number / 10 % 10) as u8) as char;
+        let thousandths_digit = (b'0' + (self.displayed_number % 10) as u8) as char;
+        if self.displayed_number % 100 == 0 {
+            return write!(formatter, "{tenths_digit}");
         }
-        if self.value % 10 == 0 {
-            return write!(f, "{first}{second}");
+        if self.displayed_number % 10 == 0 {
+            return write!(formatter, "{tenths_digit}{hundredths_digit}");
         }
-        write!(f, "{first}{second}{third}")
+        write!(
+            formatter,
+            "{tenths_digit}{hundredths_digit}{thousandths_digit}"
+        )
     }
 }
 
 // A year in four digits, after a minus sign if it is negative.
 #[derive(Clone, Copy)]
 pub(crate) struct Year {
-    pub value: i16,
-    pub ghost small: { IsWithin 9999 value },
+    pub displayed_number: i16,
+    pub ghost small: { IsWithin 9999 displayed_number },
 }
 
 impl fmt::Display for Year {
-    ghost output = { λ x. Some (year_text x.value) };
+    ghost output = { λ shown. Some (year_text shown.displayed_number) };
 
-    fn fmt<W: fmt::Write>(&self, f: &mut fmt::Formatter<W>) -> fmt::Result {
-        let size = self.value.unsigned_abs();
-        let high = TwoDigits {
-            value: (size / 100) as u8,
+    fn fmt<W: fmt::Write>(&self, formatter: &mut fmt::Formatter<W>) -> fmt::Result {
+        let absolute_year = self.displayed_number.unsigned_abs();
+        let century = TwoDigits {
+            displayed_number: (absolute_year / 100) as u8,
         };
-        let low = TwoDigits {
-            value: (size % 100) as u8,
+        let year_of_century = TwoDigits {
+            displayed_number: (absolute_year % 100) as u8,
         };
-        if self.value < 0 {
-            return write!(f, "-{high}{low}");
+        if self.displayed_number < 0 {
+            return write!(formatter, "-{century}{year_of_century}");
         }
-        write!(f, "{high}{low}")
+        write!(formatter, "{century}{year_of_century}")
     }
 }
 
 // A date and time, for example `2023-01-23 20:11:47.316 +00:00:00`.
 #[derive(Clone, Copy)]
 pub(crate) struct CivilText {
-    pub at: DateTime,
+    pub jiff_time: DateTime,
 }
 
 impl fmt::Display for CivilText {
-    ghost output = { λ x. Some (civil_text (fields_of x.at)) };
+    ghost output = { λ shown. Some (civil_text (fields_of shown.jiff_time)) };
 
-    fn fmt<W: fmt::Write>(&self, f: &mut fmt::Formatter<W>) -> fmt::Result {
-        let at = self.at.to_plain();
+    fn fmt<W: fmt::Write>(&self, formatter: &mut fmt::Formatter<W>) -> fmt::Result {
+        let jiff_time = self.jiff_time.to_plain();
         let year = Year {
-            value: at.date.year,
+            displayed_number: jiff_time.date.year,
         };
         let month = TwoDigits {
-            value: at.date.month,
+            displayed_number: jiff_time.date.month,
         };
-        let day = TwoDigits { value: at.date.day };
+        let day = TwoDigits {
+            displayed_number: jiff_time.date.day,
+        };
         let hour = Hour {
-            value: at.time.hour,
+            displayed_number: jiff_time.time.hour,
         };
         let minute = TwoDigits {
-            value: at.time.minute,
+            displayed_number: jiff_time.time.minute,
         };
         let second = TwoDigits {
-            value: at.time.second,
+            displayed_number: jiff_time.time.second,
         };
         let fraction = Fraction {
-            value: (at.time.subsec_nanosecond / 1_000_000) as u16,
+            displayed_number: (jiff_time.time.subsec_nanosecond / 1_000_000) as u16,
         };
         write!(
-            f,
+            formatter,
             "{year}-{month}-{day} {hour}:{minute}:{second}.{fraction} +00:00:00"
         )
     }

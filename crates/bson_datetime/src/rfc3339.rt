@@ -11,12 +11,12 @@ use jiff::civil::Date;
 
 #[tactic(auto, unfolding(crate::specs::Rfc3339Parser::two_digits))]
 fn two_digits(input: &[u8]) -> Option<(u8, &[u8])>
-    ensures value { spec.parsed_view result ≡ spec.two_digits input.now }
-    ensures bound { IfSome result (λ p. p.0 < 100) }
+    ensures value { spec.parse_result_bytes result ≡ spec.two_digits input.now }
+    ensures bound { IfSome result (λ parsed_part. parsed_part.0 < 100) }
 {
     match input {
-        [high @ b'0'..=b'9', low @ b'0'..=b'9', rest @ ..] => {
-            Some(((*high - b'0') * 10 + (*low - b'0'), rest))
+        [high @ b'0'..=b'9', low @ b'0'..=b'9', remaining_input @ ..] => {
+            Some(((*high - b'0') * 10 + (*low - b'0'), remaining_input))
         }
         _ => None,
     }
@@ -24,8 +24,8 @@ fn two_digits(input: &[u8]) -> Option<(u8, &[u8])>
 
 #[tactic(auto, unfolding(crate::specs::Rfc3339Parser::four_digits))]
 fn four_digits(input: &[u8]) -> Option<(u16, &[u8])>
-    ensures value { spec.parsed_view result ≡ spec.four_digits input.now }
-    ensures bound { IfSome result (λ p. p.0 < 10_000) }
+    ensures value { spec.parse_result_bytes result ≡ spec.four_digits input.now }
+    ensures bound { IfSome result (λ parsed_part. parsed_part.0 < 10_000) }
 {
     let (century, input) = two_digits(input)?;
     let (year, input) = two_digits(input)?;
@@ -34,22 +34,22 @@ fn four_digits(input: &[u8]) -> Option<(u16, &[u8])>
 
 #[tactic(auto, unfolding(crate::specs::Rfc3339Parser::two_digits_below))]
 fn two_digits_below(input: &[u8], bound: u8) -> Option<(u8, &[u8])>
-    ensures value { spec.parsed_view result ≡ spec.two_digits_below bound input.now }
-    ensures bound { IfSome result (λ p. p.0 < bound) }
+    ensures value { spec.parse_result_bytes result ≡ spec.two_digits_below bound input.now }
+    ensures bound { IfSome result (λ parsed_part. parsed_part.0 < bound) }
 {
-    let (n, input) = two_digits(input)?;
-    if n >= bound {
+    let (parsed, input) = two_digits(input)?;
+    if parsed >= bound {
         return None;
     }
-    Some((n, input))
+    Some((parsed, input))
 }
 
 #[tactic(auto, unfolding(crate::specs::Rfc3339Parser::after_byte))]
 fn after_byte(input: &[u8], byte: u8) -> Option<&[u8]>
-    ensures { spec.remaining_view result ≡ spec.after_byte byte input.now }
+    ensures { spec.remaining_bytes_of result ≡ spec.after_byte byte input.now }
 {
     match input {
-        [first, rest @ ..] if *first == byte => Some(rest),
+        [first_byte, remaining_input @ ..] if *first_byte == byte => Some(remaining_input),
         _ => None,
     }
 }
@@ -57,10 +57,11 @@ fn after_byte(input: &[u8], byte: u8) -> Option<&[u8]>
 #[tactic(auto, unfolding(crate::specs::Rfc3339Parser::after_letter))]
 fn after_letter(input: &[u8], upper: u8) -> Option<&[u8]>
     requires { upper < 128 }
-    ensures { spec.remaining_view result ≡ spec.after_letter upper input.now }
+    ensures { spec.remaining_bytes_of result ≡ spec.after_letter upper input.now }
 {
     match input {
-        [first, rest @ ..] if *first == upper || *first == upper + 32 => Some(rest),
+        [first_byte, remaining_input @ ..] if *first_byte == upper || *first_byte == upper + 32 =>
+            Some(remaining_input),
         _ => None,
     }
 }
@@ -81,22 +82,22 @@ fn day_number(year: u16, month: u8, day: u8) -> Option<i64>
 
 #[tactic(auto, unfolding(crate::specs::Rfc3339Parser::date_part))]
 fn date_part(input: &[u8]) -> Option<(i64, &[u8])>
-    ensures value { spec.parsed_view result ≡ spec.date_part input.now }
-    ensures bound { IfSome result (λ p. IsEpochDay p.0) }
+    ensures value { spec.parse_result_bytes result ≡ spec.date_part input.now }
+    ensures bound { IfSome result (λ parsed_part. IsEpochDay parsed_part.0) }
 {
     let (year, input) = four_digits(input)?;
     let input = after_byte(input, b'-')?;
     let (month, input) = two_digits(input)?;
     let input = after_byte(input, b'-')?;
     let (day, input) = two_digits(input)?;
-    let number = day_number(year, month, day)?;
-    Some((number, input))
+    let epoch_day = day_number(year, month, day)?;
+    Some((epoch_day, input))
 }
 
 #[tactic(auto, unfolding(crate::specs::Rfc3339Parser::time_part))]
 fn time_part(input: &[u8]) -> Option<(u32, &[u8])>
-    ensures value { spec.parsed_view result ≡ spec.time_part input.now }
-    ensures bound { IfSome result (λ p. p.0 < 86_400) }
+    ensures value { spec.parse_result_bytes result ≡ spec.time_part input.now }
+    ensures bound { IfSome result (λ parsed_part. parsed_part.0 < 86_400) }
 {
     let (hour, input) = two_digits_below(input, 24)?;
     let input = after_byte(input, b':')?;
@@ -111,14 +112,14 @@ fn time_part(input: &[u8]) -> Option<(u32, &[u8])>
 
 // The nanoseconds of the digits of a fraction, of which nine count.
 fn nanoseconds(digits: &[u8]) -> u32
-    requires { (k : ℕ) → k < length digits.now → IsAsciiDigit (slice_index digits.now k) }
+    requires { (digit_index : ℕ) → digit_index < length digits.now → IsAsciiDigit (slice_index digits.now digit_index) }
     ensures value { result ≡ spec.fraction_value 9 digits.now }
     ensures bound { result < 1_000_000_000 }
 {
     let mut nanosecond = 0;
     let mut place_value = 1_000_000_000;
-    let counted = &digits[..digits.len().min(9)];
-    'digits: for digit in counted {
+    let counted_digits = &digits[..digits.len().min(9)];
+    'digits: for digit in counted_digits {
         place_value /= 10;
         nanosecond += (digit - b'0') as u32 * place_value;
     }
@@ -128,24 +129,27 @@ fn nanoseconds(digits: &[u8]) -> u32
 fn digits_len(input: &[u8]) -> usize
     ensures len { result ≡ prefix_len is_ascii_digit input.now }
     ensures within { result ≤ length input.now }
-    ensures digits { (k : ℕ) → k < result → IsAsciiDigit (slice_index input.now k) }
+    ensures digits { (digit_index : ℕ) → digit_index < result → IsAsciiDigit (slice_index input.now digit_index) }
 {
-    input.iter().take_while(|b| b.is_ascii_digit()).count()
+    input
+        .iter()
+        .take_while(|byte| byte.is_ascii_digit())
+        .count()
 }
 
 #[tactic(auto, unfolding(crate::specs::Rfc3339Parser::fraction_part))]
 fn fraction_part(input: &[u8]) -> Option<(u32, &[u8])>
-    ensures value { spec.parsed_view result ≡ spec.fraction_part input.now }
-    ensures bound { IfSome result (λ p. p.0 < 1_000_000_000) }
+    ensures value { spec.parse_result_bytes result ≡ spec.fraction_part input.now }
+    ensures bound { IfSome result (λ parsed_part. parsed_part.0 < 1_000_000_000) }
 {
     match input {
-        [b'.', rest @ ..] => {
-            let len = digits_len(rest);
+        [b'.', remaining_input @ ..] => {
+            let len = digits_len(remaining_input);
             if len == 0 {
                 return None;
             }
-            let (digits, rest) = rest.split_at(len);
-            Some((nanoseconds(digits), rest))
+            let (digits, remaining_input) = remaining_input.split_at(len);
+            Some((nanoseconds(digits), remaining_input))
         }
         _ => Some((0, input)),
     }
@@ -153,8 +157,9 @@ fn fraction_part(input: &[u8]) -> Option<(u32, &[u8])>
 
 #[tactic(auto, unfolding(crate::specs::Rfc3339Parser::hours_minutes))]
 fn hours_minutes(input: &[u8]) -> Option<(i32, &[u8])>
-    ensures value { spec.parsed_view result ≡ option_map (λ n. (pos n.0, n.1)) (spec.hours_minutes input.now) }
-    ensures bound { IfSome result (λ p. IsBetween (pos 0) (pos 86_399) p.0) }
+    ensures value { spec.parse_result_bytes result
+        ≡ option_map (λ parsed. (pos parsed.0, parsed.1)) (spec.hours_minutes input.now) }
+    ensures bound { IfSome result (λ parsed_part. IsBetween (pos 0) (pos 86_399) parsed_part.0) }
 {
     let (hour, input) = two_digits_below(input, 24)?;
     let input = after_byte(input, b':')?;
@@ -164,26 +169,26 @@ fn hours_minutes(input: &[u8]) -> Option<(i32, &[u8])>
 
 #[tactic(auto, unfolding(crate::specs::Rfc3339Parser::offset_part))]
 fn offset_part(input: &[u8]) -> Option<(i32, &[u8])>
-    ensures value { spec.parsed_view result ≡ spec.offset_part input.now }
-    ensures bound { IfSome result (λ p. IsWithin 86_399 p.0) }
+    ensures value { spec.parse_result_bytes result ≡ spec.offset_part input.now }
+    ensures bound { IfSome result (λ parsed_part. IsWithin 86_399 parsed_part.0) }
 {
     match input {
-        [b'Z' | b'z', rest @ ..] => Some((0, rest)),
-        [b'+', rest @ ..] => hours_minutes(rest),
-        [b'-', rest @ ..] => {
-            let (seconds, rest) = hours_minutes(rest)?;
-            Some((-seconds, rest))
+        [b'Z' | b'z', remaining_input @ ..] => Some((0, remaining_input)),
+        [b'+', remaining_input @ ..] => hours_minutes(remaining_input),
+        [b'-', remaining_input @ ..] => {
+            let (seconds, remaining_input) = hours_minutes(remaining_input)?;
+            Some((-seconds, remaining_input))
         }
         _ => None,
     }
 }
 
-fn nanos_of(day: i64, seconds: u32, nanos: u32, offset: i32) -> i128
+fn epoch_nanos(day: i64, seconds: u32, nanos: u32, offset: i32) -> i128
     requires day { IsEpochDay day }
     requires seconds { seconds < 86_400 }
     requires nanos { nanos < 1_000_000_000 }
     requires offset { IsWithin 86_399 offset }
-    ensures value { result ≡ spec.nanos_of day seconds nanos offset }
+    ensures value { result ≡ spec.epoch_nanos day seconds nanos offset }
     ensures bound { IsWithin (10 ^ 21) result }
 {
     let second = day * 86_400 + seconds as i64 - offset as i64;
@@ -211,5 +216,5 @@ pub(crate) fn parse(text: &[u8]) -> Option<i64>
     if !input.is_empty() {
         return None;
     }
-    Some(whole_millis(nanos_of(day, seconds, nanos, offset)))
+    Some(whole_millis(epoch_nanos(day, seconds, nanos, offset)))
 }

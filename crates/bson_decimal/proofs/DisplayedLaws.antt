@@ -22,10 +22,10 @@ use Rattle.std.specs.Str.Parse.{AllDigits, digits_value, without_leading_sign}
 use Rattle.bson_decimal.specs.declared.bits.Decoded.{Decoded}
 use Rattle.bson_decimal.specs.declared.bits.Decoded.TheVariants.{Nan, Infinity, Finite}
 use Rattle.bson_decimal.specs.Exponents.{unbiased_exponent}
-use Rattle.bson_decimal.specs.DecimalBits.{decoded_number, decoded_decimal, encoded_finite, sign_bit, canonical_decimal}
-use Rattle.bson_decimal.specs.DecimalBits.{canonical_number}
-use Rattle.bson_decimal.specs.DecimalText.{meaning_text, decimal128_text, finite_text, plain_text, scientific_text}
-use Rattle.bson_decimal.specs.DecimalText.{scientific_exponent, power_text}
+use Rattle.bson_decimal.specs.DecimalBits.{decoded_decimal_bits, decoded_decimal, encoded_finite, sign_bit, canonical_decimal}
+use Rattle.bson_decimal.specs.DecimalBits.{canonical_decimal_bits}
+use Rattle.bson_decimal.specs.DecimalText.{decoded_decimal_text, decimal128_text, finite_text, plain_text, scientific_text}
+use Rattle.bson_decimal.specs.DecimalText.{scientific_exponent, signed_exponent_text}
 use Rattle.bson_decimal.specs.NumeralGrammar.{Sign, none, plus, minus, sign_bytes, is_minus, Exponent, unwritten, written}
 use Rattle.bson_decimal.specs.NumeralGrammar.{exponent_bytes, fraction_bytes, fraction_digits, IsExponent, Numeral, is_zero}
 use Rattle.bson_decimal.specs.NumeralGrammar.{without_leading_zeros}
@@ -114,17 +114,17 @@ writes : (c : ℕ) → c < 10 ^ 64 → Writes c
 writes c h = let d = decimal_is_IsNumeral_wide c h in record { some = d.0.0; digits = d.0.1; value = d.1 }
 
 -- the text of an exponent that is not 0
-power-above : (n : ℕ) → 0 < n → power_text (pos n) ≡ 43 ∷ decimal n
+power-above : (n : ℕ) → 0 < n → signed_exponent_text (pos n) ≡ 43 ∷ decimal n
 power-above n some = let above : int_lt (pos 0) (pos n) ≡ true = grind (arith, ints) in rw above refl
 
-power-below : (n : ℕ) → 0 < n → power_text (neg_ℤ (pos n)) ≡ 45 ∷ decimal n
+power-below : (n : ℕ) → 0 < n → signed_exponent_text (neg_ℤ (pos n)) ≡ 45 ∷ decimal n
 power-below zero some = absurd (omega arith)
 power-below (suc n) some = refl
 
 -- the exponent k - 6177 that is written after an `E`
 record PrintsPower (k : ℕ) : Type 0 where
   exponent : Exponent
-  is : 69 ∷ power_text (pos k -ℤ pos 6177) ≡ exponent_bytes exponent
+  is : 69 ∷ signed_exponent_text (pos k -ℤ pos 6177) ≡ exponent_bytes exponent
   ok : IsExponent exponent
   at : written_up exponent + 6177 ≡ k + written_down exponent
   high : written_up exponent ≤ 7000
@@ -319,19 +319,19 @@ finite-prints c e small within =
       | inr a ↦ rw (a, first-digit ds e) (scientific-prints c e small within)
     ]
 
-meaning_text-parses : (d : Decoded) → IsDecoded d → DenotesDecimal (meaning_text d) (to_le_bytes w128 (canonical_number d))
-meaning_text-parses (Nan s q) h = special none (codes "NaN") (124 * 2 ^ 120) refl (nan refl) refl
-meaning_text-parses (Infinity s) h =
+decoded_decimal_text-parses : (d : Decoded) → IsDecoded d → DenotesDecimal (decoded_decimal_text d) (to_le_bytes w128 (canonical_decimal_bits d))
+decoded_decimal_text-parses (Nan s q) h = special none (codes "NaN") (124 * 2 ^ 120) refl (nan refl) refl
+decoded_decimal_text-parses (Infinity s) h =
     special (sign_of s) (codes "Infinity") (120 * 2 ^ 120) (ap (λ t. t ++ codes "Infinity") (sign_bytes-is s))
     (infinity refl)
     (ap (λ b. to_le_bytes w128 (sign_bit b + 120 * 2 ^ 120)) (sym (is_minus-is s)))
-meaning_text-parses (Finite s c e) h =
+decoded_decimal_text-parses (Finite s c e) h =
     from-prints s c e (finite_text (decimal c) (unbiased_exponent e)) h.0 h.1 (finite-prints c e h.0 h.1)
 
 -- a printed text parses to the canonical pattern
 pub display_text-parses : (b : List ℕ) → DenotesDecimal (decimal128_text b) (canonical_decimal b)
 unfolding decimal128_text canonical_decimal
-display_text-parses b = meaning_text-parses (decoded_decimal b) (number_meaning-within (from_le_bytes w128 b))
+display_text-parses b = decoded_decimal_text-parses (decoded_decimal b) (number_meaning-within (from_le_bytes w128 b))
 
 -- a text parses to one pattern
 pub parses-one : (text a b : List ℕ) → DenotesDecimal text a → DenotesDecimal text b → a ≡ b
@@ -348,25 +348,25 @@ parses-one text a b (finite n c e t l near a-is) other = by-steps (Steps.finite 
         one a (finite n c e t l near a-is) ∙ sym (one b other)
     by-steps (Err k) is = absurd (refused-parses text k (λ m. no-word text n m t) is a (finite n c e t l near a-is))
 
-canon-lt : (d : Decoded) → IsDecoded d → canonical_number d < 2 ^ 128
+canon-lt : (d : Decoded) → IsDecoded d → canonical_decimal_bits d < 2 ^ 128
 canon-lt (Nan s q) h = omega arith
 canon-lt (Infinity true) h = omega arith
 canon-lt (Infinity false) h = omega arith
 canon-lt (Finite s c e) h = first_form-lt s c e h.0 h.1
 
-meaning_text-canon : (d : Decoded) → IsDecoded d → meaning_text (decoded_number (canonical_number d)) ≡ meaning_text d
-meaning_text-canon (Nan s q) h = refl
-meaning_text-canon (Infinity true) h = refl
-meaning_text-canon (Infinity false) h = refl
-meaning_text-canon (Finite s c e) h = ap meaning_text (number_meaning-first_form s c e h.0 h.1)
+decoded_decimal_text-canon : (d : Decoded) → IsDecoded d → decoded_decimal_text (decoded_decimal_bits (canonical_decimal_bits d)) ≡ decoded_decimal_text d
+decoded_decimal_text-canon (Nan s q) h = refl
+decoded_decimal_text-canon (Infinity true) h = refl
+decoded_decimal_text-canon (Infinity false) h = refl
+decoded_decimal_text-canon (Finite s c e) h = ap decoded_decimal_text (number_meaning-first_form s c e h.0 h.1)
 
 pub display_text-canon : (b : List ℕ) → decimal128_text (canonical_decimal b) ≡ decimal128_text b
 unfolding decimal128_text canonical_decimal
 display_text-canon b =
     let h = number_meaning-within (from_le_bytes w128 b) in
-    ap (λ n. meaning_text (decoded_number n))
-    (from_le_bytes-to_le_bytes_16 (canonical_number (decoded_decimal b)) (canon-lt (decoded_decimal b) h))
-    ∙ meaning_text-canon (decoded_decimal b) h
+    ap (λ n. decoded_decimal_text (decoded_decimal_bits n))
+    (from_le_bytes-to_le_bytes_16 (canonical_decimal_bits (decoded_decimal b)) (canon-lt (decoded_decimal b) h))
+    ∙ decoded_decimal_text-canon (decoded_decimal b) h
 
 -- two patterns print the same string if and only if their canonical patterns are equal
 pub display_text-same : (a b : List ℕ) → (decimal128_text a ≡ decimal128_text b) ↔ (canonical_decimal a ≡ canonical_decimal b)

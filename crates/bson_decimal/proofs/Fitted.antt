@@ -15,15 +15,15 @@ use Rattle.std.specs.Str.Parse.{AllDigits, digits_value}
 use Rattle.bson_decimal.specs.declared.ParseError.{ParseError}
 use Rattle.bson_decimal.proofs.Shifted.{FitsShifted, IsNearestShifted, distance_shifted}
 use Rattle.bson_decimal.specs.NumeralGrammar.{is_zero, without_leading_zeros}
-use Rattle.bson_decimal.specs.ParseSteps.{shifted_least, shifted_greatest, shifted_i16_max, cut_to_34_digits, raise_to_least, zeros_to_add}
-use Rattle.bson_decimal.specs.ParseSteps.{coefficient, coefficient_and_exponent, ScaledDigits, bind}
+use Rattle.bson_decimal.specs.ParseSteps.{min_exponent_plus_32768, max_exponent_plus_32768, i16_max_plus_32768, cut_to_34_digits, raise_to_min_exponent, zeros_to_add}
+use Rattle.bson_decimal.specs.ParseSteps.{coefficient, coefficient_and_exponent, DigitsWithExponent, bind}
 use Rattle.bson_decimal.proofs.Tens.{tens-pos, tens-le, raised}
 use Rattle.bson_decimal.proofs.DigitTests.{AllDigits-from_test, test-from_AllDigits, scaled-lt}
 use Rattle.bson_decimal.proofs.Zeros.{value-behind, value-before, leading-zeros, first-weight, AllDigits-parts}
 use Rattle.bson_decimal.proofs.Zeros.{AllDigits-append, AllDigits-zeros}
 use Rattle.bson_decimal.proofs.NearestLaws.{nearest-dropped, nearest-same, nearest-lowest, nearest-highest}
 use Rattle.bson_decimal.proofs.StepLaws.{if-cases, IsLarge, NoneFitsAt, IsCut, CutRefuses, IsRaised, Refuses, IsPadded}
-use Rattle.bson_decimal.proofs.StepLaws.{cut_at_34-cases, raise_to_least-cases, zeros_to_add-cases, not-true, not-false}
+use Rattle.bson_decimal.proofs.StepLaws.{cut_at_34-cases, raise_to_min_exponent-cases, zeros_to_add-cases, not-true, not-false}
 
 pub bind-cases : {A B : Type 0} (P : B → Type 0) (Q : ParseError → Type 0) (r : Result A ParseError)
     (f : A → Result B ParseError)
@@ -113,46 +113,46 @@ module _ (ds ks : List ℕ) (k y up down : ℕ) (at : y + down ≡ up + k + 3276
   small = omega (arith, size, digits_value-lt 10 ks kept-digits, tens-le (length ks) 34 (omega (arith, size)))
 
   -- the exponent is in range
-  final-same : shifted_least ≤ y → y ≤ shifted_greatest
-      → IsNearestShifted (digits_value 10 ds) up down (digits_value 10 ks * 10 ^ 0) (min y shifted_greatest - shifted_least)
+  final-same : min_exponent_plus_32768 ≤ y → y ≤ max_exponent_plus_32768
+      → IsNearestShifted (digits_value 10 ds) up down (digits_value 10 ks * 10 ^ 0) (min y max_exponent_plus_32768 - min_exponent_plus_32768)
   final-same low high =
       let c-is : digits_value 10 ks * 10 ^ 0 ≡ digits_value 10 ks = omega arith in
-      let e-is : min y shifted_greatest - shifted_least ≡ y - shifted_least = omega arith in
+      let e-is : min y max_exponent_plus_32768 - min_exponent_plus_32768 ≡ y - min_exponent_plus_32768 = omega arith in
       rw (c-is, e-is)
       (elim (cases_lt 0 k) [
         | inl some ↦
             let weight : length ds - 1 ≡ 33 + k = omega arith in
-            nearest-dropped (digits_value 10 ds) up down (digits_value 10 ks) (y - shifted_least) k value small
+            nearest-dropped (digits_value 10 ds) up down (digits_value 10 ks) (y - min_exponent_plus_32768) k value small
             (rw weight at (large (omega arith))) (omega arith) (omega arith)
         | inr none ↦
             let zero-k : k ≡ 0 = omega arith in
             let integer_digits : digits_value 10 ds ≡ digits_value 10 ks = value ∙ rw zero-k (omega arith) in
-            rw integer_digits (nearest-same (digits_value 10 ks) up down (y - shifted_least) small (omega arith) (omega arith))
+            rw integer_digits (nearest-same (digits_value 10 ks) up down (y - min_exponent_plus_32768) small (omega arith) (omega arith))
       ])
 
   -- zeros were added
-  final-padded : (z : ℕ) → shifted_greatest < y → z ≡ y - shifted_greatest → length ks + z ≤ 34
-      → IsNearestShifted (digits_value 10 ds) up down (digits_value 10 ks * 10 ^ z) (min y shifted_greatest - shifted_least)
+  final-padded : (z : ℕ) → max_exponent_plus_32768 < y → z ≡ y - max_exponent_plus_32768 → length ks + z ≤ 34
+      → IsNearestShifted (digits_value 10 ds) up down (digits_value 10 ks * 10 ^ z) (min y max_exponent_plus_32768 - min_exponent_plus_32768)
   final-padded z high z-is fits =
       let long = size in
       let zero-k : k ≡ 0 = omega arith in
       let integer_digits : digits_value 10 ds ≡ digits_value 10 ks = value ∙ rw zero-k (omega arith) in
-      let e-is : min y shifted_greatest - shifted_least ≡ 12287 = omega arith in
+      let e-is : min y max_exponent_plus_32768 - min_exponent_plus_32768 ≡ 12287 = omega arith in
       rw (integer_digits, e-is) (nearest-highest (digits_value 10 ks) up down z (scaled-lt ks z kept-digits fits) (omega arith))
 
   -- zeros were dropped
-  final-raised : (qs : List ℕ) → y < shifted_least → ks ≡ qs ++ replicate (shifted_least - y) 48
+  final-raised : (qs : List ℕ) → y < min_exponent_plus_32768 → ks ≡ qs ++ replicate (min_exponent_plus_32768 - y) 48
       → IsNearestShifted (digits_value 10 ds) up down (digits_value 10 qs * 10 ^ 0) 0
   final-raised qs low to =
-      let inner : digits_value 10 ks ≡ digits_value 10 qs * 10 ^ (shifted_least - y) = ap (digits_value 10) to
-      ∙ value-behind qs (shifted_least - y) in
-      let j = shifted_least - y + k in
+      let inner : digits_value 10 ks ≡ digits_value 10 qs * 10 ^ (min_exponent_plus_32768 - y) = ap (digits_value 10) to
+      ∙ value-behind qs (min_exponent_plus_32768 - y) in
+      let j = min_exponent_plus_32768 - y + k in
       let integer_digits : digits_value 10 ds ≡ digits_value 10 qs * 10 ^ j =
-      rw (value, inner, pow-add 10 (shifted_least - y) k) (omega arith) in
-      let shorter : length ks ≡ length qs + (shifted_least - y) = ap length to
-      ∙ length-append qs (replicate (shifted_least - y) 48)
-      ∙ rw (length-replicate {A = ℕ} (shifted_least - y) 48) refl in
-      let few = digits_value-lt 10 qs (digits-kept qs ks (shifted_least - y) to kept-digits) in
+      rw (value, inner, pow-add 10 (min_exponent_plus_32768 - y) k) (omega arith) in
+      let shorter : length ks ≡ length qs + (min_exponent_plus_32768 - y) = ap length to
+      ∙ length-append qs (replicate (min_exponent_plus_32768 - y) 48)
+      ∙ rw (length-replicate {A = ℕ} (min_exponent_plus_32768 - y) 48) refl in
+      let few = digits_value-lt 10 qs (digits-kept qs ks (min_exponent_plus_32768 - y) to kept-digits) in
       let below : digits_value 10 qs < 10 ^ 34 = omega (arith, size, tens-le (length qs) 34 (omega (arith, size))) in
       let c-is : digits_value 10 qs * 10 ^ 0 ≡ digits_value 10 qs = omega arith in
       rw c-is (nearest-lowest (digits_value 10 ds) up down (digits_value 10 qs) j integer_digits below (omega arith))
@@ -166,31 +166,31 @@ module _ (ds ks : List ℕ) (k y up down : ℕ) (at : y + down ≡ up + k + 3276
       rw nothing (nearest-zero up down e within least)
 
 -- what a raise keeps
-raised-digits : (ks : List ℕ) (y : ℕ) (b : ScaledDigits) → IsRaised ks y b → AllDigits 10 ks → AllDigits 10 b.0
+raised-digits : (ks : List ℕ) (y : ℕ) (b : DigitsWithExponent) → IsRaised ks y b → AllDigits 10 ks → AllDigits 10 b.0
 raised-digits ks y b rai h =
-    elim (cases_lt y shifted_least) [
+    elim (cases_lt y min_exponent_plus_32768) [
       | inr kept ↦ rw (rai.kept kept).0 h
       | inl low ↦ elim ((rai.raised low).1) [
         | inl none ↦ rw none.1 tt
-        | inr is ↦ digits-kept b.0 ks (shifted_least - y) is h
+        | inr is ↦ digits-kept b.0 ks (min_exponent_plus_32768 - y) is h
       ]
     ]
 
-raised-digits-back : (ks : List ℕ) (y : ℕ) (b : ScaledDigits) → IsRaised ks y b → AllDigits 10 b.0 → AllDigits 10 ks
+raised-digits-back : (ks : List ℕ) (y : ℕ) (b : DigitsWithExponent) → IsRaised ks y b → AllDigits 10 b.0 → AllDigits 10 ks
 raised-digits-back ks y b rai h =
-    elim (cases_lt y shifted_least) [
+    elim (cases_lt y min_exponent_plus_32768) [
       | inr kept ↦ rw (rai.kept kept).0 at h
       | inl low ↦ elim ((rai.raised low).1) [
         | inl none ↦ rw none.0 tt
-        | inr is ↦ rw is (AllDigits-append b.0 (replicate (shifted_least - y) 48) h (AllDigits-zeros _))
+        | inr is ↦ rw is (AllDigits-append b.0 (replicate (min_exponent_plus_32768 - y) 48) h (AllDigits-zeros _))
       ]
     ]
 
 -- if nothing fits after a raise, nothing fits before it
-raised-refuses : (ks : List ℕ) (y : ℕ) (b : ScaledDigits) (e : ParseError) → IsRaised ks y b → Refuses b.0 b.1 e
+raised-refuses : (ks : List ℕ) (y : ℕ) (b : DigitsWithExponent) (e : ParseError) → IsRaised ks y b → Refuses b.0 b.1 e
     → Refuses ks y e
 raised-refuses ks y b e rai refuse digits large up down at c f fits =
-    elim (cases_lt y shifted_least) [
+    elim (cases_lt y min_exponent_plus_32768) [
       | inr kept ↦
           let r = rai.kept kept in
           refuse (rw r.0 digits) (rw r.0 large) up down (rw r.1 at) c f (rw r.0 fits)
@@ -200,26 +200,26 @@ raised-refuses ks y b e rai refuse digits large up down at c f fits =
             | inl none ↦ refuse (rw none.1 tt) (rw none.1 (λ some. absurd (omega arith))) 0 6176 (rw r.0 refl) 0 0
                 (rw none.1 (record { equal = refl; coefficient = omega arith; exponent = omega arith }))
             | inr is ↦
-                refuse (digits-kept b.0 ks (shifted_least - y) is digits) (large-kept b.0 ks (shifted_least - y) is large)
-                (up + (shifted_least - y)) down (rw r.0 (omega arith)) c f
-                (fits-moved b.0 ks (shifted_least - y) up down c f is fits)
+                refuse (digits-kept b.0 ks (min_exponent_plus_32768 - y) is digits) (large-kept b.0 ks (min_exponent_plus_32768 - y) is large)
+                (up + (min_exponent_plus_32768 - y)) down (rw r.0 (omega arith)) c f
+                (fits-moved b.0 ks (min_exponent_plus_32768 - y) up down c f is fits)
           ]
     ]
 
 -- the pair that the steps give
-nearest-given : (ds ks : List ℕ) (k y up down : ℕ) (b : ScaledDigits) (z : ℕ) → y + down ≡ up + k + 32768 → k ≡ length ds - 34
+nearest-given : (ds ks : List ℕ) (k y up down : ℕ) (b : DigitsWithExponent) (z : ℕ) → y + down ≡ up + k + 32768 → k ≡ length ds - 34
     → ds ≡ ks ++ replicate k 48 → AllDigits 10 ds → IsLarge ds
     → IsRaised ks y b → IsPadded b.0 b.1 z
     → IsNearestShifted (digits_value 10 ds) up down (digits_value 10 b.0 * 10 ^ z)
-    (min b.1 shifted_greatest - shifted_least)
+    (min b.1 max_exponent_plus_32768 - min_exponent_plus_32768)
 nearest-given ds ks k y up down b z at k-is is digits large rai pad =
     let long : length ds ≡ length ks + k = ap length is ∙ length-append ks (replicate k 48)
     ∙ rw (length-replicate {A = ℕ} k 48) refl in
     let empty-k : ks ≡ [] → k ≡ 0 = λ none. omega (arith, ap length none) in
-    elim (cases_lt y shifted_least) [
+    elim (cases_lt y min_exponent_plus_32768) [
       | inr kept ↦
           let r = rai.kept kept in
-          elim (cases_lt shifted_greatest y) [
+          elim (cases_lt max_exponent_plus_32768 y) [
             | inr same ↦ let none : z ≡ 0 = pad.same (rw r.1 same) in
                 rw (none, r.0, r.1) (final-same ds ks k y up down at k-is is digits large kept same)
             | inl high ↦
@@ -227,12 +227,12 @@ nearest-given ds ks k y up down b z at k-is is digits large rai pad =
                   | inl none ↦
                       let empty : ks ≡ [] = sym r.0 ∙ none.0 in
                       let zero-k = empty-k empty in
-                      let e-is : min y shifted_greatest - shifted_least ≡ 12287 = omega arith in
+                      let e-is : min y max_exponent_plus_32768 - min_exponent_plus_32768 ≡ 12287 = omega arith in
                       rw (none.0, none.1, r.1, e-is)
                       (final-zero ds ks k y up down at k-is is digits large 12287 empty (omega arith)
                       (λ f within. omega arith))
                   | inr more ↦
-                      let z-is : z ≡ y - shifted_greatest = rw r.1 at more.0 in
+                      let z-is : z ≡ y - max_exponent_plus_32768 = rw r.1 at more.0 in
                       let fits : length ks + z ≤ 34 = rw r.0 at more.1 in
                       rw (r.0, r.1) (final-padded ds ks k y up down at k-is is digits large z high z-is fits)
                 ]
@@ -255,12 +255,12 @@ module _ (bs : List ℕ) (x : ℕ) where
     pub digits : AllDigits 10 bs
     pub some : 0 < length bs
     pub few : length (without_leading_zeros bs) - 34 ≤ 32767
-    pub high : x + (length (without_leading_zeros bs) - 34) ≤ shifted_i16_max
+    pub high : x + (length (without_leading_zeros bs) - 34) ≤ i16_max_plus_32768
     pub nearest : (up down : ℕ) → x + down ≡ up + 32768 → IsNearestShifted (digits_value 10 bs) up down r.0 r.1
 
   abbrev pub FittedRefuses : ParseError → Type 0
   FittedRefuses k = AllDigits 10 bs → 0 < length bs → length (without_leading_zeros bs) - 34 ≤ 32767
-      → x + (length (without_leading_zeros bs) - 34) ≤ shifted_i16_max → NoneFitsAt bs x
+      → x + (length (without_leading_zeros bs) - 34) ≤ i16_max_plus_32768 → NoneFitsAt bs x
 
   front-value : digits_value 10 bs ≡ digits_value 10 (without_leading_zeros bs)
   front-value = ap (digits_value 10) (leading-zeros bs)
@@ -281,7 +281,7 @@ module _ (bs : List ℕ) (x : ℕ) where
       rw e (prefix_len_stops is_zero bs 0 (omega (arith, length-drop (prefix_len is_zero bs) bs))))
 
   -- a later step's refusal
-  cut-refuses : (a : ScaledDigits) → IsCut (without_leading_zeros bs) x a → (e : ParseError) → Refuses a.0 a.1 e
+  cut-refuses : (a : DigitsWithExponent) → IsCut (without_leading_zeros bs) x a → (e : ParseError) → Refuses a.0 a.1 e
       → AllDigits 10 bs → NoneFitsAt bs x
   cut-refuses a cut e refuse digits up down at c f fits =
       let ds = without_leading_zeros bs in
@@ -291,15 +291,15 @@ module _ (bs : List ℕ) (x : ℕ) where
       (up + k) down (omega arith) c f
       (fits-moved a.0 ds k up down c f cut.is (subst (λ m. FitsShifted m up down c f) front-value fits))
 
-  pub stored_pair-cases : x ≤ shifted_i16_max → MatchResult (coefficient_and_exponent bs x) IsFitted FittedRefuses
+  pub stored_pair-cases : x ≤ i16_max_plus_32768 → MatchResult (coefficient_and_exponent bs x) IsFitted FittedRefuses
   unfolding coefficient_and_exponent
   stored_pair-cases low =
       let ds = without_leading_zeros bs in
       let k = length ds - 34 in
       bind-by IsFitted FittedRefuses (IsCut ds x) (CutRefuses ds x) (cut_to_34_digits ds x) _ (cut_at_34-cases ds x low)
       (λ a cut.
-      bind-by IsFitted FittedRefuses (IsRaised a.0 a.1) (Refuses a.0 a.1) (raise_to_least a.0 a.1) _
-      (raise_to_least-cases a.0 a.1)
+      bind-by IsFitted FittedRefuses (IsRaised a.0 a.1) (Refuses a.0 a.1) (raise_to_min_exponent a.0 a.1) _
+      (raise_to_min_exponent-cases a.0 a.1)
       (λ b rai.
       bind-by IsFitted FittedRefuses (IsPadded b.0 b.1) (Refuses b.0 b.1) (zeros_to_add b.0 b.1) _
       (zeros_to_add-cases b.0 b.1)

@@ -1,4 +1,4 @@
--- The parts of a text, put together and taken apart.
+-- The parts of a text, joined and split.
 use Rattle.std.proofs.Common.{◌≡◌, ◌≢◌, ℕ, ◌+◌, ◌-◌, ◌<◌, ◌≤◌, ◌⊎◌, inl, inr, Bool, true, false, cond, not, ◌&&◌, eqb}
 use Rattle.std.proofs.Common.{ltb, leb, List, [], ◌∷◌, ◌++◌, length, drop, get_or, Option, Some, None, refl, sym, ap}
 use Rattle.std.proofs.Common.{subst, ◌∙◌, rules, tests, arith, length-append}
@@ -18,8 +18,8 @@ use Rattle.bson_decimal.specs.declared.ParseError.TheVariants.{EmptyExponent, In
 use Rattle.bson_decimal.specs.NumeralGrammar.{Sign, none, plus, minus, sign_bytes, is_minus, Exponent, unwritten, written}
 use Rattle.bson_decimal.specs.NumeralGrammar.{exponent_bytes, fraction_bytes, fraction_digits, IsExponent}
 use Rattle.bson_decimal.proofs.Shifted.{written_up, written_down}
-use Rattle.bson_decimal.specs.ParseSteps.{is_exponent_mark, is_decimal_point, has_byte, is_exponent, shifted_written_value, exponent_value}
-use Rattle.bson_decimal.specs.ParseSteps.{shifted_written_exponent, scaled_exponent, coefficient_and_exponent, finite, bind}
+use Rattle.bson_decimal.specs.ParseSteps.{is_exponent_mark, is_decimal_point, has_byte, is_exponent, signed_value_plus_32768, exponent_value}
+use Rattle.bson_decimal.specs.ParseSteps.{written_exponent_plus_32768, scaled_exponent, coefficient_and_exponent, finite, bind}
 use Rattle.bson_decimal.proofs.StepLaws.{if-cases, not-true, not-false}
 use Rattle.bson_decimal.proofs.Zeros.{AllDigits-parts}
 use Rattle.bson_decimal.proofs.DigitTests.{AllDigits-from_test, test-from_AllDigits}
@@ -64,7 +64,7 @@ pub digits-fail-point : (ds : List ℕ) → AllDigits 10 ds → Fails is_decimal
 digits-fail-point [] h = tt
 digits-fail-point (d ∷ ds) h = let r = digit_from_value d h.0 in (point-no-digit d r.0 r.1, digits-fail-point ds h.1)
 
--- a sign is taken off
+-- a sign is removed
 pub sign-off : (s : Sign) (bs : List ℕ) → get_or bs 0 0 ≢ 43 → get_or bs 0 0 ≢ 45
     → (without_leading_sign (sign_bytes s ++ bs) ≡ bs) × (starts_with_minus (sign_bytes s ++ bs) ≡ is_minus s)
 sign-off none bs h g =
@@ -108,8 +108,8 @@ mark-cases b e = elim (or_cases (eqb b 101) (eqb b 69) e) [
   | inr t ↦ inr (eqb-true b 69 t)
 ]
 
-pub reads-exponent : (rest : List ℕ) → MatchResult (shifted_written_exponent rest) (ReadsExponent rest) (λ _. ⊤)
-unfolding shifted_written_exponent exponent_value
+pub reads-exponent : (rest : List ℕ) → MatchResult (written_exponent_plus_32768 rest) (ReadsExponent rest) (λ _. ⊤)
+unfolding written_exponent_plus_32768 exponent_value
 reads-exponent rest =
     let tail = after_first is_exponent_mark rest in
     let place = position_or_len is_exponent_mark rest in
@@ -139,7 +139,7 @@ reads-exponent rest =
             is = split_at_first is_exponent_mark rest 0 within
                 ∙ ap (λ t. before_first is_exponent_mark rest ++ get_or rest place 0 ∷ t) s.1;
             ok = (mark-cases _ (passes_at_first is_exponent_mark rest 0 within), ltb-true 0 _ a.0, AllDigits-from_test _ b.0);
-            value = subst (λ (m : Bool). shifted_written_value tail + cond m v 0 ≡ 32768 + cond m 0 v) s.2 fits.0;
+            value = subst (λ (m : Bool). signed_value_plus_32768 tail + cond m v 0 ≡ 32768 + cond m 0 v) s.2 fits.0;
             high = subst (λ (m : Bool). cond m 0 v ≤ 32767) s.2 fits.1;
             low = subst (λ (m : Bool). cond m v 0 ≤ 32768) s.2 fits.2;
           })
@@ -243,8 +243,8 @@ written_from tail marked =
 
 written-is : (cs : List ℕ) (ex : Exponent) (w : ℕ) → Fails is_exponent_mark cs → IsExponent ex → written_up ex ≤ 32767
     → written_down ex ≤ 32768 → w + written_down ex ≡ 32768 + written_up ex
-    → shifted_written_exponent (cs ++ exponent_bytes ex) ≡ Ok w
-unfolding shifted_written_exponent written_from
+    → written_exponent_plus_32768 (cs ++ exponent_bytes ex) ≡ Ok w
+unfolding written_exponent_plus_32768 written_from
 written-is cs unwritten w h ok high low at =
     let none : ltb (position_or_len is_exponent_mark cs) (length cs) ≡ false =
     rw (first-none is_exponent_mark cs h) (grind (arith, nat_tests)) in
@@ -258,7 +258,7 @@ written-is cs (written m s ds) w h ok high low at =
     rw place (search (rules, tests, length-append cs (m ∷ (sign_bytes s ++ ds)))) in
     let some : eqb (length (sign_bytes s ++ ds)) 0 ≡ false =
     grind (arith, nat_tests, length-append (sign_bytes s) ds, ok.1) in
-    let first : shifted_written_exponent rest ≡ written_from (after_first is_exponent_mark rest) (has_byte is_exponent_mark rest) = refl in
+    let first : written_exponent_plus_32768 rest ≡ written_from (after_first is_exponent_mark rest) (has_byte is_exponent_mark rest) = refl in
     first ∙ ap (λ t. written_from t (has_byte is_exponent_mark rest)) tail ∙ ap (λ b. written_from (sign_bytes s ++ ds) b) marked
     ∙ rw (some, exponent-is s ds w ok.1 ok.2 high low at) refl
 
@@ -266,7 +266,7 @@ written-is cs (written m s ds) w h ok high low at =
 finite_from : Result ℕ ParseError → List ℕ → List ℕ → Result (ℕ × ℕ) ParseError
 finite_from w fraction integer_digits = bind w (λ v. bind (scaled_exponent v fraction) (λ x. coefficient_and_exponent (integer_digits ++ fraction) x))
 
--- the steps on a text that is put together of its parts
+-- the steps on a text that is joined of its parts
 module _ (integer_digits : List ℕ) (f : Option (List ℕ)) (ex : Exponent) (digits : AllDigits 10 (integer_digits ++ fraction_digits f))
     (ok : IsExponent ex) (high : written_up ex ≤ 32767) (low : written_down ex ≤ 32768) where
   coefficient_bytes : List ℕ
@@ -289,7 +289,7 @@ module _ (integer_digits : List ℕ) (f : Option (List ℕ)) (ex : Exponent) (di
       let parts = AllDigits-parts integer_digits (fraction_digits f) digits in
       let point = ap (after_first is_decimal_point) before-is ∙ after-point integer_digits f parts.0 in
       let front = ap (before_first is_decimal_point) before-is ∙ before-point integer_digits f parts.0 in
-      let first : finite rest ≡ finite_from (shifted_written_exponent rest) (after_first is_decimal_point (before_first is_exponent_mark rest))
+      let first : finite rest ≡ finite_from (written_exponent_plus_32768 rest) (after_first is_decimal_point (before_first is_exponent_mark rest))
       (before_first is_decimal_point (before_first is_exponent_mark rest)) = refl in
       let a : ltb 32767 (length (fraction_digits f)) ≡ false = grind (arith, nat_tests) in
       let b : ltb w (length (fraction_digits f)) ≡ false = grind (arith, nat_tests) in

@@ -14,12 +14,12 @@ use Rattle.bson_decimal.specs.declared.ParseError.{ParseError}
 use Rattle.bson_decimal.specs.DecimalBits.{encoded_finite, sign_bit}
 use Rattle.bson_decimal.proofs.Shifted.{FitsShifted, IsNearestShifted}
 use Rattle.bson_decimal.specs.NumeralGrammar.{Sign, sign_bytes, is_minus, Exponent, exponent_bytes, fraction_bytes}
-use Rattle.bson_decimal.specs.NumeralGrammar.{fraction_digits, IsExponent, Numeral, digits_of, IsFiniteText, number}
-use Rattle.bson_decimal.specs.DecimalStrings.{IsSpecialWord, nan, snan, infinity, inf, DenotesDecimal, special, finite as finite_text}
+use Rattle.bson_decimal.specs.NumeralGrammar.{fraction_digits, IsExponent, Numeral, digits_of, IsFiniteDecimalText, number}
+use Rattle.bson_decimal.specs.DecimalStrings.{IsNanOrInfinityWord, nan, snan, infinity, inf, DenotesDecimal, special, finite as finite_text}
 use Rattle.bson_decimal.specs.DecimalStrings.{lowercase}
 use Rattle.bson_decimal.proofs.Shifted.{written_up, written_down, up, down, IsWithin16Shifted, within16}
 use Rattle.bson_decimal.proofs.Shifted.{within16-shifted, nearest, nearest-shifted}
-use Rattle.bson_decimal.specs.ParseSteps.{shifted_i16_max, is_exponent_mark, is_decimal_point, scaled_exponent, coefficient_and_exponent, finite}
+use Rattle.bson_decimal.specs.ParseSteps.{i16_max_plus_32768, is_exponent_mark, is_decimal_point, scaled_exponent, coefficient_and_exponent, finite}
 use Rattle.bson_decimal.proofs.StepLaws.{if-cases}
 use Rattle.bson_decimal.proofs.Fitted.{bind-by, IsFitted, FittedRefuses, stored_pair-cases}
 use Rattle.bson_decimal.proofs.NearestLaws.{nearest-one}
@@ -48,7 +48,7 @@ scaled-cases w f =
     (λ e. if-cases (λ x. (x + length f ≡ w) × (length f ≤ 32767)) (λ _. ⊤) (ltb w (length f)) _ _ (λ _. tt)
     (λ g. let a = ltb-false 32767 (length f) e in let b = ltb-false w (length f) g in (omega arith, a)))
 
-coefficient_and_exponent-ok : (bs : List ℕ) (x : ℕ) → x ≤ shifted_i16_max → MatchResult (coefficient_and_exponent bs x) (IsFitted bs x) (λ _. ⊤)
+coefficient_and_exponent-ok : (bs : List ℕ) (x : ℕ) → x ≤ i16_max_plus_32768 → MatchResult (coefficient_and_exponent bs x) (IsFitted bs x) (λ _. ⊤)
 coefficient_and_exponent-ok bs x low = weaker (coefficient_and_exponent bs x) (stored_pair-cases bs x low)
   where
     weaker : (r : Result (ℕ × ℕ) ParseError) → MatchResult r (IsFitted bs x) (FittedRefuses bs x)
@@ -117,11 +117,11 @@ front-low (d ∷ ds) f rest digits some = let r = digit_at (d ∷ (ds ++ fractio
 pub record StepsOn (text : List ℕ) (n : Numeral) : Type 0 where
   pub x : ℕ
   pub at : x + down n ≡ up n + 32768
-  pub within : x ≤ shifted_i16_max
+  pub within : x ≤ i16_max_plus_32768
   pub steps : finite (without_leading_sign text) ≡ coefficient_and_exponent (digits_of n) x
   pub sign : starts_with_minus text ≡ is_minus n.sign
 
-pub steps-on : (text : List ℕ) (n : Numeral) → IsFiniteText text n → IsWithin16Shifted n → StepsOn text n
+pub steps-on : (text : List ℕ) (n : Numeral) → IsFiniteDecimalText text n → IsWithin16Shifted n → StepsOn text n
 steps-on text n t l =
     let rest = n.integer_digits ++ (fraction_bytes n.fraction ++ exponent_bytes n.exponent) in
     let first = front-no-sign n.integer_digits n.fraction (exponent_bytes n.exponent) t.digits t.some in
@@ -144,7 +144,7 @@ steps-on text n t l =
 
 -- a text that the steps refuse denotes nothing
 pub refused : (text : List ℕ) (k : ParseError) → finite (without_leading_sign text) ≡ Err k → (n : Numeral) (c e : ℕ)
-    → IsFiniteText text n → IsWithin16Shifted n → FitsShifted (number n) (up n) (down n) c e → ⊥
+    → IsFiniteDecimalText text n → IsWithin16Shifted n → FitsShifted (number n) (up n) (down n) c e → ⊥
 refused text k is n c e t l fits =
     let s = steps-on text n t l in
     let at = s.at in
@@ -154,7 +154,7 @@ refused text k is n c e t l fits =
 
 -- and what they give is the one pair
 pub only : (text : List ℕ) (r : ℕ × ℕ) → finite (without_leading_sign text) ≡ Ok r → (n : Numeral) (c e : ℕ)
-    → IsFiniteText text n → IsWithin16Shifted n → IsNearestShifted (number n) (up n) (down n) c e
+    → IsFiniteDecimalText text n → IsWithin16Shifted n → IsNearestShifted (number n) (up n) (down n) c e
     → (c ≡ r.0) × (e ≡ r.1)
 only text r is n c e t l near =
     let s = steps-on text n t l in
@@ -199,7 +199,7 @@ head-letter : (word : List ℕ) (x : ℕ) (xs : List ℕ) → lowercase word ≡
 head-letter [] x xs e h = cc
 head-letter (c ∷ cs) x xs e h = let first : to_ascii_lowercase c ≡ x = cc in letter c x first h
 
-special-letter : (word : List ℕ) (n : ℕ) → IsSpecialWord word n → 65 ≤ get_or word 0 0
+special-letter : (word : List ℕ) (n : ℕ) → IsNanOrInfinityWord word n → 65 ≤ get_or word 0 0
 special-letter word n (nan e) = head-letter word _ _ e (omega arith)
 special-letter word n (snan e) = head-letter word _ _ e (omega arith)
 special-letter word n (infinity e) = head-letter word _ _ e (omega arith)
@@ -211,7 +211,7 @@ apart word a b e f = sym e ∙ f
 heads : (word a b : List ℕ) → lowercase word ≡ a → lowercase word ≡ b → get_or a 0 0 ≡ get_or b 0 0
 heads word a b e f = ap (λ (xs : List ℕ). get_or xs 0 0) (apart word a b e f)
 
-special-one : (word : List ℕ) (m n : ℕ) → IsSpecialWord word m → IsSpecialWord word n → m ≡ n
+special-one : (word : List ℕ) (m n : ℕ) → IsNanOrInfinityWord word m → IsNanOrInfinityWord word n → m ≡ n
 special-one word m n (nan e) (nan f) = refl
 special-one word m n (nan e) (snan f) = absurd (omega (arith, heads word _ _ e f))
 special-one word m n (nan e) (infinity f) = absurd (omega (arith, heads word _ _ e f))
@@ -230,12 +230,12 @@ special-one word m n (inf e) (infinity f) = refl
 special-one word m n (inf e) (inf f) = refl
 
 -- a word after its sign
-pub word-off : (s : Sign) (word : List ℕ) (n : ℕ) → IsSpecialWord word n
+pub word-off : (s : Sign) (word : List ℕ) (n : ℕ) → IsNanOrInfinityWord word n
     → (without_leading_sign (sign_bytes s ++ word) ≡ word) × (starts_with_minus (sign_bytes s ++ word) ≡ is_minus s)
 word-off s word n h = let first = special-letter word n h in sign-off s word (λ e. omega arith) (λ e. omega arith)
 
 -- a finite text is no word
-pub no-word : (text : List ℕ) (n : Numeral) (m : ℕ) → IsFiniteText text n → IsSpecialWord (without_leading_sign text) m
+pub no-word : (text : List ℕ) (n : Numeral) (m : ℕ) → IsFiniteDecimalText text n → IsNanOrInfinityWord (without_leading_sign text) m
     → ⊥
 no-word text n m t h =
     let first = front-no-sign n.integer_digits n.fraction (exponent_bytes n.exponent) t.digits t.some in
@@ -245,7 +245,7 @@ no-word text n m t h =
     let high = special-letter _ m (rw rest at h) in
     omega arith
 
-pub special-parses : (text : List ℕ) (n : ℕ) → IsSpecialWord (without_leading_sign text) n
+pub special-parses : (text : List ℕ) (n : ℕ) → IsNanOrInfinityWord (without_leading_sign text) n
     → DenotesDecimal text (to_le_bytes w128 (sign_bit (starts_with_minus text) + n))
     × ((b : List ℕ) → DenotesDecimal text b → b ≡ to_le_bytes w128 (sign_bit (starts_with_minus text) + n))
 special-parses text n h =
@@ -261,7 +261,7 @@ special-parses text n h =
         b-is ∙ rw (same, sign) refl
     only-word b (finite_text k c e t l near b-is) = absurd (no-word text k n t h)
 
-pub finite-parses : (text : List ℕ) (r : ℕ × ℕ) → ((n : ℕ) → ¬ (IsSpecialWord (without_leading_sign text) n))
+pub finite-parses : (text : List ℕ) (r : ℕ × ℕ) → ((n : ℕ) → ¬ (IsNanOrInfinityWord (without_leading_sign text) n))
     → finite (without_leading_sign text) ≡ Ok r
     → DenotesDecimal text (to_le_bytes w128 (encoded_finite (starts_with_minus text) r.0 r.1))
     × ((b : List ℕ) → DenotesDecimal text b → b ≡ to_le_bytes w128 (encoded_finite (starts_with_minus text) r.0 r.1))
@@ -276,7 +276,7 @@ finite-parses text r plain is = (read text r (rw is at (reads-finite (without_le
         let s = steps-on text n t limits in
         b-is ∙ rw (same.0, same.1, s.sign) refl
 
-pub refused-parses : (text : List ℕ) (k : ParseError) → ((n : ℕ) → ¬ (IsSpecialWord (without_leading_sign text) n))
+pub refused-parses : (text : List ℕ) (k : ParseError) → ((n : ℕ) → ¬ (IsNanOrInfinityWord (without_leading_sign text) n))
     → finite (without_leading_sign text) ≡ Err k → (b : List ℕ) → ¬ (DenotesDecimal text b)
 refused-parses text k plain is b (special s word m w-is w b-is) =
     plain m (rw (ap without_leading_sign w-is ∙ (word-off s word m w).0) w)

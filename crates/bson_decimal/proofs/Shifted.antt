@@ -10,7 +10,7 @@ use Rattle.std.specs.Str.Parse.{digits_value}
 use Rattle.bson_decimal.specs.Exponents.{unbiased_exponent}
 use Rattle.bson_decimal.specs.NumeralGrammar.{is_minus, Exponent, unwritten, written, Numeral, fraction_digits}
 use Rattle.bson_decimal.specs.NumeralGrammar.{written_exponent, exponent, number}
-use Rattle.bson_decimal.specs.NearestExponent.{IsRepresentation, IsNearest, exponent_distance}
+use Rattle.bson_decimal.specs.NearestExponent.{IsDecimalRepresentation, HasNearestExponent, exponent_distance}
 use Rattle.bson_decimal.specs.DecimalStrings.{digits_past_34, IsWithinI16Limits}
 use Rattle.bson_decimal.proofs.Tens.{tens-cancel}
 
@@ -136,7 +136,7 @@ right up down e = omega (arith, ints, clamps)
 apart : (up down e : ℕ) → exponent_distance (pos up -ℤ pos down) (unbiased_exponent e) ≡ distance_shifted up down e
 apart up down e = omega (arith, ints, clamps)
 
-pub fits : (m up down c e : ℕ) → FitsShifted m up down c e → IsRepresentation m (pos up -ℤ pos down) c (unbiased_exponent e)
+pub fits : (m up down c e : ℕ) → FitsShifted m up down c e → IsDecimalRepresentation m (pos up -ℤ pos down) c (unbiased_exponent e)
 fits m up down c e f =
     let l = min (e + down) (up + 6176) in
     let equal = tens-cancel _ _ l (split c (e + down) l (omega arith) ∙ f.equal
@@ -149,7 +149,7 @@ fits m up down c e f =
       high = omega (arith, ints);
     }
 
-pub fits-shifted : (m up down c e : ℕ) → IsRepresentation m (pos up -ℤ pos down) c (unbiased_exponent e) → FitsShifted m up down c e
+pub fits-shifted : (m up down c e : ℕ) → IsDecimalRepresentation m (pos up -ℤ pos down) c (unbiased_exponent e) → FitsShifted m up down c e
 fits-shifted m up down c e f =
     let l = min (e + down) (up + 6176) in
     let equal = rw (left up down e, right up down e) at f.equal in
@@ -165,7 +165,7 @@ fits-shifted m up down c e f =
 stored-is : (e : ℤ) → neg_ℤ (pos 6176) ≤ℤ e → unbiased_exponent (nat_abs (e +ℤ pos 6176)) ≡ e
 stored-is e low = omega (arith, ints, clamps)
 
-nearest-at : (m up down c e : ℕ) → IsNearestShifted m up down c e → IsNearest m (pos up -ℤ pos down) c (unbiased_exponent e)
+nearest-at : (m up down c e : ℕ) → IsNearestShifted m up down c e → HasNearestExponent m (pos up -ℤ pos down) c (unbiased_exponent e)
 nearest-at m up down c e h =
     let x = pos up -ℤ pos down in
     record {
@@ -173,11 +173,11 @@ nearest-at m up down c e h =
       least = λ d f g.
           let stored = nat_abs (f +ℤ pos 6176) in
           let at = stored-is f g.low in
-          let near = h.least d stored (fits-shifted m up down d stored (subst (λ z. IsRepresentation m x d z) (sym at) g)) in
+          let near = h.least d stored (fits-shifted m up down d stored (subst (λ z. IsDecimalRepresentation m x d z) (sym at) g)) in
           subst (λ z. exponent_distance x (unbiased_exponent e) ≤ exponent_distance x z) at (rw (apart up down e, apart up down stored) near);
     }
 
-nearest-at-shifted : (m up down c e : ℕ) → IsNearest m (pos up -ℤ pos down) c (unbiased_exponent e)
+nearest-at-shifted : (m up down c e : ℕ) → HasNearestExponent m (pos up -ℤ pos down) c (unbiased_exponent e)
     → IsNearestShifted m up down c e
 nearest-at-shifted m up down c e h =
     record {
@@ -186,12 +186,12 @@ nearest-at-shifted m up down c e h =
     }
 
 pub nearest : (n : Numeral) (c e : ℕ) → IsNearestShifted (number n) (up n) (down n) c e
-    → IsNearest (number n) (exponent n) c (unbiased_exponent e)
-nearest n c e h = subst (λ x. IsNearest (number n) x c (unbiased_exponent e)) (sym (exponent-is n))
+    → HasNearestExponent (number n) (exponent n) c (unbiased_exponent e)
+nearest n c e h = subst (λ x. HasNearestExponent (number n) x c (unbiased_exponent e)) (sym (exponent-is n))
     (nearest-at (number n) (up n) (down n) c e h)
 
-pub nearest-shifted : (n : Numeral) (c e : ℕ) → IsNearest (number n) (exponent n) c (unbiased_exponent e)
+pub nearest-shifted : (n : Numeral) (c e : ℕ) → HasNearestExponent (number n) (exponent n) c (unbiased_exponent e)
     → IsNearestShifted (number n) (up n) (down n) c e
 nearest-shifted n c e h =
     nearest-at-shifted (number n) (up n) (down n) c e
-    (subst (λ x. IsNearest (number n) x c (unbiased_exponent e)) (exponent-is n) h)
+    (subst (λ x. HasNearestExponent (number n) x c (unbiased_exponent e)) (exponent-is n) h)

@@ -15,8 +15,8 @@ use Rattle.std.specs.Str.Parse.{AllDigits, digits_value}
 use Rattle.bson_decimal.specs.declared.ParseError.{ParseError}
 use Rattle.bson_decimal.proofs.Shifted.{FitsShifted}
 use Rattle.bson_decimal.specs.NumeralGrammar.{is_zero}
-use Rattle.bson_decimal.specs.ParseSteps.{shifted_least, shifted_greatest, shifted_i16_max, is_utf8_continuation, cut_to_34_digits, raise_to_least}
-use Rattle.bson_decimal.specs.ParseSteps.{zeros_to_add, ScaledDigits}
+use Rattle.bson_decimal.specs.ParseSteps.{min_exponent_plus_32768, max_exponent_plus_32768, i16_max_plus_32768, is_utf8_continuation, cut_to_34_digits, raise_to_min_exponent}
+use Rattle.bson_decimal.specs.ParseSteps.{zeros_to_add, DigitsWithExponent}
 use Rattle.bson_decimal.proofs.Tens.{tens-pos, tens-le, reach}
 use Rattle.bson_decimal.proofs.Zeros.{value-append, zeros-are, zeros-not, AllDigits-parts}
 use Rattle.bson_decimal.proofs.NearestLaws.{fits-above, fits-exact}
@@ -78,17 +78,17 @@ NoneFitsAt ds x = (up down : ℕ) → x + down ≡ up + 32768 → NoneFits ds up
 
 module _ (ds : List ℕ) (x : ℕ) where
   -- a cut at 34
-  pub record IsCut (r : ScaledDigits) : Type 0 where
+  pub record IsCut (r : DigitsWithExponent) : Type 0 where
     pub is : ds ≡ r.0 ++ replicate (length ds - 34) 48
     pub power : r.1 ≡ x + (length ds - 34)
     pub few : length ds - 34 ≤ 32767
-    pub high : r.1 ≤ shifted_i16_max
+    pub high : r.1 ≤ i16_max_plus_32768
 
   abbrev pub CutRefuses : ParseError → Type 0
-  CutRefuses k = AllDigits 10 ds → IsLarge ds → length ds - 34 ≤ 32767 → x + (length ds - 34) ≤ shifted_i16_max
+  CutRefuses k = AllDigits 10 ds → IsLarge ds → length ds - 34 ≤ 32767 → x + (length ds - 34) ≤ i16_max_plus_32768
       → NoneFitsAt ds x
 
-  pub cut_at_34-cases : x ≤ shifted_i16_max → MatchResult (cut_to_34_digits ds x) IsCut CutRefuses
+  pub cut_at_34-cases : x ≤ i16_max_plus_32768 → MatchResult (cut_to_34_digits ds x) IsCut CutRefuses
   unfolding cut_to_34_digits
   cut_at_34-cases low =
       if-cases IsCut CutRefuses (leb (length ds) 34) _ _
@@ -106,84 +106,84 @@ module _ (ds : List ℕ) (x : ℕ) where
       no-multiple ds 34 digits (not-true _ e3) (fits-exact _ up down c f (length ds - 34) above fits))
       (λ e3. if-cases IsCut CutRefuses (ltb 32767 (length ds - 34)) _ _
       (λ e4 digits large few high up down at c f fits. omega (arith, ltb-true 32767 (length ds - 34) e4))
-      (λ e4. if-cases IsCut CutRefuses (ltb shifted_i16_max (x + (length ds - 34))) _ _
-      (λ e5 digits large few high up down at c f fits. omega (arith, ltb-true shifted_i16_max (x + (length ds - 34)) e5))
+      (λ e4. if-cases IsCut CutRefuses (ltb i16_max_plus_32768 (x + (length ds - 34))) _ _
+      (λ e5 digits large few high up down at c f fits. omega (arith, ltb-true i16_max_plus_32768 (x + (length ds - 34)) e5))
       (λ e5. record {
         is = zeros-dropped ds 34 (not-false _ e3);
         power = refl;
         few = omega (arith, ltb-false 32767 (length ds - 34) e4);
-        high = omega (arith, ltb-false shifted_i16_max (x + (length ds - 34)) e5);
+        high = omega (arith, ltb-false i16_max_plus_32768 (x + (length ds - 34)) e5);
       })))))
 
   -- zeros dropped down to the least exponent
-  pub record IsRaised (r : ScaledDigits) : Type 0 where
-    pub kept : shifted_least ≤ x → (r.0 ≡ ds) × (r.1 ≡ x)
-    pub raised : x < shifted_least
-        → (r.1 ≡ shifted_least) × (((ds ≡ []) × (r.0 ≡ [])) ⊎ (ds ≡ r.0 ++ replicate (shifted_least - x) 48))
+  pub record IsRaised (r : DigitsWithExponent) : Type 0 where
+    pub kept : min_exponent_plus_32768 ≤ x → (r.0 ≡ ds) × (r.1 ≡ x)
+    pub raised : x < min_exponent_plus_32768
+        → (r.1 ≡ min_exponent_plus_32768) × (((ds ≡ []) × (r.0 ≡ [])) ⊎ (ds ≡ r.0 ++ replicate (min_exponent_plus_32768 - x) 48))
 
   abbrev pub Refuses : ParseError → Type 0
   Refuses k = AllDigits 10 ds → IsLarge ds → NoneFitsAt ds x
 
   -- where j digits would have to go, the number is a multiple of 10 ^ j
   divides : (up down c e j : ℕ) → x + down ≡ up + 32768 → FitsShifted (digits_value 10 ds) up down c e
-      → x + j ≡ shifted_least → digits_value 10 ds % 10 ^ j ≡ 0
+      → x + j ≡ min_exponent_plus_32768 → digits_value 10 ds % 10 ^ j ≡ 0
   divides up down c e j at fits to = fits-exact (digits_value 10 ds) up down c e j (omega arith) fits
 
-  pub raise_to_least-cases : MatchResult (raise_to_least ds x) IsRaised Refuses
-  unfolding raise_to_least
-  raise_to_least-cases =
-      if-cases IsRaised Refuses (leb shifted_least x) _ _
-      (λ e. let low = leb-true shifted_least x e in
+  pub raise_to_min_exponent-cases : MatchResult (raise_to_min_exponent ds x) IsRaised Refuses
+  unfolding raise_to_min_exponent
+  raise_to_min_exponent-cases =
+      if-cases IsRaised Refuses (leb min_exponent_plus_32768 x) _ _
+      (λ e. let low = leb-true min_exponent_plus_32768 x e in
       record { kept = λ _. (refl, refl); raised = λ h. absurd (omega arith) })
-      (λ e. let low = leb-false shifted_least x e in
+      (λ e. let low = leb-false min_exponent_plus_32768 x e in
       if-cases IsRaised Refuses (eqb (length ds) 0) _ _
       (λ e2. let none = nil_from_length ds (eqb-true (length ds) 0 e2) in
       record { kept = λ h. absurd (omega arith); raised = λ _. (refl, inl (none, none)) })
-      (λ e2. if-cases IsRaised Refuses (ltb (length ds) (shifted_least - x)) _ _
+      (λ e2. if-cases IsRaised Refuses (ltb (length ds) (min_exponent_plus_32768 - x)) _ _
       (λ e3 digits large up down at c f fits.
       let some : 0 < length ds = grind (arith, nat_tests) in
-      let long = ltb-true (length ds) (shifted_least - x) e3 in
-      let integer_digits = divides up down c f (shifted_least - x) at fits (omega arith) in
+      let long = ltb-true (length ds) (min_exponent_plus_32768 - x) e3 in
+      let integer_digits = divides up down c f (min_exponent_plus_32768 - x) at fits (omega arith) in
       let below = digits_value-lt 10 ds digits in
-      let wide = tens-le (length ds) (shifted_least - x) (omega arith) in
-      let small : digits_value 10 ds < 10 ^ (shifted_least - x) = omega arith in
+      let wide = tens-le (length ds) (min_exponent_plus_32768 - x) (omega arith) in
+      let small : digits_value 10 ds < 10 ^ (min_exponent_plus_32768 - x) = omega arith in
       omega (arith, mod-eq_of_lt small, large some, tens-pos (length ds - 1)))
-      (λ e3. let within = ltb-false (length ds) (shifted_least - x) e3 in
-      if-cases IsRaised Refuses (is_utf8_continuation (slice_index ds (length ds - (shifted_least - x)))) _ _
-      (λ e4 digits large up down at c f fits. inside-no-digit ds (length ds - (shifted_least - x)) digits
+      (λ e3. let within = ltb-false (length ds) (min_exponent_plus_32768 - x) e3 in
+      if-cases IsRaised Refuses (is_utf8_continuation (slice_index ds (length ds - (min_exponent_plus_32768 - x)))) _ _
+      (λ e4 digits large up down at c f fits. inside-no-digit ds (length ds - (min_exponent_plus_32768 - x)) digits
       (omega arith) e4)
-      (λ e4. let size : length ds - (length ds - (shifted_least - x)) ≡ shifted_least - x = omega arith in
-      if-cases IsRaised Refuses (not (list_all is_zero (drop (length ds - (shifted_least - x)) ds))) _ _
-      (λ e5 digits large up down at c f fits. no-multiple ds (length ds - (shifted_least - x)) digits (not-true _ e5)
-      (rw size (divides up down c f (shifted_least - x) at fits (omega arith))))
+      (λ e4. let size : length ds - (length ds - (min_exponent_plus_32768 - x)) ≡ min_exponent_plus_32768 - x = omega arith in
+      if-cases IsRaised Refuses (not (list_all is_zero (drop (length ds - (min_exponent_plus_32768 - x)) ds))) _ _
+      (λ e5 digits large up down at c f fits. no-multiple ds (length ds - (min_exponent_plus_32768 - x)) digits (not-true _ e5)
+      (rw size (divides up down c f (min_exponent_plus_32768 - x) at fits (omega arith))))
       (λ e5. record {
         kept = λ h. absurd (omega arith);
-        raised = λ _. (refl, inr (rw size at (zeros-dropped ds (length ds - (shifted_least - x)) (not-false _ e5))));
+        raised = λ _. (refl, inr (rw size at (zeros-dropped ds (length ds - (min_exponent_plus_32768 - x)) (not-false _ e5))));
       })))))
 
   -- zeros added up to the greatest exponent
   pub record IsPadded (z : ℕ) : Type 0 where
-    pub same : x ≤ shifted_greatest → z ≡ 0
-    pub padded : shifted_greatest < x → ((ds ≡ []) × (z ≡ 0)) ⊎ ((z ≡ x - shifted_greatest) × (length ds + z ≤ 34))
+    pub same : x ≤ max_exponent_plus_32768 → z ≡ 0
+    pub padded : max_exponent_plus_32768 < x → ((ds ≡ []) × (z ≡ 0)) ⊎ ((z ≡ x - max_exponent_plus_32768) × (length ds + z ≤ 34))
 
   pub zeros_to_add-cases : MatchResult (zeros_to_add ds x) IsPadded Refuses
   unfolding zeros_to_add
   zeros_to_add-cases =
-      if-cases IsPadded Refuses (leb x shifted_greatest) _ _
-      (λ e. let low = leb-true x shifted_greatest e in record { same = λ _. refl; padded = λ h. absurd (omega arith) })
-      (λ e. let high = leb-false x shifted_greatest e in
+      if-cases IsPadded Refuses (leb x max_exponent_plus_32768) _ _
+      (λ e. let low = leb-true x max_exponent_plus_32768 e in record { same = λ _. refl; padded = λ h. absurd (omega arith) })
+      (λ e. let high = leb-false x max_exponent_plus_32768 e in
       if-cases IsPadded Refuses (eqb (length ds) 0) _ _
       (λ e2. let none = nil_from_length ds (eqb-true (length ds) 0 e2) in
       record { same = λ h. absurd (omega arith); padded = λ _. inl (none, refl) })
-      (λ e2. if-cases IsPadded Refuses (ltb 34 (length ds + (x - shifted_greatest))) _ _
+      (λ e2. if-cases IsPadded Refuses (ltb 34 (length ds + (x - max_exponent_plus_32768))) _ _
       (λ e3 digits large up down at c f fits.
       let some : 0 < length ds = grind (arith, nat_tests) in
-      let long = ltb-true 34 (length ds + (x - shifted_greatest)) e3 in
+      let long = ltb-true 34 (length ds + (x - max_exponent_plus_32768)) e3 in
       let within = fits.exponent in
       omega (
         arith,
         reach 34 (length ds - 1) c (f + down) (digits_value 10 ds) (up + 6176) fits.coefficient
             (large some) fits.equal,
       ))
-      (λ e3. let short = ltb-false 34 (length ds + (x - shifted_greatest)) e3 in
+      (λ e3. let short = ltb-false 34 (length ds + (x - max_exponent_plus_32768)) e3 in
       record { same = λ h. absurd (omega arith); padded = λ _. inr (refl, omega arith) })))

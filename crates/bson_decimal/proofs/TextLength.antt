@@ -13,21 +13,21 @@ use Rattle.bson_decimal.specs.declared.bits.Decoded.{Decoded}
 use Rattle.bson_decimal.specs.declared.bits.Decoded.TheVariants.{Nan, Infinity, Finite}
 use Rattle.bson_decimal.specs.Exponents.{unbiased_exponent}
 use Rattle.bson_decimal.specs.DecimalBits.{decoded_decimal}
-use Rattle.bson_decimal.specs.DecimalText.{meaning_text, decimal128_text, finite_text, plain_text, scientific_text}
-use Rattle.bson_decimal.specs.DecimalText.{scientific_exponent, power_text}
+use Rattle.bson_decimal.specs.DecimalText.{decoded_decimal_text, decimal128_text, finite_text, plain_text, scientific_text}
+use Rattle.bson_decimal.specs.DecimalText.{scientific_exponent, signed_exponent_text}
 use Rattle.bson_decimal.proofs.PatternLaws.{IsDecoded, number_meaning-within}
 use Rattle.bson_decimal.proofs.DisplayedLaws.{at-most-zero, at-least-six, places, first-digit}
 
 digits-length : (k n : ℕ) → 0 < k → n < 10 ^ k → n < 10 ^ 64 → length (decimal n) ≤ k
 digits-length k n = length-decimal-le_wide k n
 
-below : (n : ℕ) → n < 9999 → length (power_text (neg_ℤ (pos n))) ≤ 5
+below : (n : ℕ) → n < 9999 → length (signed_exponent_text (neg_ℤ (pos n))) ≤ 5
 below zero h = omega (arith, digits-length 4 0 (omega arith) (omega arith) (omega arith))
 below (suc n) h = omega (arith, digits-length 4 (suc n) (omega arith) (omega arith) (omega arith))
 
 -- an exponent has four digits at most, and a sign
-power_text-length : (k : ℕ) → k < 12400 → length (power_text (pos k -ℤ pos 6177)) ≤ 5
-power_text-length k most =
+signed_exponent_text-length : (k : ℕ) → k < 12400 → length (signed_exponent_text (pos k -ℤ pos 6177)) ≤ 5
+signed_exponent_text-length k most =
     elim (cases_Bool (ltb 6177 k)) [
       | inl a ↦
           let high = ltb-true 6177 k a in
@@ -57,8 +57,8 @@ plain_text-length ds n few near =
 scientific_text-length : (ds : List ℕ) (k : ℕ) → length ds ≤ 34 → k < 12400
     → length (scientific_text ds (pos k -ℤ pos 6177)) ≤ 41
 scientific_text-length ds k few most =
-    let power = codes "E" ++ power_text (pos k -ℤ pos 6177) in
-    let most = power_text-length k most in
+    let power = codes "E" ++ signed_exponent_text (pos k -ℤ pos 6177) in
+    let most = signed_exponent_text-length k most in
     let first = length-take 1 ds in
     elim (cases_Bool (eqb (length ds) 1)) [
       | inl a ↦ rw a (omega (arith, length-append (take 1 ds) power, first, most))
@@ -91,13 +91,13 @@ signed-length : (negative : Bool) (text : List ℕ) → length text ≤ 41 → l
 signed-length true text h = omega arith
 signed-length false text h = omega arith
 
-meaning_text-length : (d : Decoded) → IsDecoded d → length (meaning_text d) ≤ 42
-meaning_text-length (Nan s q) h = omega arith
-meaning_text-length (Infinity s) h = signed-length s (codes "Infinity") (omega arith)
-meaning_text-length (Finite s c e) h =
+decoded_decimal_text-length : (d : Decoded) → IsDecoded d → length (decoded_decimal_text d) ≤ 42
+decoded_decimal_text-length (Nan s q) h = omega arith
+decoded_decimal_text-length (Infinity s) h = signed-length s (codes "Infinity") (omega arith)
+decoded_decimal_text-length (Finite s c e) h =
     signed-length s (finite_text (decimal c) (unbiased_exponent e)) (finite_text-length c e h.0 h.1)
 
 -- the text of a decimal has at most 42 bytes
 pub display_text-length : (b : List ℕ) → length (decimal128_text b) ≤ 42
 unfolding decimal128_text
-display_text-length b = meaning_text-length (decoded_decimal b) (number_meaning-within (from_le_bytes w128 b))
+display_text-length b = decoded_decimal_text-length (decoded_decimal b) (number_meaning-within (from_le_bytes w128 b))

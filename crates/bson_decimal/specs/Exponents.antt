@@ -13,5 +13,5 @@ abbrev pub bias : ℕ
 bias = 6176
 
 -- the exponent of a stored exponent
-abbrev pub unbiased_exponent : ℕ → ℤ
-unbiased_exponent stored = pos stored -ℤ pos bias
+abbrev pub unbiased_exponent : (stored_exponent : ℕ) → ℤ
+unbiased_exponent stored_exponent = pos stored_exponent -ℤ pos bias

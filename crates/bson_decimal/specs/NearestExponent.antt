@@ -8,20 +8,24 @@ use Rattle.bson_decimal.specs.Exponents.{least_exponent, greatest_exponent}
 
 -- coeff * 10 ^ exponent = text_coefficient * 10 ^ text_exponent, with both sides divided by 10 ^ lower, so that each power is a natural number; lower is the
 -- lesser of exponent and text_exponent
-abbrev pub HaveSameValue : ℕ → ℤ → ℕ → ℤ → Type 0
-HaveSameValue coeff exponent text_coefficient text_exponent = let lower = int_min exponent text_exponent in coeff * 10 ^ nat_abs (exponent -ℤ lower) ≡ text_coefficient * 10 ^ nat_abs (text_exponent -ℤ lower)
+abbrev pub HaveSameValue : (coeff : ℕ) → (exponent : ℤ) → (text_coefficient : ℕ) → (text_exponent : ℤ) → Type 0
+HaveSameValue coeff exponent text_coefficient text_exponent =
+    let lower = int_min exponent text_exponent in coeff * 10 ^ nat_abs (exponent -ℤ lower)
+    ≡ text_coefficient * 10 ^ nat_abs (text_exponent -ℤ lower)
 
 -- a decimal128 has the value: 34 digits, with an exponent in range
-pub record IsRepresentation (text_coefficient : ℕ) (text_exponent : ℤ) (coeff : ℕ) (exponent : ℤ) : Type 0 where
+pub record IsDecimalRepresentation (text_coefficient : ℕ) (text_exponent : ℤ) (coeff : ℕ) (exponent : ℤ) : Type 0 where
   pub equal : HaveSameValue coeff exponent text_coefficient text_exponent
   pub coefficient : coeff < 10 ^ 34
   pub low : least_exponent ≤ℤ exponent
   pub high : exponent ≤ℤ greatest_exponent
 
-abbrev pub exponent_distance : ℤ → ℤ → ℕ
+abbrev pub exponent_distance : (text_exponent exponent : ℤ) → ℕ
 exponent_distance text_exponent exponent = nat_abs (exponent -ℤ text_exponent)
 
 -- the pair fits, and no pair that fits has a nearer exponent
-pub record IsNearest (text_coefficient : ℕ) (text_exponent : ℤ) (coeff : ℕ) (exponent : ℤ) : Type 0 where
-  pub fits : IsRepresentation text_coefficient text_exponent coeff exponent
-  pub least : (other_coeff : ℕ) (other_exponent : ℤ) → IsRepresentation text_coefficient text_exponent other_coeff other_exponent → exponent_distance text_exponent exponent ≤ exponent_distance text_exponent other_exponent
+pub record HasNearestExponent (text_coefficient : ℕ) (text_exponent : ℤ) (coeff : ℕ) (exponent : ℤ) : Type 0 where
+  pub fits : IsDecimalRepresentation text_coefficient text_exponent coeff exponent
+  pub least : (other_coeff : ℕ) (other_exponent : ℤ)
+      → IsDecimalRepresentation text_coefficient text_exponent other_coeff other_exponent
+      → exponent_distance text_exponent exponent ≤ exponent_distance text_exponent other_exponent

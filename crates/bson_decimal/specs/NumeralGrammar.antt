@@ -23,7 +23,7 @@ is_minus minus = true
 -- an exponent: the byte `e` or `E`, a sign, and digits; or nothing
 pub data Exponent : Type 0 where
   unwritten : Exponent
-  written : ℕ → Sign → List ℕ → Exponent
+  written : (mark : ℕ) → Sign → (digits : List ℕ) → Exponent
 
 -- digits, perhaps a point and more digits, and an exponent
 pub record Numeral : Type 0 where
@@ -45,7 +45,9 @@ exponent_bytes unwritten = []
 exponent_bytes (written mark sign digits) = mark ∷ (sign_bytes sign ++ digits)
 
 abbrev pub numeral_bytes : Numeral → List ℕ
-numeral_bytes numeral = sign_bytes numeral.sign ++ (numeral.integer_digits ++ (fraction_bytes numeral.fraction ++ exponent_bytes numeral.exponent))
+numeral_bytes numeral =
+    sign_bytes numeral.sign
+    ++ (numeral.integer_digits ++ (fraction_bytes numeral.fraction ++ exponent_bytes numeral.exponent))
 
 -- all digits before the exponent
 abbrev pub digits_of : Numeral → List ℕ
@@ -56,7 +58,7 @@ IsExponent unwritten = ⊤
 IsExponent (written mark sign digits) = ((mark ≡ 101) ⊎ (mark ≡ 69)) × (0 < length digits) × AllDigits 10 digits
 
 -- the string is a finite decimal, and these are its parts
-pub record IsFiniteText (text : List ℕ) (numeral : Numeral) : Type 0 where
+pub record IsFiniteDecimalText (text : List ℕ) (numeral : Numeral) : Type 0 where
   pub is : text ≡ numeral_bytes numeral
   pub digits : AllDigits 10 (digits_of numeral)
   pub some : 0 < length (digits_of numeral)
@@ -68,13 +70,14 @@ number numeral = digits_value 10 (digits_of numeral)
 
 abbrev pub written_exponent : Exponent → ℤ
 written_exponent unwritten = pos 0
-written_exponent (written mark sign digits) = if is_minus sign then neg_ℤ (pos (digits_value 10 digits)) else pos (digits_value 10 digits)
+written_exponent (written mark sign digits) =
+    if is_minus sign then neg_ℤ (pos (digits_value 10 digits)) else pos (digits_value 10 digits)
 
 abbrev pub exponent : Numeral → ℤ
 exponent numeral = written_exponent numeral.exponent -ℤ pos (length (fraction_digits numeral.fraction))
 
-abbrev pub is_zero : ℕ → Bool
-is_zero b = b == 48
+abbrev pub is_zero : (digit_byte : ℕ) → Bool
+is_zero digit_byte = digit_byte == 48
 
-abbrev pub without_leading_zeros : List ℕ → List ℕ
+abbrev pub without_leading_zeros : (digits : List ℕ) → List ℕ
 without_leading_zeros digits = drop (prefix_len is_zero digits) digits

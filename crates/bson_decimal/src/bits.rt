@@ -40,28 +40,28 @@ impl Decimal128 {
     pub(crate) fn decode(&self) -> Decoded
         ensures { result ≡ decoded_decimal self.now }
     {
-        let number = u128::from_le_bytes(self.bytes());
-        let negative = (number >> 127) % 2 == 1;
-        let top = (number >> 122) % 32;
-        if top == 31 {
-            let signalling = (number >> 121) % 2 == 1;
+        let bit_pattern = u128::from_le_bytes(self.bytes());
+        let negative = (bit_pattern >> 127) % 2 == 1;
+        let combination_bits = (bit_pattern >> 122) % 32;
+        if combination_bits == 31 {
+            let signalling = (bit_pattern >> 121) % 2 == 1;
             return Decoded::Nan {
                 negative,
                 signalling,
             };
         }
-        if top == 30 {
+        if combination_bits == 30 {
             return Decoded::Infinity { negative };
         }
-        if (number >> 125) % 4 == 3 {
-            let stored_exponent = ((number >> 111) % 16384) as u16;
+        if (bit_pattern >> 125) % 4 == 3 {
+            let stored_exponent = ((bit_pattern >> 111) % 16384) as u16;
             return Decoded::Finite {
                 negative,
                 coefficient: 0,
                 stored_exponent,
             };
         }
-        let coefficient = number % (1 << 113);
+        let coefficient = bit_pattern % (1 << 113);
         Decoded::Finite {
             negative,
             coefficient: if coefficient < COEFFICIENT_END {
@@ -69,19 +69,19 @@ impl Decimal128 {
             } else {
                 0
             },
-            stored_exponent: ((number >> 113) % 16384) as u16,
+            stored_exponent: ((bit_pattern >> 113) % 16384) as u16,
         }
     }
 }
 
 // The exponent of a stored exponent.
-pub(crate) fn unbiased_exponent(stored: u16) -> i32
-    ensures { result ≡ unbiased_exponent stored }
+pub(crate) fn unbiased_exponent(stored_exponent: u16) -> i32
+    ensures { result ≡ unbiased_exponent stored_exponent }
 {
-    i32::from(stored) - 6176
+    i32::from(stored_exponent) - 6176
 }
 
-// The sign bit, as a number.
+// The sign bit among 128 bits.
 pub(crate) fn sign_bit(negative: bool) -> u128
     ensures value { result ≡ sign_bit negative }
     ensures within { result ≤ 2 ^ 127 }
@@ -89,7 +89,7 @@ pub(crate) fn sign_bit(negative: bool) -> u128
     if negative { 1 << 127 } else { 0 }
 }
 
-// The bit pattern of a finite decimal, as a number.
+// The 128 bits of a finite decimal.
 pub(crate) fn encoded_finite(negative: bool, coefficient: u128, stored_exponent: u16) -> u128
     requires coefficient { coefficient < 10 ^ 34 }
     requires exponent { stored_exponent < 12288 }

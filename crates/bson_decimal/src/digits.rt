@@ -17,7 +17,7 @@ pub(crate) struct Digits<'a> {
 impl<'a> Model for Digits<'a> {
     ghost Value = { List ℕ };
 
-    ghost view = { λ d. d.integer_digits.now ++ d.fraction.now };
+    ghost view = { λ digits. digits.integer_digits.now ++ digits.fraction.now };
 }
 
 impl<'a> Digits<'a> {
@@ -36,66 +36,66 @@ impl<'a> Digits<'a> {
         self.integer_digits.len() + self.fraction.len()
     }
 
-    pub(crate) fn byte(&self, i: usize) -> u8
-        requires { i < length self.now }
-        ensures { result ≡ slice_index self.now i }
+    pub(crate) fn byte(&self, digit_index: usize) -> u8
+        requires { digit_index < length self.now }
+        ensures { result ≡ slice_index self.now digit_index }
     {
-        if i < self.integer_digits.len() {
-            self.integer_digits[i]
+        if digit_index < self.integer_digits.len() {
+            self.integer_digits[digit_index]
         } else {
-            self.fraction[i - self.integer_digits.len()]
+            self.fraction[digit_index - self.integer_digits.len()]
         }
     }
 
-    // The first `n` bytes.
-    pub(crate) fn first(self, n: usize) -> Digits<'a>
-        requires { n ≤ length self }
-        ensures { result ≡ take n self.entry }
+    // The first `digit_count` bytes.
+    pub(crate) fn first(self, digit_count: usize) -> Digits<'a>
+        requires { digit_count ≤ length self }
+        ensures { result ≡ take digit_count self.entry }
     {
-        if n <= self.integer_digits.len() {
+        if digit_count <= self.integer_digits.len() {
             Digits {
-                integer_digits: &self.integer_digits[..n],
+                integer_digits: &self.integer_digits[..digit_count],
                 fraction: &[],
             }
         } else {
             Digits {
                 integer_digits: self.integer_digits,
-                fraction: &self.fraction[..n - self.integer_digits.len()],
+                fraction: &self.fraction[..digit_count - self.integer_digits.len()],
             }
         }
     }
 
-    // The bytes after the first `n`.
-    pub(crate) fn after(self, n: usize) -> Digits<'a>
-        requires { n ≤ length self }
-        ensures { result ≡ drop n self.entry }
+    // The bytes after the first `digit_count`.
+    pub(crate) fn after(self, digit_count: usize) -> Digits<'a>
+        requires { digit_count ≤ length self }
+        ensures { result ≡ drop digit_count self.entry }
     {
-        if n <= self.integer_digits.len() {
+        if digit_count <= self.integer_digits.len() {
             Digits {
-                integer_digits: &self.integer_digits[n..],
+                integer_digits: &self.integer_digits[digit_count..],
                 fraction: self.fraction,
             }
         } else {
             Digits {
                 integer_digits: &[],
-                fraction: &self.fraction[n - self.integer_digits.len()..],
+                fraction: &self.fraction[digit_count - self.integer_digits.len()..],
             }
         }
     }
 
-    // The number of zeros after the first `n` bytes, up to the first byte that is not a zero.
-    fn zeros_after(&self, n: usize) -> usize
-        requires { n ≤ length self.now }
-        ensures value { result ≡ prefix_len is_zero (drop n self.now) }
-        ensures within { n + result ≤ length self.now }
+    // The number of zeros after the first `digit_count` bytes, up to the first byte that is not a zero.
+    fn zeros_after(&self, digit_count: usize) -> usize
+        requires { digit_count ≤ length self.now }
+        ensures value { result ≡ prefix_len is_zero (drop digit_count self.now) }
+        ensures within { digit_count + result ≤ length self.now }
     {
         let len = self.len();
-        for i in n..len {
-            if self.byte(i) != b'0' {
-                return i - n;
+        for digit_index in digit_count..len {
+            if self.byte(digit_index) != b'0' {
+                return digit_index - digit_count;
             }
         }
-        len - n
+        len - digit_count
     }
 
     pub(crate) fn without_leading_zeros(self) -> Digits<'a>
@@ -105,11 +105,11 @@ impl<'a> Digits<'a> {
         self.after(zeros)
     }
 
-    pub(crate) fn has_only_zeros_after(&self, n: usize) -> bool
-        requires { n ≤ length self.now }
-        ensures { result ≡ list_all is_zero (drop n self.now) }
+    pub(crate) fn has_only_zeros_after(&self, digit_count: usize) -> bool
+        requires { digit_count ≤ length self.now }
+        ensures { result ≡ list_all is_zero (drop digit_count self.now) }
     {
-        self.zeros_after(n) == self.len() - n
+        self.zeros_after(digit_count) == self.len() - digit_count
     }
 
     // The number that the bytes denote, if all are digits.
@@ -117,14 +117,14 @@ impl<'a> Digits<'a> {
         requires { length self.now ≤ 34 }
         ensures { SomeIff result (AllDigits 10 self.now) (digits_value 10 self.now) }
     {
-        let mut n = 0u128;
-        for i in 0..self.len() {
-            let b = self.byte(i);
-            if !b.is_ascii_digit() {
+        let mut number = 0u128;
+        for digit_index in 0..self.len() {
+            let digit_byte = self.byte(digit_index);
+            if !digit_byte.is_ascii_digit() {
                 return None;
             }
-            n = n * 10 + u128::from(b - b'0');
+            number = number * 10 + u128::from(digit_byte - b'0');
         }
-        Some(n)
+        Some(number)
     }
 }

@@ -4,7 +4,7 @@ ghost use Rattle.std.specs.Prelude.{◌≡◌, ◌+◌, ◌-◌, ◌*◌, ◌^�
 ghost use Rattle.std.specs.Prelude.{drop, replicate, Some, IsAscii};
 ghost use Rattle.std.specs.Fmt.{decimal, sign_text, WritesOnOk};
 ghost use Rattle.bson_decimal.specs.Exponents.{unbiased_exponent};
-ghost use Rattle.bson_decimal.specs.DecimalText.{plain_text, power_text, scientific_exponent};
+ghost use Rattle.bson_decimal.specs.DecimalText.{plain_text, signed_exponent_text, scientific_exponent};
 ghost use Rattle.bson_decimal.specs.DecimalText.{scientific_text, finite_text, decimal128_text};
 
 use crate::Decimal128;
@@ -18,72 +18,77 @@ fn write_digits(coefficient: u128, buffer: &mut [u8; 34]) -> usize
     ensures len { length buffer.new ≡ 34 }
     ensures written { drop result buffer.new ≡ decimal coefficient }
 {
-    let mut left = coefficient;
-    let mut at = 33;
-    while left >= 10 {
-        buffer[at] = b'0' + (left % 10) as u8;
-        left /= 10;
-        at -= 1;
+    let mut remaining_coefficient = coefficient;
+    let mut digit_index = 33;
+    while remaining_coefficient >= 10 {
+        buffer[digit_index] = b'0' + (remaining_coefficient % 10) as u8;
+        remaining_coefficient /= 10;
+        digit_index -= 1;
     }
-    buffer[at] = b'0' + left as u8;
-    at
+    buffer[digit_index] = b'0' + remaining_coefficient as u8;
+    digit_index
 }
 
-fn write_zeros<W: fmt::Write>(f: &mut fmt::Formatter<W>, count: usize) -> fmt::Result
-    ensures { WritesOnOk W.write_str_gives f.old result (replicate count 48) f.new }
+fn write_zeros<W: fmt::Write>(formatter: &mut fmt::Formatter<W>, count: usize) -> fmt::Result
+    ensures { WritesOnOk W.write_str_gives formatter.old result (replicate count 48) formatter.new }
 {
     for _i in 0..count {
-        f.write_str("0")?;
+        formatter.write_str("0")?;
     }
     Ok(())
 }
 
-// The digits with a point before the last `places` of them.
-fn write_plain<W: fmt::Write>(f: &mut fmt::Formatter<W>, digits: &str, places: usize) -> fmt::Result
+// The digits with a point before the last `decimal_places` of them.
+fn write_plain<W: fmt::Write>(
+    formatter: &mut fmt::Formatter<W>,
+    digits: &str,
+    decimal_places: usize,
+) -> fmt::Result
     requires { IsAscii digits.now }
-    ensures { WritesOnOk W.write_str_gives f.old result (plain_text digits.now places) f.new }
+    ensures { WritesOnOk W.write_str_gives formatter.old result (plain_text digits.now decimal_places) formatter.new }
 {
-    if places == 0 {
-        return f.write_str(digits);
+    if decimal_places == 0 {
+        return formatter.write_str(digits);
     }
-    if places < digits.len() {
-        let integer_digits = digits.len() - places;
-        f.write_str(&digits[..integer_digits])?;
-        f.write_str(".")?;
-        return f.write_str(&digits[integer_digits..]);
+    if decimal_places < digits.len() {
+        let integer_digits = digits.len() - decimal_places;
+        formatter.write_str(&digits[..integer_digits])?;
+        formatter.write_str(".")?;
+        return formatter.write_str(&digits[integer_digits..]);
     }
-    f.write_str("0.")?;
-    write_zeros(f, places - digits.len())?;
-    f.write_str(digits)
+    formatter.write_str("0.")?;
+    write_zeros(formatter, decimal_places - digits.len())?;
+    formatter.write_str(digits)
 }
 
 // An exponent with its sign, `+` if it is above 0.
-fn write_power<W: fmt::Write>(f: &mut fmt::Formatter<W>, exponent: i32) -> fmt::Result
-    ensures { WritesOnOk W.write_str_gives f.old result (power_text exponent) f.new }
+fn write_exponent<W: fmt::Write>(formatter: &mut fmt::Formatter<W>, exponent: i32) -> fmt::Result
+    ensures { WritesOnOk W.write_str_gives formatter.old result (signed_exponent_text exponent) formatter.new }
 {
     if exponent > 0 {
-        f.write_str("+")?;
+        formatter.write_str("+")?;
     }
-    write!(f, "{exponent}")
+    write!(formatter, "{exponent}")
 }
 
 // One digit, a point before the others if there are any, and the exponent of the first digit.
 fn write_scientific<W: fmt::Write>(
-    f: &mut fmt::Formatter<W>,
+    formatter: &mut fmt::Formatter<W>,
     digits: &str,
-    first: i32,
+    first_digit_exponent: i32,
 ) -> fmt::Result
     requires ascii { IsAscii digits.now }
     requires some { 0 < length digits.now }
-    ensures { WritesOnOk W.write_str_gives f.old result (scientific_text digits.now first) f.new }
+    ensures { WritesOnOk W.write_str_gives formatter.old result
+        (scientific_text digits.now first_digit_exponent) formatter.new }
 {
-    f.write_str(&digits[..1])?;
+    formatter.write_str(&digits[..1])?;
     if digits.len() != 1 {
-        f.write_str(".")?;
-        f.write_str(&digits[1..])?;
+        formatter.write_str(".")?;
+        formatter.write_str(&digits[1..])?;
     }
-    f.write_str("E")?;
-    write_power(f, first)
+    formatter.write_str("E")?;
+    write_exponent(formatter, first_digit_exponent)
 }
 
 // The exponent of the first digit.
@@ -96,26 +101,27 @@ fn scientific_exponent(digits: &str, stored_exponent: u16) -> i32
 
 // Plain if the exponent is at most 0 and the exponent of the first digit at least -6.
 fn write_finite<W: fmt::Write>(
-    f: &mut fmt::Formatter<W>,
+    formatter: &mut fmt::Formatter<W>,
     digits: &str,
     stored_exponent: u16,
 ) -> fmt::Result
     requires ascii { IsAscii digits.now }
     requires some { 0 < length digits.now }
     requires short { length digits.now ≤ 34 }
-    ensures { WritesOnOk W.write_str_gives f.old result (finite_text digits.now (unbiased_exponent stored_exponent)) f.new }
+    ensures { WritesOnOk W.write_str_gives formatter.old result
+        (finite_text digits.now (unbiased_exponent stored_exponent)) formatter.new }
 {
     let exponent = unbiased_exponent(stored_exponent);
-    let first = scientific_exponent(digits, stored_exponent);
-    if exponent <= 0 && first >= -6 {
-        write_plain(f, digits, exponent.unsigned_abs() as usize)
+    let first_digit_exponent = scientific_exponent(digits, stored_exponent);
+    if exponent <= 0 && first_digit_exponent >= -6 {
+        write_plain(formatter, digits, exponent.unsigned_abs() as usize)
     } else {
-        write_scientific(f, digits, first)
+        write_scientific(formatter, digits, first_digit_exponent)
     }
 }
 
 fn write_signed<W: fmt::Write>(
-    f: &mut fmt::Formatter<W>,
+    formatter: &mut fmt::Formatter<W>,
     negative: bool,
     digits: &str,
     stored_exponent: u16,
@@ -123,13 +129,13 @@ fn write_signed<W: fmt::Write>(
     requires ascii { IsAscii digits.now }
     requires some { 0 < length digits.now }
     requires short { length digits.now ≤ 34 }
-    ensures { WritesOnOk W.write_str_gives f.old result
-        (sign_text negative ++ finite_text digits.now (unbiased_exponent stored_exponent)) f.new }
+    ensures { WritesOnOk W.write_str_gives formatter.old result
+        (sign_text negative ++ finite_text digits.now (unbiased_exponent stored_exponent)) formatter.new }
 {
     if negative {
-        f.write_str("-")?;
+        formatter.write_str("-")?;
     }
-    write_finite(f, digits, stored_exponent)
+    write_finite(formatter, digits, stored_exponent)
 }
 
 /// Writes a decimal as its digits if its exponent is at most 0 and its first digit is at most six
@@ -137,13 +143,13 @@ fn write_signed<W: fmt::Write>(
 /// example `1.05E+3`. Zeros at the end are kept. A NaN is `NaN`, whatever its sign, and an infinity
 /// `Infinity` or `-Infinity` (IEEE 754-2008, section 5.12).
 impl fmt::Display for Decimal128 {
-    ghost output = { λ d. Some (decimal128_text d) };
+    ghost output = { λ decimal_bytes. Some (decimal128_text decimal_bytes) };
 
     #[tactic(auto, unfolding(crate::specs::DecimalText::decimal128_text))]
-    fn fmt<W: fmt::Write>(&self, f: &mut fmt::Formatter<W>) -> fmt::Result {
+    fn fmt<W: fmt::Write>(&self, formatter: &mut fmt::Formatter<W>) -> fmt::Result {
         match self.decode() {
-            Decoded::Nan { .. } => f.write_str("NaN"),
-            Decoded::Infinity { negative } => f.write_str(if negative {
+            Decoded::Nan { .. } => formatter.write_str("NaN"),
+            Decoded::Infinity { negative } => formatter.write_str(if negative {
                 "-Infinity"
             } else {
                 "Infinity"
@@ -156,7 +162,7 @@ impl fmt::Display for Decimal128 {
                 let mut buffer = [0; 34];
                 let start = write_digits(coefficient, &mut buffer);
                 match str::from_utf8(&buffer[start..]) {
-                    Ok(digits) => write_signed(f, negative, digits, stored_exponent),
+                    Ok(digits) => write_signed(formatter, negative, digits, stored_exponent),
                     Err(_) => unreachable!(),
                 }
             }

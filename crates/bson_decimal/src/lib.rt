@@ -20,8 +20,8 @@ mod parse;
 
 /// A decimal128, as the 16 bytes that BSON stores, the lowest byte first.
 ///
-/// Equality and hashing compare the bytes. So two bit patterns of one value, such as `1.5` and
-/// `1.50`, or of one meaning, such as two NaNs, are different.
+/// Equality and hashing compare the bytes. So two bit patterns of one value (`1.5` and
+/// `1.50`) or of one meaning (two NaNs) are different.
 ///
 /// ```
 /// let price: Decimal128 = "19.90".parse()?;
@@ -35,7 +35,7 @@ pub struct Decimal128 {
 impl Model for Decimal128 {
     ghost Value = { List ℕ };
 
-    ghost view = { λ d. d.bytes };
+    ghost view = { λ decimal. decimal.bytes };
 
     ghost inverse = { λ bytes. record { bytes = bytes } };
 }
@@ -51,16 +51,16 @@ impl Decimal128 {
     /// Returns the 16 bytes, the lowest first.
     pub fn bytes(&self) -> [u8; 16]
         ensures same { result ≡ self.now }
-        ensures ranged { IsDecimalBytes self.now }
+        ensures within_type_range { IsDecimalBytes self.now }
     {
-        as_pattern(self.bytes)
+        with_byte_bounds(self.bytes)
     }
 }
 
 // The same 16 bytes, with a contract that says that each is below 256.
-fn as_pattern(bytes: [u8; 16]) -> [u8; 16]
+fn with_byte_bounds(bytes: [u8; 16]) -> [u8; 16]
     ensures same { result ≡ bytes }
-    ensures ranged { IsDecimalBytes bytes }
+    ensures within_type_range { IsDecimalBytes bytes }
 {
     bytes
 }

@@ -6,10 +6,10 @@ ghost use Rattle.std.specs.List.{position_or_len};
 ghost use Rattle.std.specs.Str.Parse.{starts_with_minus, without_leading_sign};
 ghost use Rattle.bson_decimal.specs.DecimalBits.{canonical_decimal};
 ghost use Rattle.bson_decimal.specs.DecimalText.{decimal128_text};
-ghost use Rattle.bson_decimal.specs.DecimalStrings.{IsSpecialWord};
-ghost use Rattle.bson_decimal.specs.ParseSteps.{is_exponent_mark, is_decimal_point, is_utf8_continuation, cut_to_34_digits, raise_to_least};
-ghost use Rattle.bson_decimal.specs.ParseSteps.{zeros_to_add, shifted_least, shifted_i16_max, coefficient_and_exponent};
-ghost use Rattle.bson_decimal.specs.ParseSteps.{coefficient, shifted_written_exponent, scaled_exponent};
+ghost use Rattle.bson_decimal.specs.DecimalStrings.{IsNanOrInfinityWord};
+ghost use Rattle.bson_decimal.specs.ParseSteps.{is_exponent_mark, is_decimal_point, is_utf8_continuation, cut_to_34_digits, raise_to_min_exponent};
+ghost use Rattle.bson_decimal.specs.ParseSteps.{zeros_to_add, min_exponent_plus_32768, i16_max_plus_32768, coefficient_and_exponent};
+ghost use Rattle.bson_decimal.specs.ParseSteps.{coefficient, written_exponent_plus_32768, scaled_exponent};
 ghost use Rattle.bson_decimal.specs.ParseSteps.{exponent_value, finite};
 ghost use Rattle.bson_decimal.specs.ParseResult.{IsParseResult};
 
@@ -51,17 +51,18 @@ impl FromStr for Decimal128 {
 
         // Two laws: a printed decimal parses to the canonical bit pattern, and two bit patterns
         // print the same string if and only if their canonical bit patterns are equal.
-        ensures reads_displayed { (b : List ℕ) → text.now ≡ decimal128_text b
-            → IsOkAnd result (λ d. d ≡ canonical_decimal b) }
-        ensures prints_apart { (a b : List ℕ) → (decimal128_text a ≡ decimal128_text b)
-            ↔ (canonical_decimal a ≡ canonical_decimal b) }
+        ensures reads_displayed { (decimal_bytes : List ℕ) → text.now ≡ decimal128_text decimal_bytes
+            → IsOkAnd result (λ parsed_bytes. parsed_bytes ≡ canonical_decimal decimal_bytes) }
+        ensures prints_apart { (decimal_bytes other_bytes : List ℕ)
+            → (decimal128_text decimal_bytes ≡ decimal128_text other_bytes)
+            ↔ (canonical_decimal decimal_bytes ≡ canonical_decimal other_bytes) }
     {
         let negative = is_negative(text);
-        let rest = without_sign(text);
-        if let Some(number) = special_value(rest) {
-            return Ok(Decimal128::from_bytes((sign_bit(negative) + number).to_le_bytes()));
+        let unsigned_text = without_sign(text);
+        if let Some(special_bits) = nan_or_infinity_bits(unsigned_text) {
+            return Ok(Decimal128::from_bytes((sign_bit(negative) + special_bits).to_le_bytes()));
         }
-        let (coefficient, stored_exponent) = finite(rest)?;
+        let (coefficient, stored_exponent) = finite(unsigned_text)?;
         Ok(Decimal128::from_bytes(encoded_finite(
             negative,
             coefficient,
@@ -94,47 +95,48 @@ fn without_sign(text: &str) -> &str
 }
 
 // The bit pattern of a NaN or an infinity as a number, without its sign.
-fn special_value(rest: &str) -> Option<u128>
-    ensures word { MatchOption result ((n : ℕ) → ¬ (IsSpecialWord rest.now n)) (IsSpecialWord rest.now) }
-    ensures small { IfSome result (λ n. n < 2 ^ 127) }
+fn nan_or_infinity_bits(unsigned_text: &str) -> Option<u128>
+    ensures word { MatchOption result ((special_bits : ℕ) → ¬ (IsNanOrInfinityWord unsigned_text.now special_bits))
+        (IsNanOrInfinityWord unsigned_text.now) }
+    ensures small { IfSome result (λ special_bits. special_bits < 2 ^ 127) }
 {
-    if rest.eq_ignore_ascii_case("nan") {
+    if unsigned_text.eq_ignore_ascii_case("nan") {
         return Some(QUIET_NAN);
     }
-    if rest.eq_ignore_ascii_case("snan") {
+    if unsigned_text.eq_ignore_ascii_case("snan") {
         return Some(SIGNALLING_NAN);
     }
-    if rest.eq_ignore_ascii_case("infinity") {
+    if unsigned_text.eq_ignore_ascii_case("infinity") {
         return Some(INFINITY);
     }
-    if rest.eq_ignore_ascii_case("inf") {
+    if unsigned_text.eq_ignore_ascii_case("inf") {
         return Some(INFINITY);
     }
     None
 }
 
-// An exponent is kept by its place among those of 16 bits, so that it is never negative. These are
-// the places of 0, -6176, 6111 and 32767.
-const SHIFTED_ZERO: usize = 1 << 15;
+// An exponent is kept with 32768 added to it, so that it is never negative. These are the sums of
+// 0, -6176, 6111 and 32767.
+const ZERO_PLUS_32768: usize = 1 << 15;
 
-const SHIFTED_LEAST: usize = SHIFTED_ZERO - 6176;
+const MIN_EXPONENT_PLUS_32768: usize = ZERO_PLUS_32768 - 6176;
 
-const SHIFTED_GREATEST: usize = SHIFTED_ZERO + 6111;
+const MAX_EXPONENT_PLUS_32768: usize = ZERO_PLUS_32768 + 6111;
 
-const SHIFTED_I16_MAX: usize = SHIFTED_ZERO + 32767;
+const I16_MAX_PLUS_32768: usize = ZERO_PLUS_32768 + 32767;
 
 // The coefficient and the stored exponent of a finite decimal without its sign.
 #[tactic(auto, unfolding(crate::specs::ParseSteps::finite))]
-fn finite(rest: &str) -> Result<(u128, u16), ParseError>
-    ensures value { result ≡ finite rest.now }
+fn finite(unsigned_text: &str) -> Result<(u128, u16), ParseError>
+    ensures value { result ≡ finite unsigned_text.now }
 {
-    let exponent = written_exponent(rest)?;
-    let bytes = rest.as_bytes();
+    let exponent = written_exponent(unsigned_text)?;
+    let bytes = unsigned_text.as_bytes();
     let bytes = &bytes[..exponent_mark_at(bytes)];
-    let point = decimal_point_at(bytes);
-    let integer_digits = &bytes[..point];
-    let fraction = if point < bytes.len() {
-        &bytes[point + 1..]
+    let point_index = decimal_point_at(bytes);
+    let integer_digits = &bytes[..point_index];
+    let fraction = if point_index < bytes.len() {
+        &bytes[point_index + 1..]
     } else {
         &[]
     };
@@ -145,7 +147,7 @@ fn finite(rest: &str) -> Result<(u128, u16), ParseError>
 fn find_exponent_mark(text: &[u8]) -> Option<usize>
     ensures { result ≡ position is_exponent_mark text.now }
 {
-    text.iter().position(|b| *b == b'e' || *b == b'E')
+    text.iter().position(|byte| *byte == b'e' || *byte == b'E')
 }
 
 // The place of the first `e` or `E`, or the length.
@@ -160,7 +162,7 @@ fn exponent_mark_at(text: &[u8]) -> usize
 fn find_decimal_point(text: &[u8]) -> Option<usize>
     ensures { result ≡ position is_decimal_point text.now }
 {
-    text.iter().position(|b| *b == b'.')
+    text.iter().position(|byte| *byte == b'.')
 }
 
 // The place of the first point, or the length.
@@ -171,20 +173,20 @@ fn decimal_point_at(text: &[u8]) -> usize
     find_decimal_point(text).unwrap_or(text.len())
 }
 
-#[tactic(auto, unfolding(crate::specs::ParseSteps::shifted_written_exponent))]
-fn written_exponent(rest: &str) -> Result<usize, ParseError>
-    ensures value { result ≡ shifted_written_exponent rest.now }
-    ensures within { IfOk result (λ x. x ≤ shifted_i16_max) }
+#[tactic(auto, unfolding(crate::specs::ParseSteps::written_exponent_plus_32768))]
+fn written_exponent(unsigned_text: &str) -> Result<usize, ParseError>
+    ensures value { result ≡ written_exponent_plus_32768 unsigned_text.now }
+    ensures within { IfOk result (λ exponent. exponent ≤ i16_max_plus_32768) }
 {
-    let at = exponent_mark_at(rest.as_bytes());
-    if at == rest.len() {
-        return Ok(SHIFTED_ZERO);
+    let mark_index = exponent_mark_at(unsigned_text.as_bytes());
+    if mark_index == unsigned_text.len() {
+        return Ok(ZERO_PLUS_32768);
     }
-    let written = &rest[at + 1..];
-    if written.is_empty() {
+    let exponent_text = &unsigned_text[mark_index + 1..];
+    if exponent_text.is_empty() {
         return Err(ParseError::EmptyExponent);
     }
-    let Some(exponent) = exponent_value(written) else {
+    let Some(exponent) = exponent_value(exponent_text) else {
         return Err(ParseError::InvalidExponent);
     };
     Ok(exponent)
@@ -192,7 +194,7 @@ fn written_exponent(rest: &str) -> Result<usize, ParseError>
 
 fn exponent_value(text: &str) -> Option<usize>
     ensures value { result ≡ exponent_value text.now }
-    ensures within { IfSome result (λ x. x ≤ shifted_i16_max) }
+    ensures within { IfSome result (λ exponent. exponent ≤ i16_max_plus_32768) }
 {
     let Ok(exponent) = text.parse::<i16>() else {
         return None;
@@ -204,7 +206,7 @@ fn exponent_value(text: &str) -> Option<usize>
 #[tactic(auto, unfolding(crate::specs::ParseSteps::scaled_exponent))]
 fn scaled_exponent(exponent: usize, fraction: &[u8]) -> Result<usize, ParseError>
     ensures value { result ≡ scaled_exponent exponent fraction.now }
-    ensures less { IfOk result (λ x. x ≤ exponent) }
+    ensures less { IfOk result (λ scaled. scaled ≤ exponent) }
 {
     let len = fraction.len();
     if len > 32767 || exponent < len {
@@ -216,17 +218,17 @@ fn scaled_exponent(exponent: usize, fraction: &[u8]) -> Result<usize, ParseError
 // The coefficient and the stored exponent, from all digits and their exponent.
 #[tactic(auto, unfolding(crate::specs::ParseSteps::coefficient_and_exponent))]
 fn coefficient_and_exponent(digits: Digits, exponent: usize) -> Result<(u128, u16), ParseError>
-    requires { exponent ≤ shifted_i16_max }
+    requires { exponent ≤ i16_max_plus_32768 }
     ensures { result ≡ coefficient_and_exponent digits.entry exponent }
 {
     let has_digit = digits.len() > 0;
     let (digits, exponent) = cut_to_34_digits(digits.without_leading_zeros(), exponent)?;
-    let (digits, exponent) = raise_to_least(digits, exponent)?;
+    let (digits, exponent) = raise_to_min_exponent(digits, exponent)?;
     let zeros = zeros_to_add(&digits, exponent)?;
     let coefficient = coefficient(&digits, zeros, has_digit)?;
     Ok((
         coefficient,
-        (exponent.min(SHIFTED_GREATEST) - SHIFTED_LEAST) as u16,
+        (exponent.min(MAX_EXPONENT_PLUS_32768) - MIN_EXPONENT_PLUS_32768) as u16,
     ))
 }
 
@@ -240,9 +242,9 @@ fn is_utf8_continuation(byte: u8) -> bool
 // Keeps 34 bytes at most, and drops zeros only.
 #[tactic(auto, unfolding(crate::specs::ParseSteps::cut_to_34_digits))]
 fn cut_to_34_digits(digits: Digits, exponent: usize) -> Result<(Digits, usize), ParseError>
-    requires { exponent ≤ shifted_i16_max }
+    requires { exponent ≤ i16_max_plus_32768 }
     ensures value { result ≡ cut_to_34_digits digits.entry exponent }
-    ensures short { IfOk result (λ r. length r.0 ≤ 34) }
+    ensures short { IfOk result (λ digits_and_exponent. length digits_and_exponent.0 ≤ 34) }
 {
     let len = digits.len();
     if len <= 34 {
@@ -257,37 +259,37 @@ fn cut_to_34_digits(digits: Digits, exponent: usize) -> Result<(Digits, usize), 
     if len - 34 > 32767 {
         return Err(ParseError::Overflow);
     }
-    if exponent + (len - 34) > SHIFTED_I16_MAX {
+    if exponent + (len - 34) > I16_MAX_PLUS_32768 {
         return Err(ParseError::Overflow);
     }
     Ok((digits.first(34), exponent + (len - 34)))
 }
 
 // Raises an exponent below the least one by dropping zeros.
-#[tactic(auto, unfolding(crate::specs::ParseSteps::raise_to_least))]
-fn raise_to_least(digits: Digits, exponent: usize) -> Result<(Digits, usize), ParseError>
-    ensures value { result ≡ raise_to_least digits.entry exponent }
-    ensures shorter { IfOk result (λ r. length r.0 ≤ length digits.entry) }
-    ensures least { IfOk result (λ r. shifted_least ≤ r.1) }
+#[tactic(auto, unfolding(crate::specs::ParseSteps::raise_to_min_exponent))]
+fn raise_to_min_exponent(digits: Digits, exponent: usize) -> Result<(Digits, usize), ParseError>
+    ensures value { result ≡ raise_to_min_exponent digits.entry exponent }
+    ensures shorter { IfOk result (λ digits_and_exponent. length digits_and_exponent.0 ≤ length digits.entry) }
+    ensures least { IfOk result (λ digits_and_exponent. min_exponent_plus_32768 ≤ digits_and_exponent.1) }
 {
-    if exponent >= SHIFTED_LEAST {
+    if exponent >= MIN_EXPONENT_PLUS_32768 {
         return Ok((digits, exponent));
     }
     let len = digits.len();
     if len == 0 {
-        return Ok((digits, SHIFTED_LEAST));
+        return Ok((digits, MIN_EXPONENT_PLUS_32768));
     }
-    if SHIFTED_LEAST - exponent > len {
+    if MIN_EXPONENT_PLUS_32768 - exponent > len {
         return Err(ParseError::Underflow);
     }
-    let kept = len - (SHIFTED_LEAST - exponent);
-    if is_utf8_continuation(digits.byte(kept)) {
+    let kept_digit_count = len - (MIN_EXPONENT_PLUS_32768 - exponent);
+    if is_utf8_continuation(digits.byte(kept_digit_count)) {
         return Err(ParseError::Unparseable);
     }
-    if !digits.has_only_zeros_after(kept) {
+    if !digits.has_only_zeros_after(kept_digit_count) {
         return Err(ParseError::InexactRounding);
     }
-    Ok((digits.first(kept), SHIFTED_LEAST))
+    Ok((digits.first(kept_digit_count), MIN_EXPONENT_PLUS_32768))
 }
 
 // The number of zeros that lower an exponent above the greatest one. Zero itself needs none.
@@ -295,19 +297,19 @@ fn raise_to_least(digits: Digits, exponent: usize) -> Result<(Digits, usize), Pa
 fn zeros_to_add(digits: &Digits, exponent: usize) -> Result<usize, ParseError>
     requires { length digits.now ≤ 34 }
     ensures value { result ≡ zeros_to_add digits.now exponent }
-    ensures fits { IfOk result (λ z. length digits.now + z ≤ 34) }
+    ensures fits { IfOk result (λ zeros. length digits.now + zeros ≤ 34) }
 {
-    if exponent <= SHIFTED_GREATEST {
+    if exponent <= MAX_EXPONENT_PLUS_32768 {
         return Ok(0);
     }
     let len = digits.len();
     if len == 0 {
         return Ok(0);
     }
-    if exponent - SHIFTED_GREATEST > 34 - len {
+    if exponent - MAX_EXPONENT_PLUS_32768 > 34 - len {
         return Err(ParseError::Overflow);
     }
-    Ok(exponent - SHIFTED_GREATEST)
+    Ok(exponent - MAX_EXPONENT_PLUS_32768)
 }
 
 // The number that the digits denote, with this number of zeros after them.

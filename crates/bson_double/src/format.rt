@@ -45,7 +45,7 @@ fn push_positional(text: &mut ArrayString<32>, digits: &str, point_position: u64
 }
 
 // Writes the exponent: the power of ten of the first digit.
-fn push_power(text: &mut ArrayString<32>, point_position: u64)
+fn push_exponent(text: &mut ArrayString<32>, point_position: u64)
     requires room { array_string_len text.old ≤ 25 }
     requires point_position { (700 ≤ point_position) × (point_position ≤ 1600) }
     ensures { text.new.bytes ≡ text.old.bytes ++ double_exponent_text point_position }
@@ -73,7 +73,7 @@ fn push_scientific(text: &mut ArrayString<32>, digits: &str, point_position: u64
         text.push_str(".");
         text.push_str(&digits[1..]);
     }
-    push_power(text, point_position);
+    push_exponent(text, point_position);
 }
 
 fn push_digits(text: &mut ArrayString<32>, digits: &str, point_position: u64)
@@ -94,7 +94,8 @@ fn push_unsigned(text: &mut ArrayString<32>, bits: u64)
     requires room { array_string_len text.old ≤ 1 }
     requires positive { bits < 2 ^ 63 }
     requires finite { IsTrue (is_finite bits) }
-    ensures { (t : List ℕ) × IsUnsignedText bits t × (text.new.bytes ≡ text.old.bytes ++ t) }
+    ensures { (unsigned_text : List ℕ) × IsUnsignedText bits unsigned_text
+        × (text.new.bytes ≡ text.old.bytes ++ unsigned_text) }
 {
     if bits == 0 {
         text.push_str("0.0");
@@ -108,8 +109,8 @@ fn push_unsigned(text: &mut ArrayString<32>, bits: u64)
 
 /// Returns a finite double as a string: its sign, and its shortest decimal. This is the decimal with
 /// the fewest digits whose nearest double it is; if several have as few, the one nearest to it. The
-/// string has a point with a digit on each side, such as `12.5`, `1.0` and `0.001`. It has one digit
-/// before the point and an exponent, such as `1e16` and `5e-324`, if it would have more than 16
+/// string has a point with a digit on each side (`12.5`, `1.0`, `0.001`). It has one digit
+/// before the point and an exponent (`1e16`, `5e-324`), if it would have more than 16
 /// digits before the point, or more than 4 zeros between it and the first digit. It is a number of
 /// RFC 8259.
 ///

@@ -9,7 +9,8 @@ ghost use Rattle.bson_double.specs.DoubleText.{IsDoubleText};
 
 /// Proves that the bits of two equal finite doubles with the same sign are equal.
 pub fn patterns_are_values()
-    ensures { (bits other_bits : ℕ) → bits < 2 ^ 64 → other_bits < 2 ^ 64 → is_finite bits ≡ true → is_finite other_bits ≡ true
+    ensures { (bits other_bits : ℕ) → bits < 2 ^ 64 → other_bits < 2 ^ 64 → is_finite bits ≡ true
+        → is_finite other_bits ≡ true
         → from_bits binary64 bits ≡ from_bits binary64 other_bits → bits ≡ other_bits }
 {}
 
@@ -17,15 +18,18 @@ pub fn patterns_are_values()
 /// not the shortest one if a multiple of a higher power of ten is read as the double too: it has a
 /// digit too many.
 pub fn one_shortest_decimal()
-    ensures one { (bits digits power other_digits other_power : ℕ) → IsShortest bits digits power → IsShortest bits other_digits other_power → (digits ≡ other_digits) × (power ≡ other_power) }
+    ensures one { (bits digits power other_digits other_power : ℕ) → IsShortest bits digits power
+        → IsShortest bits other_digits other_power → (digits ≡ other_digits) × (power ≡ other_power) }
     ensures exists { (bits : ℕ) → 0 < bits → bits < 2 ^ 63 → is_finite bits ≡ true
         → (digits : ℕ) × (power : ℕ) × IsShortest bits digits power }
-    ensures few_digits { (bits digits power other_digits other_power : ℕ) → DecimalRoundsTo bits other_digits other_power → power < other_power → IsShortest bits digits power → ⊥ }
+    ensures few_digits { (bits digits power other_digits other_power : ℕ)
+        → DecimalRoundsTo bits other_digits other_power → power < other_power → IsShortest bits digits power → ⊥ }
 {}
 
 /// Proves that each finite double has one string, and no other, and that no two have the same.
 pub fn one_text()
-    ensures one { (bits : ℕ) (text other_text : List ℕ) → IsDoubleText bits text → IsDoubleText bits other_text → text ≡ other_text }
+    ensures one { (bits : ℕ) (text other_text : List ℕ) → IsDoubleText bits text → IsDoubleText bits other_text
+        → text ≡ other_text }
     ensures exists { (bits : ℕ) → is_finite bits ≡ true → (text : List ℕ) × IsDoubleText bits text }
     ensures apart { (bits other_bits : ℕ) (text : List ℕ) → bits < 2 ^ 64 → other_bits < 2 ^ 64 → is_finite bits ≡ true
         → is_finite other_bits ≡ true → IsDoubleText bits text → IsDoubleText other_bits text → bits ≡ other_bits }

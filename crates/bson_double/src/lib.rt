@@ -1,7 +1,7 @@
 //! Finite doubles as decimal strings. A double, given as its 64 bits (IEEE 754-2008 binary64), is
 //! written as its shortest decimal, and any decimal string is read as the nearest double. Each
 //! finite double has exactly one string, which is a JSON number (RFC 8259) with a point or an
-//! exponent, such as `12.5`, `1.0`, `1e16` and `-0.0`, and which is read as the same bits. No call
+//! exponent (`12.5`, `1.0`, `1e16`, `-0.0`), and which is read as the same bits. No call
 //! allocates memory.
 //!
 //! In reading order: `parse` reads a string, `format` writes one, `shortest` finds the digits,

@@ -16,7 +16,7 @@ use thiserror::Error;
 #[derive(Clone, Copy, Debug, PartialEq, Eq, Error)]
 pub enum DoubleError {
     /// The string is not a number. A number has at most one sign, digits with at most one point and
-    /// at least one digit, and perhaps `e` or `E` with an integer. Words, such as `Infinity`, and
+    /// at least one digit, and perhaps `e` or `E` with an integer. Words (`Infinity`) and
     /// spaces are not accepted.
     #[error("the text is no number")]
     NotANumber,
@@ -48,7 +48,7 @@ fn begins_with_i_or_n(unsigned: &[u8]) -> bool
         → (is_infinity_text unsigned.now ≡ false) × (is_nan_text unsigned.now ≡ false) }
 {
     match unsigned {
-        [first, ..] => matches!(first.to_ascii_lowercase(), b'i' | b'n'),
+        [first_byte, ..] => matches!(first_byte.to_ascii_lowercase(), b'i' | b'n'),
         [] => false,
     }
 }
@@ -68,8 +68,8 @@ fn begins_with_i_or_n(unsigned: &[u8]) -> bool
 /// ```
 pub fn double_of_text(text: &[u8]) -> Result<u64, DoubleError>
     ensures ok { MatchResult result
-        (λ p. parsed_finite_bits text.now ≡ Some p) (λ _. parsed_finite_bits text.now ≡ None) }
-    ensures error { IfErr result (λ e. e ≡ double_parse_error text.now) }
+        (λ parsed_bits. parsed_finite_bits text.now ≡ Some parsed_bits) (λ _. parsed_finite_bits text.now ≡ None) }
+    ensures error { IfErr result (λ double_error. double_error ≡ double_parse_error text.now) }
 {
     if begins_with_i_or_n(without_sign(text)) {
         return Err(DoubleError::NotANumber);

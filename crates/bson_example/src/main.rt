@@ -11,9 +11,10 @@ use bson::document::Refused;
 use bson::{Bson, Document};
 use std::alloc::Global;
 
-/// The document of one pair.
-fn counted(alloc: Global, key: String, count: i32) -> Result<Document, Refused>
-    ensures pair { IfOk result (λ document. contents document ≡ insert_pair (string_bytes key) (value.Int32 count) []) }
+/// Returns the document with one pair, the key and the count.
+fn document_with_count(alloc: Global, key: String, count: i32) -> Result<Document, Refused>
+    ensures has_pair { IfOk result
+        (λ document. contents document ≡ insert_pair (string_bytes key) (value.Int32 count) []) }
 {
     let mut document = Document::new(alloc);
     // A refused insertion hands the pair back and leaves the document as it was.
@@ -24,7 +25,7 @@ fn counted(alloc: Global, key: String, count: i32) -> Result<Document, Refused>
 fn main(rt: HostRuntime) -> anyhow::Result<()> {
     let alloc = rt.alloc();
     let key = String::from_str(alloc, "apples")?;
-    let document = counted(alloc, key, 5)?;
+    let document = document_with_count(alloc, key, 5)?;
     let text = Bson::Document(document).into_canonical_text(alloc)?;
     println!(rt; "{text}")?;
     Ok(())

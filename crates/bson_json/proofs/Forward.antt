@@ -84,11 +84,11 @@ record Closes (k : Token) (s r : List ℕ) : Type 0 where
 
 follows_values : {u : List ℕ} {js : Items} (s : List ℕ) → MoreValues u js → Follows s → Follows (u ++ s)
 follows_values s no_more_values f = f
-follows_values s (next_value {c = c} {t = t} {u = u} m h k) f = subst Follows (sym (three c t u s)) (follows-mark (t ++ (u ++ s)) refl refl refl m)
+follows_values s (next_value {comma_text = c} {value_text = t} {later_text = u} m h k) f = subst Follows (sym (three c t u s)) (follows-mark (t ++ (u ++ s)) refl refl refl m)
 
 follows_members : {u : List ℕ} {ms : Members} (s : List ℕ) → MoreMembers u ms → Follows s → Follows (u ++ s)
 follows_members s no_more_pairs f = f
-follows_members s (next_pair {c = c} {t = t} {u = u} m h k) f = subst Follows (sym (three c t u s)) (follows-mark (t ++ (u ++ s)) refl refl refl m)
+follows_members s (next_pair {comma_text = c} {member_text = t} {later_text = u} m h k) f = subst Follows (sym (three c t u s)) (follows-mark (t ++ (u ++ s)) refl refl refl m)
 
 mutual
   unfolding punctuate
@@ -97,43 +97,43 @@ mutual
   value_tokens false_name p may r f = ap (punctuate p) (lex-false r f.ended) ∙ at_boolean p _ false may
   value_tokens null_name p may r f = ap (punctuate p) (lex-null r f.ended) ∙ at_null p _ may
   value_tokens true_name p may r f = ap (punctuate p) (lex-true r f.ended) ∙ at_boolean p _ true may
-  value_tokens (a_number {t = t} h) p may r f = ap (punctuate p) (lex-number t r (is_read h) f.ended) ∙ at_number p _ t may
-  value_tokens (a_string {s = s} h) p may r f = ap (punctuate p) (lex-string r h) ∙ at_string p _ s may f.no_colon
-  value_tokens (an_array {a = a} {t = t} {b = b} m h n) p may r f =
+  value_tokens (a_number {number_text = t} h) p may r f = ap (punctuate p) (lex-number t r (is_read h) f.ended) ∙ at_number p _ t may
+  value_tokens (a_string {string_bytes = s} h) p may r f = ap (punctuate p) (lex-string r h) ∙ at_string p _ s may f.no_colon
+  value_tokens (an_array {begin_text = a} {values_text = t} {end_text = b} m h n) p may r f =
       ap (λ l. punctuate p (lex between l)) (three a t b r) ∙ ap (punctuate p) (lex-mark (t ++ (b ++ r)) refl m) ∙ at_array p _ may
       ∙ ap (λ l. Token.begin_array ∷ l) (values_tokens h (b ++ r) r (record { lexed = lex-mark r refl n; follows = follows-mark r refl refl refl n }))
-  value_tokens (an_object {a = a} {t = t} {b = b} m h n) p may r f =
+  value_tokens (an_object {begin_text = a} {members_text = t} {end_text = b} m h n) p may r f =
       ap (λ l. punctuate p (lex between l)) (three a t b r) ∙ ap (punctuate p) (lex-mark (t ++ (b ++ r)) refl m) ∙ at_object p _ may
       ∙ ap (λ l. Token.begin_object ∷ l) (pairs_tokens h (b ++ r) r (record { lexed = lex-mark r refl n; follows = follows-mark r refl refl refl n }))
 
   values_tokens : {t : List ℕ} {js : Items} → AreValues t js → (s r : List ℕ) → Closes Token.end_array s r → punctuate fresh (lex between (t ++ s)) ≡ items_tokens js ++ punctuate after_value (lex between r)
   values_tokens no_values s r c = ap (punctuate fresh) c.lexed
-  values_tokens (values {t = t} {u = u} {j = j} {js = js} h k) s r c =
+  values_tokens (values {value_text = t} {later_text = u} {json_value = j} {json_items = js} h k) s r c =
       ap (λ l. punctuate fresh (lex between l)) (append_assoc t u s) ∙ value_tokens h fresh refl (u ++ s) (follows_values s k c.follows)
       ∙ ap (λ l. json_tokens j ++ l) (more_values k s r c) ∙ sym (append_assoc (json_tokens j) (items_tokens js) _)
 
   more_values : {u : List ℕ} {js : Items} → MoreValues u js → (s r : List ℕ) → Closes Token.end_array s r → punctuate after_value (lex between (u ++ s)) ≡ items_tokens js ++ punctuate after_value (lex between r)
   more_values no_more_values s r c = ap (punctuate after_value) c.lexed
-  more_values (next_value {c = m} {t = t} {u = u} {j = j} {js = js} n h k) s r c =
+  more_values (next_value {comma_text = m} {value_text = t} {later_text = u} {json_value = j} {json_items = js} n h k) s r c =
       ap (λ l. punctuate after_value (lex between l)) (three m t u s) ∙ ap (punctuate after_value) (lex-mark (t ++ (u ++ s)) refl n)
       ∙ value_tokens h after_comma refl (u ++ s) (follows_values s k c.follows)
       ∙ ap (λ l. json_tokens j ++ l) (more_values k s r c) ∙ sym (append_assoc (json_tokens j) (items_tokens js) _)
 
   member_tokens : {t k : List ℕ} {j : Json} → IsMember t k j → (p : Place) → may_begin p ≡ true → (r : List ℕ) → Follows r → punctuate p (lex between (t ++ r)) ≡ Token.key k ∷ (json_tokens j ++ punctuate after_value (lex between r))
-  member_tokens (pair {n = n} {c = c} {t = t} {k = k} h m v) p may r f =
+  member_tokens (pair {name_text = n} {colon_text = c} {value_text = t} {member_key = k} h m v) p may r f =
       ap (λ l. punctuate p (lex between l)) (three n c t r)
       ∙ ap (punctuate p) (lex-string (c ++ (t ++ r)) h ∙ ap (λ l. token (Token.string k) ∷ l) (lex-mark (t ++ r) refl m)) ∙ at_key p _ k may
       ∙ ap (λ l. Token.key k ∷ l) (value_tokens v fresh refl r f)
 
   pairs_tokens : {t : List ℕ} {ms : Members} → AreMembers t ms → (s r : List ℕ) → Closes Token.end_object s r → punctuate fresh (lex between (t ++ s)) ≡ members_tokens ms ++ punctuate after_value (lex between r)
   pairs_tokens no_pairs s r c = ap (punctuate fresh) c.lexed
-  pairs_tokens (pairs {t = t} {u = u} {k = k} {j = j} {ms = ms} h m) s r c =
+  pairs_tokens (pairs {member_text = t} {later_text = u} {member_key = k} {json_value = j} {json_members = ms} h m) s r c =
       ap (λ l. punctuate fresh (lex between l)) (append_assoc t u s) ∙ member_tokens h fresh refl (u ++ s) (follows_members s m c.follows)
       ∙ ap (λ l. Token.key k ∷ l) (ap (λ l. json_tokens j ++ l) (more_pairs m s r c) ∙ sym (append_assoc (json_tokens j) (members_tokens ms) _))
 
   more_pairs : {u : List ℕ} {ms : Members} → MoreMembers u ms → (s r : List ℕ) → Closes Token.end_object s r → punctuate after_value (lex between (u ++ s)) ≡ members_tokens ms ++ punctuate after_value (lex between r)
   more_pairs no_more_pairs s r c = ap (punctuate after_value) c.lexed
-  more_pairs (next_pair {c = c} {t = t} {u = u} {k = k} {j = j} {ms = ms} n h m) s r q =
+  more_pairs (next_pair {comma_text = c} {member_text = t} {later_text = u} {member_key = k} {json_value = j} {json_members = ms} n h m) s r q =
       ap (λ l. punctuate after_value (lex between l)) (three c t u s) ∙ ap (punctuate after_value) (lex-mark (t ++ (u ++ s)) refl n)
       ∙ member_tokens h after_comma refl (u ++ s) (follows_members s m q.follows)
       ∙ ap (λ l. Token.key k ∷ l) (ap (λ l. json_tokens j ++ l) (more_pairs m s r q) ∙ sym (append_assoc (json_tokens j) (members_tokens ms) _))
@@ -143,6 +143,6 @@ unfolding punctuate lex
 ws_ends {w = w} h = ap (λ l. punctuate after_value (lex between l)) (sym (append-nil w)) ∙ ap (punctuate after_value) (lex-ws [] h)
 
 pub text_tokens : {t : List ℕ} {j : Json} → IsJson t j → tokens t ≡ json_tokens j
-text_tokens (text {a = a} {t = t} {b = b} {j = j} h v k) =
+text_tokens (text {ws_before = a} {value_text = t} {ws_after = b} {json_value = j} h v k) =
     ap (punctuate fresh) (lex-ws (t ++ b) h) ∙ value_tokens v fresh refl b (follows-ws k)
     ∙ ap (λ l. json_tokens j ++ l) (ws_ends k) ∙ append-nil (json_tokens j)

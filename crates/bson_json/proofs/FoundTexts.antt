@@ -7,7 +7,7 @@ use Rattle.json.specs.Word.{is_space}
 use Rattle.bson_json.specs.Grammar.{IsWs, no_ws, space, tab, line_feed, carriage_return}
 use Rattle.bson_json.specs.Grammar.{IsJson}
 use Rattle.bson_json.specs.Sequence.{IsTrimmed, AreTexts, no_texts, texts, no_more_texts, more_texts}
-use Rattle.bson_json.specs.Sequence.{Scan, outside, in_string, in_escape, scan, separates, prepend_to_part, split_or_prepend, parts, nonempty_parts, texts_in}
+use Rattle.bson_json.specs.Sequence.{ScanState, outside, in_string, in_escape, scan, separates, prepend_to_part, split_or_prepend_byte, parts, nonempty_parts, texts_in}
 use Rattle.bson_json.proofs.Scanned.{put_before, put_first, Passes}
 use Rattle.bson_json.proofs.Sequences.{cons_not_nil, text_full, ws-append, core_in, with_full, behind_space, nothing_in}
 
@@ -23,17 +23,17 @@ pub onto_full : (x : ℕ) (ps : List (List ℕ)) → prepend_to_part x ps ≡ []
 onto_full x [] e = not_nil e
 onto_full x (p ∷ ps) e = not_nil e
 
-pub part_full : (b : Bool) (x : ℕ) (next same : List (List ℕ)) → split_or_prepend b x next same ≡ [] → ⊥
+pub part_full : (b : Bool) (x : ℕ) (next same : List (List ℕ)) → split_or_prepend_byte b x next same ≡ [] → ⊥
 part_full true x next same e = not_nil e
 part_full false x next same e = onto_full x same e
 
-pub parts_full : (m : Scan) (xs : List ℕ) → parts m xs ≡ [] → ⊥
+pub parts_full : (m : ScanState) (xs : List ℕ) → parts m xs ≡ [] → ⊥
 unfolding parts
 parts_full m [] e = not_nil e
 parts_full m (x ∷ xs) e = part_full (separates m x) x (parts (outside zero) xs) (parts (scan m x) xs) e
 
 -- the first part, and what follows it
-pub record First (m : Scan) (xs : List ℕ) : Type 0 where
+pub record First (m : ScanState) (xs : List ℕ) : Type 0 where
   pub part : List ℕ
   pub more : List (List ℕ)
   pub is : parts m xs ≡ part ∷ more
@@ -41,25 +41,25 @@ pub record First (m : Scan) (xs : List ℕ) : Type 0 where
   pub rest : ((xs ≡ part) × (more ≡ []))
       ⊎ ((x : ℕ) × (r : List ℕ) × (xs ≡ part ++ x ∷ r) × (is_space x ≡ true) × (more ≡ parts (outside zero) r))
 
-pub is_separator : (m : Scan) (x : ℕ) → separates m x ≡ true → is_space x ≡ true
+pub is_separator : (m : ScanState) (x : ℕ) → separates m x ≡ true → is_space x ≡ true
 is_separator (outside zero) x e = e
 is_separator (outside (suc n)) x e = absurd (false≢true e)
 is_separator (in_string n) x e = absurd (false≢true e)
 is_separator (in_escape n) x e = absurd (false≢true e)
 
-pub at_separator : (m : Scan) (x : ℕ) (xs : List ℕ) → separates m x ≡ true → First m (x ∷ xs)
+pub at_separator : (m : ScanState) (x : ℕ) (xs : List ℕ) → separates m x ≡ true → First m (x ∷ xs)
 unfolding parts
 at_separator m x xs e = record {
   part = [];
   more = parts (outside zero) xs;
-  is = ap (λ b. split_or_prepend b x (parts (outside zero) xs) (parts (scan m x) xs)) e;
+  is = ap (λ b. split_or_prepend_byte b x (parts (outside zero) xs) (parts (scan m x) xs)) e;
   whole = refl;
   rest = inr (x, xs, refl, is_separator m x e, refl);
 }
 
-pub within_part : (m : Scan) (x : ℕ) (xs : List ℕ) → separates m x ≡ false → parts m (x ∷ xs) ≡ prepend_to_part x (parts (scan m x) xs)
+pub within_part : (m : ScanState) (x : ℕ) (xs : List ℕ) → separates m x ≡ false → parts m (x ∷ xs) ≡ prepend_to_part x (parts (scan m x) xs)
 unfolding parts
-within_part m x xs e = ap (λ b. split_or_prepend b x (parts (outside zero) xs) (parts (scan m x) xs)) e
+within_part m x xs e = ap (λ b. split_or_prepend_byte b x (parts (outside zero) xs) (parts (scan m x) xs)) e
 
 abbrev pub Rest : (xs part : List ℕ) → (more : List (List ℕ)) → Type 0
 Rest xs part more = ((xs ≡ part) × (more ≡ []))
@@ -69,7 +69,7 @@ pub longer_rest : (x : ℕ) {xs part : List ℕ} {more : List (List ℕ)} → Re
 longer_rest x (inl h) = inl (ap (λ l. x ∷ l) h.0, h.1)
 longer_rest x (inr h) = inr (h.0, h.1, ap (λ l. x ∷ l) h.2, h.3, h.4)
 
-pub longer : (m : Scan) (x : ℕ) (xs : List ℕ) → separates m x ≡ false → First (scan m x) xs → First m (x ∷ xs)
+pub longer : (m : ScanState) (x : ℕ) (xs : List ℕ) → separates m x ≡ false → First (scan m x) xs → First m (x ∷ xs)
 longer m x xs e f = record {
   part = x ∷ f.part;
   more = f.more;
@@ -82,7 +82,7 @@ pub bool_cases : (b : Bool) (P : Type 0) → (b ≡ true → P) → (b ≡ false
 bool_cases true P f g = f refl
 bool_cases false P f g = g refl
 
-pub first_of : (m : Scan) (xs : List ℕ) → First m xs
+pub first_of : (m : ScanState) (xs : List ℕ) → First m xs
 unfolding parts
 first_of m [] = record { part = []; more = []; is = refl; whole = refl; rest = inl (refl, refl) }
 first_of m (x ∷ xs) = bool_cases (separates m x) (First m (x ∷ xs)) (at_separator m x xs)
@@ -100,11 +100,11 @@ single_onto x (p ∷ ps) h full = (p, ap (λ qs. p ∷ qs) (tail_nil h.1))
 pub onto_single : (x : ℕ) (ps : List (List ℕ)) → IsSingle ps → IsSingle (prepend_to_part x ps)
 onto_single x ps h = (x ∷ h.0, ap (prepend_to_part x) h.1)
 
-pub not_single : (p : List ℕ) (m : Scan) (xs : List ℕ) → IsSingle (p ∷ parts m xs) → ⊥
+pub not_single : (p : List ℕ) (m : ScanState) (xs : List ℕ) → IsSingle (p ∷ parts m xs) → ⊥
 not_single p m xs h = parts_full m xs (tail_nil h.1)
 
 -- where white space at the end separates nothing, no more of it does
-pub goes_on : (m : Scan) {y : ℕ} → IsWs (y ∷ []) → IsSingle (parts m (y ∷ [])) → IsSingle (parts m (y ∷ 0x20 ∷ []))
+pub goes_on : (m : ScanState) {y : ℕ} → IsWs (y ∷ []) → IsSingle (parts m (y ∷ [])) → IsSingle (parts m (y ∷ 0x20 ∷ []))
 unfolding parts
 goes_on (outside zero) (space h) s = absurd (not_single [] (outside zero) [] s)
 goes_on (outside zero) (tab h) s = absurd (not_single [] (outside zero) [] s)
@@ -123,11 +123,11 @@ goes_on (in_escape n) (tab h) s = (_, refl)
 goes_on (in_escape n) (line_feed h) s = (_, refl)
 goes_on (in_escape n) (carriage_return h) s = (_, refl)
 
-pub separated : (m : Scan) (x : ℕ) (xs : List ℕ) → separates m x ≡ true → parts m (x ∷ xs) ≡ [] ∷ parts (outside zero) xs
+pub separated : (m : ScanState) (x : ℕ) (xs : List ℕ) → separates m x ≡ true → parts m (x ∷ xs) ≡ [] ∷ parts (outside zero) xs
 unfolding parts
-separated m x xs e = ap (λ b. split_or_prepend b x (parts (outside zero) xs) (parts (scan m x) xs)) e
+separated m x xs e = ap (λ b. split_or_prepend_byte b x (parts (outside zero) xs) (parts (scan m x) xs)) e
 
-pub more_space : (m : Scan) (r : List ℕ) {y : ℕ} → IsWs (y ∷ []) → IsSingle (parts m (r ++ y ∷ []))
+pub more_space : (m : ScanState) (r : List ℕ) {y : ℕ} → IsWs (y ∷ []) → IsSingle (parts m (r ++ y ∷ []))
     → IsSingle (parts m (r ++ y ∷ 0x20 ∷ []))
 more_space m [] h s = goes_on m h s
 more_space m (x ∷ r) {y = y} h s = bool_cases (separates m x) (IsSingle (parts m (x ∷ (r ++ y ∷ 0x20 ∷ []))))

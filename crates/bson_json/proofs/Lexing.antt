@@ -24,11 +24,11 @@ unfolding lex
 lex-operator c r e = ap (λ k. lex_byte between k c r (λ m. lex m r)) e
 
 pub lex-mark : {c : ℕ} {m : List ℕ} (r : List ℕ) → class c ≡ operator → IsStructural c m → lex between (m ++ r) ≡ operator_lexeme c ∷ lex between r
-lex-mark {c = c} r e (mark {a = a} {b = b} h k) =
+lex-mark {c = c} r e (mark {ws_before = a} {ws_after = b} h k) =
     ap (lex between) (append_assoc a (c ∷ b) r) ∙ lex-ws (c ∷ (b ++ r)) h ∙ lex-operator c (b ++ r) e ∙ ap (λ l. operator_lexeme c ∷ l) (lex-ws r k)
 
 pub ends-mark : {c : ℕ} {m : List ℕ} (r : List ℕ) → ends_word (c ∷ []) ≡ true → IsStructural c m → ends_word (m ++ r) ≡ true
-ends-mark {c = c} r e (mark {a = a} {b = b} h k) = ap ends_word (append_assoc a (c ∷ b) r) ∙ ends-ws (c ∷ (b ++ r)) h e
+ends-mark {c = c} r e (mark {ws_before = a} {ws_after = b} h k) = ap ends_word (append_assoc a (c ∷ b) r) ∙ ends-ws (c ∷ (b ++ r)) h e
 
 -- what may follow a value: the end, or white space and then a character that is no colon
 pub record Follows (r : List ℕ) : Type 0 where

@@ -26,7 +26,7 @@ none_here (x ∷ xs) h = ap (λ b. cond b (1 + prefix_len is_ascii_digit xs) 0) 
 
 counted : {t : List ℕ} (r : List ℕ) → NoDigit r → AreDigits t → prefix_len is_ascii_digit (t ++ r) ≡ length t
 counted r free no_digits = none_here r free
-counted r free (digit {t = t} h k) =
+counted r free (digit {later_digits = t} h k) =
     ap (λ b. cond b (1 + prefix_len is_ascii_digit (t ++ r)) 0) (is_digit h) ∙ omega (arith, counted r free k)
 
 drop-front : (t r : List ℕ) → drop (length t) (t ++ r) ≡ r
@@ -37,7 +37,7 @@ abbrev after_count : List ℕ → ℕ → Option (List ℕ)
 after_count t n = cond (n == 0) None (Some (drop n t))
 
 past_digits : {t : List ℕ} (r : List ℕ) → NoDigit r → IsDigits t → after_digits (t ++ r) ≡ Some r
-past_digits r free (digits {d = d} {t = t} h k) =
+past_digits r free (digits {digit_byte = d} {later_digits = t} h k) =
     ap (after_count (d ∷ (t ++ r))) (counted r free (digit h k))
     ∙ ap (λ b. cond b None (Some (drop (length t) (t ++ r)))) (ne_eqb (suc (length t)) 0 (λ e. omega arith)) ∙ ap Some (drop-front t r)
 
@@ -45,7 +45,7 @@ last_digits : {t : List ℕ} → IsDigits t → after_digits t ≡ Some []
 last_digits {t = t} h = ap after_digits (sym (append-nil t)) ∙ past_digits [] refl h
 
 past_sign : {s t : List ℕ} → IsSign s → IsDigits t → after_sign (s ++ t) ≡ t
-past_sign no_sign (digits {d = d} {t = t} h k) =
+past_sign no_sign (digits {digit_byte = d} {later_digits = t} h k) =
     ap (λ b. cond b t (d ∷ t)) (or_from _ _ (ne_eqb d 45 (λ e. omega (arith, h.0))) (ne_eqb d 43 (λ e. omega (arith, h.0))))
 past_sign minus_sign h = refl
 past_sign plus_sign h = refl
@@ -72,17 +72,17 @@ frac_no_digit (frac h) k = refl
 
 past_int : {i : List ℕ} (r : List ℕ) → NoDigit r → IsInt i → after_whole (i ++ r) ≡ Some r
 past_int r free zero_alone = refl
-past_int r free (from_one {d = d} {t = t} h ne k) =
+past_int r free (from_one {digit_byte = d} {later_digits = t} h ne k) =
     ap (λ b. cond b (Some (t ++ r)) (after_digits (d ∷ (t ++ r)))) (ne_eqb d 48 ne) ∙ past_digits r free (digits h k)
 
 past_minus : {m i : List ℕ} (r : List ℕ) → IsMinus m → IsInt i → after_minus (m ++ (i ++ r)) ≡ i ++ r
 past_minus r no_minus zero_alone = refl
-past_minus r no_minus (from_one {d = d} {t = t} h ne k) = ap (λ b. cond b (t ++ r) (d ∷ (t ++ r))) (ne_eqb d 45 (λ e. omega (arith, h.0)))
+past_minus r no_minus (from_one {digit_byte = d} {later_digits = t} h ne k) = ap (λ b. cond b (t ++ r) (d ∷ (t ++ r))) (ne_eqb d 45 (λ e. omega (arith, h.0)))
 past_minus r minus h = refl
 
 pub is_read : {t : List ℕ} → IsNumber t → IsRead t
 unfolding after_number
-is_read (number {i = i} {f = f} {e = e} m h k l) =
+is_read (number {int_text = i} {frac_text = f} {exp_text = e} m h k l) =
     ap (λ t. option_and_then after_exponent (option_and_then after_fraction (after_whole t))) (past_minus (f ++ e) m h)
     ∙ ap (λ o. option_and_then after_exponent (option_and_then after_fraction o)) (past_int (f ++ e) (frac_no_digit k l) h)
     ∙ ap (option_and_then after_exponent) (past_frac k l) ∙ last_exp l

@@ -11,9 +11,9 @@ use Rattle.bson_json.specs.Grammar.{IsChar, unescaped, quotation_mark, reverse_s
 use Rattle.bson_json.specs.Grammar.{AreChars, no_chars, char, IsString, string}
 use Rattle.bson_json.specs.Grammar.{IsJsonValue, false_name, null_name, true_name, an_object, an_array, a_number, a_string, AreValues, no_values, values, MoreValues, no_more_values, next_value}
 use Rattle.bson_json.specs.Grammar.{AreMembers, no_pairs, pairs, MoreMembers, no_more_pairs, next_pair, IsMember, pair}
-use Rattle.bson_json.specs.Sequence.{Scan, outside, in_string, in_escape, is_opener, is_closer, scan, separates, prepend_to_part, split_or_prepend, parts}
+use Rattle.bson_json.specs.Sequence.{ScanState, outside, in_string, in_escape, is_opener, is_closer, scan, separates, prepend_to_part, split_or_prepend_byte, parts}
 
--- ---- bytes that lie within a part
+-- ---- bytes that are within a part
 
 pub put_before : List ℕ → List (List ℕ) → List (List ℕ)
 put_before [] ps = ps
@@ -38,25 +38,25 @@ unfolding put_before
 put_none ps = refl
 
 -- from one state the bytes lead to another, and no separator is among them
-pub record Passes (m : Scan) (t : List ℕ) (n : Scan) : Type 0 where
+pub record Passes (m : ScanState) (t : List ℕ) (n : ScanState) : Type 0 where
   pub passed : (u : List ℕ) → parts m (t ++ u) ≡ put_before t (parts n u)
 
-pub none : (m : Scan) → Passes m [] m
+pub none : (m : ScanState) → Passes m [] m
 unfolding put_before
 none m = record { passed = λ u. refl }
 
-pub then : {m n k : Scan} {s t : List ℕ} → Passes m s n → Passes n t k → Passes m (s ++ t) k
+pub then : {m n k : ScanState} {s t : List ℕ} → Passes m s n → Passes n t k → Passes m (s ++ t) k
 then {m = m} {k = k} {s = s} {t = t} p q = record {
   passed = λ u. ap (parts m) (append_assoc s t u) ∙ p.passed (t ++ u) ∙ ap (put_before s) (q.passed u)
       ∙ sym (put_twice s t (parts k u));
 }
 
-pub one : (m : Scan) (x : ℕ) → separates m x ≡ false → Passes m (x ∷ []) (scan m x)
+pub one : (m : ScanState) (x : ℕ) → separates m x ≡ false → Passes m (x ∷ []) (scan m x)
 unfolding parts put_before
-one m x e = record { passed = λ u. ap (λ b. split_or_prepend b x (parts (outside zero) u) (parts (scan m x) u)) e }
+one m x e = record { passed = λ u. ap (λ b. split_or_prepend_byte b x (parts (outside zero) u) (parts (scan m x) u)) e }
 
 -- the next state is this one
-pub byte : {m : Scan} {x : ℕ} (n : Scan) → separates m x ≡ false → scan m x ≡ n → Passes m (x ∷ []) n
+pub byte : {m : ScanState} {x : ℕ} (n : ScanState) → separates m x ≡ false → scan m x ≡ n → Passes m (x ∷ []) n
 byte {m = m} {x = x} n e s = subst (Passes m (x ∷ [])) s (one m x e)
 
 -- ---- bytes that are neither white space nor brackets nor quotation marks

@@ -9,7 +9,7 @@ use Rattle.bson_json.specs.Grammar.{string}
 use Rattle.bson_json.specs.Grammar.{IsJsonValue, false_name, null_name, true_name, an_object, an_array, a_number, a_string}
 use Rattle.bson_json.specs.Grammar.{IsJson, text}
 use Rattle.bson_json.specs.Sequence.{IsTrimmed, AreTexts, no_texts, texts, MoreTexts, no_more_texts, more_texts}
-use Rattle.bson_json.specs.Sequence.{outside, is_opener, is_closer, scan, split_or_prepend, parts, nonempty_parts, texts_in}
+use Rattle.bson_json.specs.Sequence.{outside, is_opener, is_closer, scan, split_or_prepend_byte, parts, nonempty_parts, texts_in}
 use Rattle.bson_json.proofs.Forward.{three}
 use Rattle.bson_json.proofs.Scanned.{put_before, put_first, Passes, then, pass_number, pass_false, pass_true, pass_null, pass_string}
 use Rattle.bson_json.proofs.Scanned.{pass_ws, open_byte, close_byte, pass_values, pass_members}
@@ -37,7 +37,7 @@ alone {t = t} p = record { front = []; core = t; back = []; split = sym (append-
 pub bracketed : {o c : ℕ} {a b : List ℕ} (t : List ℕ) → is_space o ≡ false → (o == 0x22) ≡ false → is_opener o ≡ true → (c == 0x22) ≡ false
     → is_opener c ≡ false → is_closer c ≡ true → IsStructural o a → Passes (outside (suc zero)) t (outside (suc zero)) → IsStructural c b
     → Core (a ++ (t ++ b))
-bracketed {o = o} {c = c} t so qo oo qc oc sc (mark {a = a} {b = b} wa wb) p (mark {a = d} {b = e} wd we) = record {
+bracketed {o = o} {c = c} t so qo oo qc oc sc (mark {ws_before = a} {ws_after = b} wa wb) p (mark {ws_before = d} {ws_after = e} wd we) = record {
   front = a;
   core = (o ∷ b) ++ (t ++ (d ++ c ∷ []));
   back = e;
@@ -68,7 +68,7 @@ pub cons_not_nil : (x : ℕ) (xs : List ℕ) → x ∷ xs ≡ [] → ⊥
 cons_not_nil x xs e = cc
 
 pub not_marked : {c : ℕ} {t : List ℕ} → IsStructural c t → t ≡ [] → ⊥
-not_marked (mark {a = a} {b = b} h k) e = cons_not_nil _ b (nil_right a _ e)
+not_marked (mark {ws_before = a} {ws_after = b} h k) e = cons_not_nil _ b (nil_right a _ e)
 
 pub int_full : {t : List ℕ} → IsInt t → t ≡ [] → ⊥
 int_full zero_alone e = cons_not_nil _ _ e
@@ -78,13 +78,13 @@ pub value_full : {t : List ℕ} {j : Json} → IsJsonValue t j → t ≡ [] → 
 value_full false_name e = cons_not_nil _ _ e
 value_full null_name e = cons_not_nil _ _ e
 value_full true_name e = cons_not_nil _ _ e
-value_full (an_object {a = a} h m b) e = not_marked h (nil_left a _ e)
-value_full (an_array {a = a} h m b) e = not_marked h (nil_left a _ e)
-value_full (a_number (number {m = m} {i = i} h k f x)) e = int_full k (nil_left i _ (nil_right m _ e))
+value_full (an_object {begin_text = a} h m b) e = not_marked h (nil_left a _ e)
+value_full (an_array {begin_text = a} h m b) e = not_marked h (nil_left a _ e)
+value_full (a_number (number {minus_text = m} {int_text = i} h k f x)) e = int_full k (nil_left i _ (nil_right m _ e))
 value_full (a_string (string h)) e = cons_not_nil _ _ e
 
 pub text_full : {t : List ℕ} {j : Json} → IsJson t j → t ≡ [] → ⊥
-text_full (text {a = a} {t = t} h v k) e = value_full v (nil_left t _ (nil_right a _ e))
+text_full (text {ws_before = a} {value_text = t} h v k) e = value_full v (nil_left t _ (nil_right a _ e))
 
 pub ws-append : {s t : List ℕ} → IsWs s → IsWs t → IsWs (s ++ t)
 ws-append no_ws k = k
@@ -95,7 +95,7 @@ ws-append (carriage_return h) k = carriage_return (ws-append h k)
 
 -- the same of a text
 pub core_in : {t : List ℕ} {j : Json} → IsJson t j → Core t
-core_in (text {a = a} {t = t} {b = b} h v k) =
+core_in (text {ws_before = a} {value_text = t} {ws_after = b} h v k) =
     let c = core_of v in
     record {
       front = a ++ c.front;
@@ -131,7 +131,7 @@ one_space (carriage_return h) = refl
 
 pub behind_space : (x : ℕ) (u : List ℕ) → is_space x ≡ true → parts (outside zero) (x ∷ u) ≡ [] ∷ parts (outside zero) u
 unfolding parts
-behind_space x u e = ap (λ b. split_or_prepend b x (parts (outside zero) u) (parts (scan (outside zero) x) u)) e
+behind_space x u e = ap (λ b. split_or_prepend_byte b x (parts (outside zero) u) (parts (scan (outside zero) x) u)) e
 
 pub skip_one : (x : ℕ) (u : List ℕ) → is_space x ≡ true → texts_in (x ∷ u) ≡ texts_in u
 unfolding nonempty_parts
@@ -161,12 +161,12 @@ at_space t x u full e =
 
 mutual
   pub texts_found : {content : List ℕ} {ts : List (List ℕ)} → AreTexts content ts → texts_in content ≡ ts
-  texts_found (no_texts {a = a} h) = ap texts_in (sym (append-nil a)) ∙ skip_ws [] h ∙ nothing_in
-  texts_found (texts {a = a} {t = t} {u = u} h j bare m) =
+  texts_found (no_texts {ws = a} h) = ap texts_in (sym (append-nil a)) ∙ skip_ws [] h ∙ nothing_in
+  texts_found (texts {ws_before = a} {first_text = t} {later_content = u} h j bare m) =
       skip_ws (t ++ u) h ∙ ap nonempty_parts ((bare_passes j bare).passed u) ∙ more_found t (text_full j) m
 
   pub more_found : {u : List ℕ} {ts : List (List ℕ)} (t : List ℕ) → (t ≡ [] → ⊥) → MoreTexts u ts
       → nonempty_parts (put_before t (parts (outside zero) u)) ≡ t ∷ ts
   more_found t full no_more_texts = at_end t full
-  more_found t full (more_texts {x = x} {u = u} h k) =
+  more_found t full (more_texts {ws_byte = x} {later_content = u} h k) =
       at_space t x u full (one_space h) ∙ ap (λ ts. t ∷ ts) (texts_found k)

@@ -1,6 +1,6 @@
 -- The first text, a byte at a time.
 use Rattle.std.proofs.Common.{◌≡◌, ℕ, zero, suc, ◌+◌, ◌<◌, ◌≤◌, true, false, List, [], ◌∷◌, ◌++◌, length, drop, take, get_or, refl, sym, ap, ◌∙◌, append-nil, ◌-◌, add-one, arith}
-use Rattle.bson_json.specs.Sequence.{Scan, outside, scan, separates, parts, nonempty_parts, texts_in, prepend_part}
+use Rattle.bson_json.specs.Sequence.{ScanState, outside, scan, separates, parts, nonempty_parts, texts_in, prepend_part}
 use Rattle.bson_json.proofs.Scanned.{put_before, put_twice, put_one, put_first, put_none}
 use Rattle.bson_json.proofs.Sequences.{nothing_in}
 use Rattle.bson_json.proofs.FoundTexts.{within_part, separated, filled_nil}
@@ -21,10 +21,10 @@ pub split_start : (xs : List ℕ) → parts (outside zero) xs ≡ put_before [] 
 split_start xs = sym (put_none (parts (outside zero) xs))
 
 -- what is skipped, and the state after it
-abbrev pub IsSplit : (xs : List ℕ) → (at : ℕ) → Scan → Type 0
+abbrev pub IsSplit : (xs : List ℕ) → (at : ℕ) → ScanState → Type 0
 IsSplit xs at m = parts (outside zero) xs ≡ put_before (take at xs) (parts m (drop at xs))
 
-pub split_on : (xs : List ℕ) (at : ℕ) (m : Scan) → at < length xs → separates m (get_or xs at 0) ≡ false → IsSplit xs at m
+pub split_on : (xs : List ℕ) (at : ℕ) (m : ScanState) → at < length xs → separates m (get_or xs at 0) ≡ false → IsSplit xs at m
     → IsSplit xs (suc at) (scan m (get_or xs at 0))
 split_on xs at m inside e h =
     let x = get_or xs at 0 in
@@ -39,7 +39,7 @@ unfolding nonempty_parts
 filled_with t ps = refl
 
 -- at a separator
-pub split_at_space : (xs : List ℕ) (at : ℕ) (m : Scan) → at < length xs → separates m (get_or xs at 0) ≡ true → IsSplit xs at m
+pub split_at_space : (xs : List ℕ) (at : ℕ) (m : ScanState) → at < length xs → separates m (get_or xs at 0) ≡ true → IsSplit xs at m
     → texts_in xs ≡ prepend_part (take at xs) (texts_in (drop (suc at) xs))
 split_at_space xs at m inside e h =
     let x = get_or xs at 0 in
@@ -50,7 +50,7 @@ split_at_space xs at m inside e h =
     ∙ ap (λ z. z ∷ parts (outside zero) rest) (append-nil (take at xs)))
     ∙ filled_with (take at xs) (parts (outside zero) rest)
 
-pub parts_end : (m : Scan) → parts m [] ≡ [] ∷ []
+pub parts_end : (m : ScanState) → parts m [] ≡ [] ∷ []
 unfolding parts
 parts_end m = refl
 
@@ -73,7 +73,7 @@ drop-all zero (x ∷ xs) h = absurd (omega arith)
 drop-all (suc n) (x ∷ xs) h = drop-all n xs (omega arith)
 
 -- at the end
-pub split_at_end : (xs : List ℕ) (at : ℕ) (m : Scan) → length xs ≤ at → IsSplit xs at m
+pub split_at_end : (xs : List ℕ) (at : ℕ) (m : ScanState) → length xs ≤ at → IsSplit xs at m
     → texts_in xs ≡ prepend_part xs (texts_in [])
 split_at_end xs at m all h =
     ap nonempty_parts (h ∙ ap (λ z. put_before z (parts m (drop at xs))) (take-all at xs all)
@@ -94,7 +94,7 @@ split_there [] at inside = absurd (omega arith)
 split_there (x ∷ xs) zero inside = refl
 split_there (x ∷ xs) (suc at) inside = ap (λ z. x ∷ z) (split_there xs at (omega arith))
 
-pub found_at_space : (xs : List ℕ) (at : ℕ) (m : Scan) → at < length xs → separates m (get_or xs at 0) ≡ true → IsSplit xs at m
+pub found_at_space : (xs : List ℕ) (at : ℕ) (m : ScanState) → at < length xs → separates m (get_or xs at 0) ≡ true → IsSplit xs at m
     → texts_in xs ≡ prepend_part (take at xs) (texts_in (take (length xs - (at + 1)) (drop (at + 1) xs)))
 found_at_space xs at m inside e h =
     split_at_space xs at m inside e h ∙ ap (λ z. prepend_part (take at xs) (texts_in z)) (sym (tail_of xs at))

@@ -47,9 +47,9 @@ unescaped_stays x r q b =
     cond_both (is_operator x) operator _ (Stays x r) (λ g. refl) (λ g. cond_both (is_space x) space other (Stays x r) (λ h. refl) (λ h. refl))))
 
 hex_stays : {x n : ℕ} (r : List ℕ) → IsHex x n → lex in_string (x ∷ r) ≡ lex in_string r
-hex_stays r (hex_digit {n = n} h) = unescaped_stays (48 + n) r (λ e. omega arith) (λ e. omega arith)
-hex_stays r (hex_upper {n = n} h) = unescaped_stays (65 + n) r (λ e. omega arith) (λ e. omega arith)
-hex_stays r (hex_lower {n = n} h) = unescaped_stays (97 + n) r (λ e. omega arith) (λ e. omega arith)
+hex_stays r (hex_digit {digit_value = n} h) = unescaped_stays (48 + n) r (λ e. omega arith) (λ e. omega arith)
+hex_stays r (hex_upper {digit_value = n} h) = unescaped_stays (65 + n) r (λ e. omega arith) (λ e. omega arith)
+hex_stays r (hex_lower {digit_value = n} h) = unescaped_stays (97 + n) r (λ e. omega arith) (λ e. omega arith)
 
 code_stays : {t : List ℕ} {u : ℕ} (r : List ℕ) → IsCode t u → lex in_string (t ++ r) ≡ lex in_string r
 code_stays r (code h i j k) = hex_stays _ h ∙ hex_stays _ i ∙ hex_stays _ j ∙ hex_stays r k
@@ -93,7 +93,7 @@ content-low u r (code h i j k) =
 
 passes : {t s : List ℕ} → IsChar t s → Passes t s
 unfolding content lex short_escape
-passes (unescaped {x = x} (l, q, b)) = record { read = λ r. rw (ne_eqb x 34 q, ne_eqb x 92 b, le-ltb x 32 l) refl; lexed = λ r. unescaped_stays x r q b }
+passes (unescaped {byte = x} (l, q, b)) = record { read = λ r. rw (ne_eqb x 34 q, ne_eqb x 92 b, le-ltb x 32 l) refl; lexed = λ r. unescaped_stays x r q b }
 passes quotation_mark = record { read = λ r. refl; lexed = λ r. refl }
 passes reverse_solidus = record { read = λ r. refl; lexed = λ r. refl }
 passes solidus = record { read = λ r. refl; lexed = λ r. refl }
@@ -102,12 +102,12 @@ passes escaped_f = record { read = λ r. refl; lexed = λ r. refl }
 passes escaped_n = record { read = λ r. refl; lexed = λ r. refl }
 passes escaped_r = record { read = λ r. refl; lexed = λ r. refl }
 passes escaped_t = record { read = λ r. refl; lexed = λ r. refl }
-passes (escaped_u {h = t} {u = u} h high low) = record {
+passes (escaped_u {hex_digits = t} {code_unit = u} h high low) = record {
   read = λ r. content-escape_u t r ∙ content-code r h
       ∙ (λ i. cond (not_high u high i) (content (after_high u) r) (cond (not_low u low i) None (prepend (encode_utf8 u) (content plain r))));
   lexed = λ r. lex-escape_u (t ++ r) ∙ code_stays r h;
 }
-passes (surrogates {h = t} {l = l} {u = u} {v = v} h high k low) = record {
+passes (surrogates {high_hex = t} {low_hex = l} {high_unit = u} {low_unit = v} h high k low) = record {
   read = λ r.
       let next = 0x5C ∷ 0x75 ∷ (l ++ r) in
       ap (λ z. content plain (0x5C ∷ 0x75 ∷ z)) (append_assoc t (0x5C ∷ 0x75 ∷ l) r) ∙ content-escape_u t next ∙ content-code next h
@@ -122,15 +122,15 @@ passes (surrogates {h = t} {l = l} {u = u} {v = v} h high k low) = record {
 pub content-chars : {t s : List ℕ} (r : List ℕ) → AreChars t s → content plain (t ++ 0x22 ∷ r) ≡ Some s
 unfolding content
 content-chars r no_chars = refl
-content-chars r (char {c = c} {t = t} {s = s} h k) =
+content-chars r (char {char_text = c} {later_text = t} {char_bytes = s} h k) =
     ap (content plain) (append_assoc c t (0x22 ∷ r)) ∙ (passes h).read (t ++ 0x22 ∷ r) ∙ ap (prepend s) (content-chars r k)
 
 lex-chars : {t s : List ℕ} (r : List ℕ) → AreChars t s → lex in_string (t ++ 0x22 ∷ r) ≡ lex between r
 unfolding lex
 lex-chars r no_chars = refl
-lex-chars r (char {c = c} {t = t} h k) = ap (lex in_string) (append_assoc c t (0x22 ∷ r)) ∙ (passes h).lexed (t ++ 0x22 ∷ r) ∙ lex-chars r k
+lex-chars r (char {char_text = c} {later_text = t} h k) = ap (lex in_string) (append_assoc c t (0x22 ∷ r)) ∙ (passes h).lexed (t ++ 0x22 ∷ r) ∙ lex-chars r k
 
 pub lex-string : {t s : List ℕ} (r : List ℕ) → IsString t s → lex between (t ++ r) ≡ token (Token.string s) ∷ lex between r
 unfolding lex
-lex-string r (string {t = t} h) =
+lex-string r (string {chars_text = t} h) =
     ap (λ l. lex between (0x22 ∷ l)) (append_assoc t (0x22 ∷ []) r) ∙ ap₂ (λ o l. token (string_token o) ∷ l) (content-chars r h) (lex-chars r h)

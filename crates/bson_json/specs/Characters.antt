@@ -4,5 +4,5 @@ use Rattle.std.specs.Prelude.{◌⊎◌, ◌≤◌, ℕ}
 use Rattle.std.specs.Char.{IsScalar}
 
 -- unescaped = %x20-21 / %x23-5B / %x5D-10FFFF, except the surrogates, which UTF-8 excludes
-abbrev pub IsUnescapedCharacter : ℕ → Type 0
-IsUnescapedCharacter c = IsScalar c × (((0x20 ≤ c) × (c ≤ 0x21)) ⊎ (((0x23 ≤ c) × (c ≤ 0x5B)) ⊎ (0x5D ≤ c)))
+abbrev pub IsUnescapedCharacter : (code_point : ℕ) → Type 0
+IsUnescapedCharacter code_point = IsScalar code_point × (((0x20 ≤ code_point) × (code_point ≤ 0x21)) ⊎ (((0x23 ≤ code_point) × (code_point ≤ 0x5B)) ⊎ (0x5D ≤ code_point)))

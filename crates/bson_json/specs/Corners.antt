@@ -5,14 +5,17 @@ use Rattle.json.specs.Json.{Json, null, number, string, array, object, no_items,
 use Rattle.bson_json.specs.Grammar.{IsJson, IsJsonText}
 
 -- a number of one digit, as it is written
-abbrev pub one : Json
-one = number (codes "1")
+abbrev pub number_one : Json
+number_one = number (codes "1")
 
 pub record AcceptedCorners : Type 0 where
-  pub nested_arrays : IsJson (codes "[[],[[]]]") (array (item (array no_items) (item (array (item (array no_items) no_items)) no_items)))
-  pub empty_key : IsJson (codes "{\"\":1}") (object (member [] one no_members))
-  pub duplicate_key : IsJson (codes "{\"a\":1,\"a\":null}") (object (member (codes "a") one (member (codes "a") null no_members)))
-  pub white_space : IsJson (0x09 ∷ 0x0A ∷ codes " [ 1 , 1 ] " ++ 0x0D ∷ 0x0A ∷ []) (array (item one (item one no_items)))
+  pub nested_arrays : IsJson (codes "[[],[[]]]")
+      (array (item (array no_items) (item (array (item (array no_items) no_items)) no_items)))
+  pub empty_key : IsJson (codes "{\"\":1}") (object (member [] number_one no_members))
+  pub duplicate_key : IsJson (codes "{\"a\":1,\"a\":null}")
+      (object (member (codes "a") number_one (member (codes "a") null no_members)))
+  pub white_space : IsJson (0x09 ∷ 0x0A ∷ codes " [ 1 , 1 ] " ++ 0x0D ∷ 0x0A ∷ [])
+      (array (item number_one (item number_one no_items)))
   pub scalar_alone : IsJson (codes "null") null
   -- numbers
   pub negative_zero : IsJson (codes "-0") (number (codes "-0"))

@@ -23,19 +23,22 @@ ghost use Rattle.bson_json.specs.Grammar.{AreChars, IsJson, IsJsonOf, IsNumber, 
 /// that value, and it nests at most 127 deep. The same holds for every other bound. Each text has
 /// at most one value.
 pub fn reading_is_the_grammar()
-    ensures tree { (text : List ℕ) (j : Json)
-        → (json_of text ≡ Some j) ↔ (IsJson text j × (depth j ≤ max_depth)) }
-    ensures bounded { (limit : ℕ) (text : List ℕ) (j : Json)
-        → (value limit (tokens text) ≡ Some (j, [])) ↔ (IsJson text j × (depth j ≤ limit)) }
-    ensures one { (text : List ℕ) (j k : Json) → IsJson text j → IsJson text k → j ≡ k }
+    ensures value_is_read { (text : List ℕ) (json_value : Json)
+        → (json_of text ≡ Some json_value) ↔ (IsJson text json_value × (depth json_value ≤ max_depth)) }
+    ensures value_within_depth { (limit : ℕ) (text : List ℕ) (json_value : Json)
+        → (value limit (tokens text) ≡ Some (json_value, [])) ↔ (IsJson text json_value × (depth json_value ≤ limit)) }
+    ensures one_value { (text : List ℕ) (json_value other_value : Json) → IsJson text json_value
+        → IsJson text other_value
+        → json_value ≡ other_value }
 {}
 
 /// Proves that `serde_json` reads a tree of a text if and only if the grammar gives the text a
 /// value with that tree. A text means the values that this tree means.
 pub fn texts_mean_by_the_grammar()
-    ensures read { (text : List ℕ) (t : Data) → (read text ≡ Some t) ↔ IsJsonOf text t }
-    ensures means { (doubles : Doubles) (text : List ℕ) (v : Value)
-        → MeansByDefault doubles text v ↔ ((t : Data) × IsJsonOf text t × HasMeaningIn doubles t v) }
+    ensures tree_is_read { (text : List ℕ) (json_tree : Data) → (read text ≡ Some json_tree) ↔ IsJsonOf text json_tree }
+    ensures text_meaning { (doubles : Doubles) (text : List ℕ) (bson_value : Value)
+        → MeansByDefault doubles text bson_value
+        ↔ ((json_tree : Data) × IsJsonOf text json_tree × HasMeaningIn doubles json_tree bson_value) }
 {}
 
 /// Proves that the kit's reader of numbers reads all of a text if and only if the grammar has this
@@ -43,15 +46,17 @@ pub fn texts_mean_by_the_grammar()
 /// denote them come first, and then a quotation mark.
 pub fn parts_are_the_grammar()
     ensures numbers { (text : List ℕ) → (after_number text ≡ Some []) ↔ IsNumber text }
-    ensures strings { (after bytes : List ℕ) → (content plain after ≡ Some bytes)
-        ↔ ((text : List ℕ) × (rest : List ℕ) × (after ≡ text ++ 0x22 ∷ rest) × AreChars text bytes) }
+    ensures strings { (following_bytes bytes : List ℕ) → (content plain following_bytes ≡ Some bytes)
+        ↔ ((text : List ℕ) × (later_bytes : List ℕ) × (following_bytes ≡ text ++ 0x22 ∷ later_bytes)
+        × AreChars text bytes) }
 {}
 
 /// Proves that a text in UTF-8 has unescaped bytes alone if and only if it is the UTF-8 of
 /// characters that RFC 8259 lets a string have unescaped.
 pub fn unescaped_is_by_character()
     ensures { (text : List ℕ) → (IsUtf8 text × AllByRecursion IsUnescaped text)
-        ↔ ((cs : List ℕ) × AllByRecursion IsUnescapedCharacter cs × (encode_utf8_all cs ≡ text)) }
+        ↔ ((code_points : List ℕ) × AllByRecursion IsUnescapedCharacter code_points
+        × (encode_utf8_all code_points ≡ text)) }
 {}
 
 /// Proves which texts at the edges of the grammar have a value, and which have none.
@@ -63,8 +68,11 @@ pub fn corner_cases()
 /// Proves that bytes are a sequence of JSON texts if and only if each text that is found in them is
 /// JSON. The sequence has the texts that are found, and no others.
 pub fn sequences_have_one_reading()
-    ensures are { (content : List ℕ) → AllByRecursion (λ t. (j : Json) × IsJson t j) (texts_in content)
+    ensures are_texts { (content : List ℕ)
+        → AllByRecursion (λ text. (json_value : Json) × IsJson text json_value) (texts_in content)
         → AreTexts content (texts_in content) }
-    ensures found { (content : List ℕ) (ts : List (List ℕ)) → AreTexts content ts → texts_in content ≡ ts }
-    ensures one { (content : List ℕ) (ts us : List (List ℕ)) → AreTexts content ts → AreTexts content us → ts ≡ us }
+    ensures all_texts_found { (content : List ℕ) (text_list : List (List ℕ)) → AreTexts content text_list
+        → texts_in content ≡ text_list }
+    ensures one_sequence { (content : List ℕ) (text_list other_list : List (List ℕ)) → AreTexts content text_list
+        → AreTexts content other_list → text_list ≡ other_list }
 {}

@@ -1,11 +1,11 @@
 //! Where the texts of a sequence of JSON texts end.
 ghost use Rattle.std.specs.Prelude.{◌≡◌, ◌≤◌, ◌<◌, ◌+◌, ◌^◌, ◌-◌, ◌++◌, ◌∷◌, ◌⊎◌, [], ℕ, length};
-ghost use Rattle.bson_json.specs.Sequence.{depth_of, is_closer, is_opener, minus_one, scan, scan_of, separates, texts_in, prepend_part};
+ghost use Rattle.bson_json.specs.Sequence.{open_brackets_of, is_closer, is_opener, one_bracket_less, scan, scan_state_of, separates, texts_in, prepend_part};
 ghost use Rattle.json.specs.Word.{is_space};
 
 /// Where a byte is: so many brackets are open.
 #[derive(Clone, Copy)]
-pub(crate) enum Scan {
+pub(crate) enum ScanState {
     /// Outside of strings.
     Outside(usize),
     /// In a string.
@@ -14,44 +14,44 @@ pub(crate) enum Scan {
     InEscape(usize),
 }
 
-impl Scan {
+impl ScanState {
     // Returns where the byte after this one is.
-    fn next(self, byte: u8) -> Scan
-        requires { depth_of self < 2 ^ 64 - 1 }
-        ensures scan { scan_of result ≡ scan (scan_of self) byte }
-        ensures depth { depth_of result ≤ depth_of self + 1 }
+    fn next_state(self, byte: u8) -> ScanState
+        requires { open_brackets_of self < 2 ^ 64 - 1 }
+        ensures scan_state { scan_state_of result ≡ scan (scan_state_of self) byte }
+        ensures depth { open_brackets_of result ≤ open_brackets_of self + 1 }
     {
         match self {
-            Scan::Outside(brackets) => {
+            ScanState::Outside(brackets) => {
                 if byte == b'"' {
-                    Scan::InString(brackets)
+                    ScanState::InString(brackets)
                 } else if is_opener(byte) {
-                    Scan::Outside(brackets + 1)
+                    ScanState::Outside(brackets + 1)
                 } else if is_closer(byte) {
-                    Scan::Outside(minus_one(brackets))
+                    ScanState::Outside(one_bracket_less(brackets))
                 } else {
-                    Scan::Outside(brackets)
+                    ScanState::Outside(brackets)
                 }
             }
-            Scan::InString(brackets) => {
+            ScanState::InString(brackets) => {
                 if byte == b'"' {
-                    Scan::Outside(brackets)
+                    ScanState::Outside(brackets)
                 } else if byte == b'\\' {
-                    Scan::InEscape(brackets)
+                    ScanState::InEscape(brackets)
                 } else {
-                    Scan::InString(brackets)
+                    ScanState::InString(brackets)
                 }
             }
-            Scan::InEscape(brackets) => Scan::InString(brackets),
+            ScanState::InEscape(brackets) => ScanState::InString(brackets),
         }
     }
 
     // Returns whether the byte is white space outside of all brackets and strings.
     fn separates(self, byte: u8) -> bool
-        ensures { result ≡ separates (scan_of self) byte }
+        ensures { result ≡ separates (scan_state_of self) byte }
     {
         match self {
-            Scan::Outside(0) => is_space(byte),
+            ScanState::Outside(0) => is_space(byte),
             _ => false,
         }
     }
@@ -68,19 +68,19 @@ impl Scan {
 /// println!(rt; "{} {}", text.len(), rest.len())?; // 6 1
 /// ```
 pub fn split_text(content: &[u8]) -> (&[u8], &[u8])
-    ensures found { texts_in content.now ≡ prepend_part result.0.now (texts_in result.1.now) }
-    ensures place { ((content.now ≡ result.0.now) × (result.1.now ≡ []))
-        ⊎ ((x : ℕ) × (content.now ≡ result.0.now ++ x ∷ result.1.now)) }
+    ensures texts { texts_in content.now ≡ prepend_part result.0.now (texts_in result.1.now) }
+    ensures separator { ((content.now ≡ result.0.now) × (result.1.now ≡ []))
+        ⊎ ((separator : ℕ) × (content.now ≡ result.0.now ++ separator ∷ result.1.now)) }
 {
-    let mut scan = Scan::Outside(0);
-    let mut at = 0;
-    while at < content.len() {
-        let byte = content[at];
-        if scan.separates(byte) {
-            return (&content[..at], &content[at + 1..]);
+    let mut scan_state = ScanState::Outside(0);
+    let mut byte_index = 0;
+    while byte_index < content.len() {
+        let byte = content[byte_index];
+        if scan_state.separates(byte) {
+            return (&content[..byte_index], &content[byte_index + 1..]);
         }
-        scan = scan.next(byte);
-        at += 1;
+        scan_state = scan_state.next_state(byte);
+        byte_index += 1;
     }
     (content, b"")
 }
@@ -104,8 +104,8 @@ fn is_space(byte: u8) -> bool
 }
 
 // Subtracts 1, unless the number is 0.
-fn minus_one(brackets: usize) -> usize
-    ensures { result ≡ minus_one brackets }
+fn one_bracket_less(brackets: usize) -> usize
+    ensures { result ≡ one_bracket_less brackets }
 {
     match brackets {
         0 => 0,

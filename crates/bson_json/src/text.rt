@@ -20,7 +20,7 @@ use std::alloc::{AllocError, Global};
 /// println!(rt; "{}", is_json(alloc, "[1, 2,]")?)?; // false
 /// ```
 pub fn is_json(alloc: Global, text: &str) -> Result<bool, AllocError>
-    ensures ok { IfOk result (λ valid. IsTrue valid ↔ IsJsonText text.now) }
+    ensures ok { IfOk result (λ is_valid_json. IsTrue is_valid_json ↔ IsJsonText text.now) }
 {
     let mut scratch = Scratch::new(alloc);
     let mut reader = Reader::new(text, &mut scratch)?;

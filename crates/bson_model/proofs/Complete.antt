@@ -12,14 +12,14 @@ use Rattle.bson_scalar.specs.Faults.{Fault, wrong_shape, or_wrong_shape, ◌>>=�
 use Rattle.bson_scalar.specs.Table.{has_wrapper}
 use Rattle.bson_scalar.specs.Scalar.{null, boolean, text}
 use Rattle.bson_scalar.specs.declared.form.Doubles.{Doubles}
-use Rattle.bson_model.specs.Reading.{reads_in, reads_items_in, reads_members_in, reads_wrapper_in, reads_scope_in}
-use Rattle.bson_model.specs.Reading.{code_at, code_value}
+use Rattle.bson_model.specs.Reading.{reads_tree_in, reads_items_in, reads_members_in, reads_wrapper_in, reads_scope_in}
+use Rattle.bson_model.specs.Reading.{code_with_scope_read, code_value}
 use Rattle.bson_model.specs.Value.{Value, scalar, array, document, Values, no_values, value, Pairs, no_pairs, pair}
 use Rattle.bson_model.proofs.Offered.{fault_bind_ok}
 use Rattle.bson_model.specs.OrderedTrees.{tree_sorted_by_key, items_sorted_by_key, members_sorted_by_key, has_key, KeysDiffer, IsTreeInOrder}
 use Rattle.bson_model.specs.OrderedTrees.{ItemsAreTreesInOrder, MembersAreTreesInOrder}
-use Rattle.bson_model.specs.OrderedReading.{reads_in_order, items_in_order, members_in_order, wrapper_in_order}
-use Rattle.bson_model.specs.OrderedReading.{scope_in_order}
+use Rattle.bson_model.specs.OrderedReading.{reads_tree_in_order, reads_items_in_order, reads_members_in_order, reads_wrapper_in_order}
+use Rattle.bson_model.specs.OrderedReading.{reads_scope_in_order}
 use Rattle.bson_model.proofs.Options.{same_bytes}
 use Rattle.bson_model.proofs.SortedKeys.{same_wrapper, same_key, not_equal, size, same_size}
 
@@ -30,7 +30,7 @@ module _ (D : Doubles) where
   -- ---- documents: what is read of an object is read of each of its members
 
   abbrev Read : Data → Type 0
-  Read d = (v : Value) × (reads_in D d ≡ Ok v)
+  Read d = (v : Value) × (reads_tree_in D d ≡ Ok v)
 
   abbrev ReadAll : Members → Type 0
   ReadAll ms = (ps : Pairs) × (reads_members_in D ms ≡ Ok ps)
@@ -38,7 +38,7 @@ module _ (D : Doubles) where
   first_read : (k : List ℕ) (d : Data) (ms : Members) (ps : Pairs) → reads_members_in D (member k d ms) ≡ Ok ps
       → Read d × ReadAll ms
   first_read k d ms ps h =
-      let b = fault_bind_ok (reads_in D d) _ ps h in
+      let b = fault_bind_ok (reads_tree_in D d) _ ps h in
       let c = fault_bind_ok (reads_members_in D ms) _ ps b.2 in ((b.0, b.1), (c.0, c.1))
 
   more_read : (k : List ℕ) (d : Data) (ms : Members) → Read d → ReadAll ms → ReadAll (member k d ms)
@@ -84,7 +84,7 @@ module _ (D : Doubles) where
 
   abbrev Scopes : Data → Type 0
   Scopes e = (ps : Option Pairs) → reads_scope_in D (tree_sorted_by_key e) ≡ Ok ps
-      → (qs : Option Pairs) × (scope_in_order D e ≡ Ok qs)
+      → (qs : Option Pairs) × (reads_scope_in_order D e ≡ Ok qs)
 
   remade : (b : Bool) (o : Option (List ℕ)) (r q : Result (Option Pairs) Fault) (w : Value)
       → ((ps : Option Pairs) → r ≡ Ok ps → (qs : Option Pairs) × (q ≡ Ok qs))
@@ -105,14 +105,14 @@ module _ (D : Doubles) where
       (member l (tree_sorted_by_key d) no_members) (member l (tree_sorted_by_key e) (member k (tree_sorted_by_key d) no_members)))
       ≡ Ok w
       → (v : Value)
-      × (cond (bytes_eq k (codes "$scope")) (code_at l (tree_sorted_by_key e) k (scope_in_order D d))
-      (code_at k (tree_sorted_by_key d) l (scope_in_order D e)) ≡ Ok v)
+      × (cond (bytes_eq k (codes "$scope")) (code_with_scope_read l (tree_sorted_by_key e) k (reads_scope_in_order D d))
+      (code_with_scope_read k (tree_sorted_by_key d) l (reads_scope_in_order D e)) ≡ Ok v)
   two_at Less k l d e w c differ f g h =
       let keys = is_code k l _ w h in
       let other : bytes_eq k (codes "$scope") ≡ false =
       subst (λ q. bytes_eq q (codes "$scope") ≡ false) (sym keys.0) refl in
       let m = remade (bytes_eq k (codes "$code") && bytes_eq l (codes "$scope")) (as_str (tree_sorted_by_key d))
-      (reads_scope_in D (tree_sorted_by_key e)) (scope_in_order D e) w g h in
+      (reads_scope_in D (tree_sorted_by_key e)) (reads_scope_in_order D e) w g h in
       (m.0, rw other m.1)
   two_at Equal k l d e w c differ f g h = not_equal k l c differ
   two_at Greater k l d e w c differ f g h =
@@ -120,27 +120,27 @@ module _ (D : Doubles) where
       let same : bytes_eq k (codes "$scope") ≡ true =
       subst (λ q. bytes_eq q (codes "$scope") ≡ true) (sym keys.1) refl in
       let m = remade (bytes_eq l (codes "$code") && bytes_eq k (codes "$scope")) (as_str (tree_sorted_by_key e))
-      (reads_scope_in D (tree_sorted_by_key d)) (scope_in_order D d) w f h in
+      (reads_scope_in D (tree_sorted_by_key d)) (reads_scope_in_order D d) w f h in
       (m.0, chosen (bytes_eq k (codes "$scope")) _ _ m.0 same m.1)
 
   -- ---- the whole tree
 
   object_read : (b : Bool) (ms : Members) (w : Value)
-      → (reads_wrapper_in D (members_sorted_by_key ms) ≡ Ok w → (v : Value) × (wrapper_in_order D ms ≡ Ok v))
+      → (reads_wrapper_in D (members_sorted_by_key ms) ≡ Ok w → (v : Value) × (reads_wrapper_in_order D ms ≡ Ok v))
       → ((ps : Pairs) → reads_members_in D (members_sorted_by_key ms) ≡ Ok ps
-      → (qs : Pairs) × (members_in_order D ms ≡ Ok qs))
+      → (qs : Pairs) × (reads_members_in_order D ms ≡ Ok qs))
       → cond b (reads_wrapper_in D (members_sorted_by_key ms))
       (reads_members_in D (members_sorted_by_key ms) >>= λ ps. Ok (document ps))
       ≡ Ok w
-      → (v : Value) × (cond b (wrapper_in_order D ms) (members_in_order D ms >>= λ ps. Ok (document ps)) ≡ Ok v)
+      → (v : Value) × (cond b (reads_wrapper_in_order D ms) (reads_members_in_order D ms >>= λ ps. Ok (document ps)) ≡ Ok v)
   object_read true ms w f g h = f h
   object_read false ms w f g h =
       let b = fault_bind_ok (reads_members_in D (members_sorted_by_key ms)) _ w h in
       let m = g b.0 b.1 in (document m.0, rw m.1 refl)
 
   mutual
-    pub read_in_order : (t : Data) (w : Value) → IsTreeInOrder t → reads_in D (tree_sorted_by_key t) ≡ Ok w
-        → (v : Value) × (reads_in_order D t ≡ Ok v)
+    pub read_in_order : (t : Data) (w : Value) → IsTreeInOrder t → reads_tree_in D (tree_sorted_by_key t) ≡ Ok w
+        → (v : Value) × (reads_tree_in_order D t ≡ Ok v)
     read_in_order tree.null w is h = (scalar null, refl)
     read_in_order (tree.boolean b) w is h = (scalar (boolean b), refl)
     read_in_order (tree.number n) w is h = (w, h)
@@ -155,16 +155,16 @@ module _ (D : Doubles) where
         (reads_members_in D (members_sorted_by_key ms) >>= λ ps. Ok (document ps)) ≡ Ok w) (same_wrapper ms) h)
 
     items_read : (ds : Items) (ws : Values) → ItemsAreTreesInOrder ds → reads_items_in D (items_sorted_by_key ds) ≡ Ok ws
-        → (vs : Values) × (items_in_order D ds ≡ Ok vs)
+        → (vs : Values) × (reads_items_in_order D ds ≡ Ok vs)
     items_read no_items ws is h = (no_values, refl)
     items_read (item d ds) ws is h =
-        let b = fault_bind_ok (reads_in D (tree_sorted_by_key d)) _ ws h in
+        let b = fault_bind_ok (reads_tree_in D (tree_sorted_by_key d)) _ ws h in
         let c = fault_bind_ok (reads_items_in D (items_sorted_by_key ds)) _ ws b.2 in
         let m = read_in_order d b.0 is.0 b.1 in
         let n = items_read ds c.0 is.1 c.1 in (value m.0 n.0, rw (m.1, n.1) refl)
 
     members_read : (ms : Members) (ps : Pairs) → KeysDiffer ms → MembersAreTreesInOrder ms
-        → reads_members_in D (members_sorted_by_key ms) ≡ Ok ps → (qs : Pairs) × (members_in_order D ms ≡ Ok qs)
+        → reads_members_in D (members_sorted_by_key ms) ≡ Ok ps → (qs : Pairs) × (reads_members_in_order D ms ≡ Ok qs)
     members_read no_members ps differ is h = (no_pairs, refl)
     members_read (member k d ms) ps differ is h =
         let p = put_parts k (tree_sorted_by_key d) (members_sorted_by_key ms) ps (same_key k ms ∙ differ.0) h in
@@ -172,7 +172,7 @@ module _ (D : Doubles) where
         let n = members_read ms p.1.0 differ.1 is.1 p.1.1 in (pair k m.0 n.0, rw (m.1, n.1) refl)
 
     wrapper_read : (ms : Members) (w : Value) → KeysDiffer ms → MembersAreTreesInOrder ms
-        → reads_wrapper_in D (members_sorted_by_key ms) ≡ Ok w → (v : Value) × (wrapper_in_order D ms ≡ Ok v)
+        → reads_wrapper_in D (members_sorted_by_key ms) ≡ Ok w → (v : Value) × (reads_wrapper_in_order D ms ≡ Ok v)
     wrapper_read no_members w differ is h = cc
     wrapper_read (member k d no_members) w differ is h = (w, h)
     wrapper_read (member k d (member l e no_members)) w differ is h =
@@ -184,7 +184,7 @@ module _ (D : Doubles) where
         absurd (omega (arith, long, short))
 
     scope_read : (e : Data) (ps : Option Pairs) → IsTreeInOrder e → reads_scope_in D (tree_sorted_by_key e) ≡ Ok ps
-        → (qs : Option Pairs) × (scope_in_order D e ≡ Ok qs)
+        → (qs : Option Pairs) × (reads_scope_in_order D e ≡ Ok qs)
     scope_read tree.null ps is h = (None, refl)
     scope_read (tree.boolean b) ps is h = cc
     scope_read (tree.number n) ps is h = cc

@@ -5,31 +5,31 @@ use Rattle.std.specs.Str.{bytes_eq}
 use Rattle.std.proofs.lemmas.Slice.Eq.{bytes_eq-Decides}
 use Rattle.json.specs.Json as json
 use Rattle.serde_json.specs.Data.{Data, Members, no_members, member}
-use Rattle.bson_model.specs.OrderedTrees.{put_in_place, kept, kept_members, has_key}
-use Rattle.bson_model.specs.DuplicateKeys.{written_keys, tree_keys, without, first_places, last_written, tree_at_key}
-use Rattle.bson_model.specs.DuplicateKeys.{later, HasFirstPositions}
+use Rattle.bson_model.specs.OrderedTrees.{put_at_key_position, tree_of_json, members_of_json, has_key}
+use Rattle.bson_model.specs.DuplicateKeys.{written_keys, tree_keys, without_key, first_occurrences, last_value_at_key, tree_at_key}
+use Rattle.bson_model.specs.DuplicateKeys.{last_of_two, HasFirstPositions}
 use Rattle.bson_model.proofs.Options.{un_some, after, same_bytes, turned}
 
--- ---- the keys of what is put in its place
+-- ---- the keys of what is inserted in its place
 
 put_there_at : (b : Bool) (k a : List ℕ) (d e : Data) (ms : Members) → (b || has_key k ms) ≡ true
-    → (has_key k ms ≡ true → tree_keys (put_in_place k d ms) ≡ tree_keys ms)
-    → tree_keys (cond b (member a d ms) (member a e (put_in_place k d ms))) ≡ a ∷ tree_keys ms
+    → (has_key k ms ≡ true → tree_keys (put_at_key_position k d ms) ≡ tree_keys ms)
+    → tree_keys (cond b (member a d ms) (member a e (put_at_key_position k d ms))) ≡ a ∷ tree_keys ms
 put_there_at true k a d e ms h is = refl
 put_there_at false k a d e ms h is = ap (λ ks. a ∷ ks) (is h)
 
-put_there : (k : List ℕ) (d : Data) (ms : Members) → has_key k ms ≡ true → tree_keys (put_in_place k d ms) ≡ tree_keys ms
+put_there : (k : List ℕ) (d : Data) (ms : Members) → has_key k ms ≡ true → tree_keys (put_at_key_position k d ms) ≡ tree_keys ms
 put_there k d no_members h = cc
 put_there k d (member a e ms) h = put_there_at (bytes_eq k a) k a d e ms h (put_there k d ms)
 
 put_new_at : (b : Bool) (k a : List ℕ) (d e : Data) (ms : Members) → (b || has_key k ms) ≡ false
-    → (has_key k ms ≡ false → tree_keys (put_in_place k d ms) ≡ tree_keys ms ++ (k ∷ []))
-    → tree_keys (cond b (member a d ms) (member a e (put_in_place k d ms))) ≡ a ∷ (tree_keys ms ++ (k ∷ []))
+    → (has_key k ms ≡ false → tree_keys (put_at_key_position k d ms) ≡ tree_keys ms ++ (k ∷ []))
+    → tree_keys (cond b (member a d ms) (member a e (put_at_key_position k d ms))) ≡ a ∷ (tree_keys ms ++ (k ∷ []))
 put_new_at true k a d e ms h is = cc
 put_new_at false k a d e ms h is = ap (λ ks. a ∷ ks) (is h)
 
 put_new : (k : List ℕ) (d : Data) (ms : Members) → has_key k ms ≡ false
-    → tree_keys (put_in_place k d ms) ≡ tree_keys ms ++ (k ∷ [])
+    → tree_keys (put_at_key_position k d ms) ≡ tree_keys ms ++ (k ∷ [])
 put_new k d no_members h = refl
 put_new k d (member a e ms) h = put_new_at (bytes_eq k a) k a d e ms h (put_new k d ms)
 
@@ -47,8 +47,8 @@ or_assoc true b c = refl
 or_assoc false b c = refl
 
 has_put_at : (b : Bool) (q k a : List ℕ) (d e : Data) (ms : Members) → bytes_eq k a ≡ b
-    → has_key q (put_in_place k d ms) ≡ (has_key q ms || bytes_eq q k)
-    → has_key q (cond b (member a d ms) (member a e (put_in_place k d ms)))
+    → has_key q (put_at_key_position k d ms) ≡ (has_key q ms || bytes_eq q k)
+    → has_key q (cond b (member a d ms) (member a e (put_at_key_position k d ms)))
     ≡ ((bytes_eq q a || has_key q ms) || bytes_eq q k)
 has_put_at true q k a d e ms h is =
     subst (λ x. (bytes_eq q a || has_key q ms) ≡ ((bytes_eq q a || has_key q ms) || bytes_eq q x))
@@ -56,7 +56,7 @@ has_put_at true q k a d e ms h is =
 has_put_at false q k a d e ms h is =
     ap (λ b. bytes_eq q a || b) is ∙ or_assoc (bytes_eq q a) (has_key q ms) (bytes_eq q k)
 
-has_put : (q k : List ℕ) (d : Data) (ms : Members) → has_key q (put_in_place k d ms) ≡ (has_key q ms || bytes_eq q k)
+has_put : (q k : List ℕ) (d : Data) (ms : Members) → has_key q (put_at_key_position k d ms) ≡ (has_key q ms || bytes_eq q k)
 has_put q k d no_members = or_none (bytes_eq q k)
 has_put q k d (member a e ms) = has_put_at (bytes_eq k a) q k a d e ms refl (has_put q k d ms)
 
@@ -84,34 +84,34 @@ not_twice : (b : Bool) → b ≡ not (not b)
 not_twice true = refl
 not_twice false = refl
 
--- the keys but k that are not there are those that are not there when k is put
+-- the keys but k that are not there are those that are not there when k is inserted
 new_put : (k : List ℕ) (d : Data) (found : Members) (ks : List (List ℕ))
-    → new found (without k ks) ≡ new (put_in_place k d found) ks
+    → new found (without_key k ks) ≡ new (put_at_key_position k d found) ks
 new_put k d found [] = refl
 new_put k d found (l ∷ ks) =
-    filter_cons (bytes_eq k l) (not (has_key l found)) (not (has_key l (put_in_place k d found))) l (without k ks)
-    (new (put_in_place k d found) ks) (λ l. not (has_key l found)) refl
+    filter_cons (bytes_eq k l) (not (has_key l found)) (not (has_key l (put_at_key_position k d found))) l (without_key k ks)
+    (new (put_at_key_position k d found) ks) (λ l. not (has_key l found)) refl
     (ap not (has_put l k d found ∙ ap (λ b. b || bytes_eq l k) (not_twice (has_key l found))
     ∙ ap (λ b. not (not (has_key l found)) || b) (either_way l k)))
     (new_put k d found ks)
 
 places_at : (b : Bool) (k : List ℕ) (d : Data) (found : Members) (ks : List (List ℕ)) → has_key k found ≡ b
-    → tree_keys (put_in_place k d found) ++ new (put_in_place k d found) ks
-    ≡ tree_keys found ++ cond (not b) (k ∷ new found (without k ks)) (new found (without k ks))
-places_at true k d found ks h = ap (λ xs. xs ++ new (put_in_place k d found) ks) (put_there k d found h)
+    → tree_keys (put_at_key_position k d found) ++ new (put_at_key_position k d found) ks
+    ≡ tree_keys found ++ cond (not b) (k ∷ new found (without_key k ks)) (new found (without_key k ks))
+places_at true k d found ks h = ap (λ xs. xs ++ new (put_at_key_position k d found) ks) (put_there k d found h)
     ∙ ap (λ xs. tree_keys found ++ xs) (sym (new_put k d found ks))
-places_at false k d found ks h = ap (λ xs. xs ++ new (put_in_place k d found) ks) (put_new k d found h)
-    ∙ append_assoc (tree_keys found) (k ∷ []) (new (put_in_place k d found) ks)
+places_at false k d found ks h = ap (λ xs. xs ++ new (put_at_key_position k d found) ks) (put_new k d found h)
+    ∙ append_assoc (tree_keys found) (k ∷ []) (new (put_at_key_position k d found) ks)
     ∙ ap (λ xs. tree_keys found ++ (k ∷ xs)) (sym (new_put k d found ks))
 
 -- the keys found, and after them the new ones, each at its first position
-places : (ws : json.Members) (found ms : Members) → kept_members ws found ≡ Some ms
-    → tree_keys ms ≡ tree_keys found ++ new found (first_places (written_keys ws))
+places : (ws : json.Members) (found ms : Members) → members_of_json ws found ≡ Some ms
+    → tree_keys ms ≡ tree_keys found ++ new found (first_occurrences (written_keys ws))
 places json.no_members found ms h = ap tree_keys (sym (un_some found ms h)) ∙ sym (append-nil (tree_keys found))
 places (json.member k j ws) found ms h =
-    let a = after (λ d. kept_members ws (put_in_place k d found)) (kept j) ms h in
-    places ws (put_in_place k a.0 found) ms a.2
-    ∙ places_at (has_key k found) k a.0 found (first_places (written_keys ws)) refl
+    let a = after (λ d. members_of_json ws (put_at_key_position k d found)) (tree_of_json j) ms h in
+    places ws (put_at_key_position k a.0 found) ms a.2
+    ∙ places_at (has_key k found) k a.0 found (first_occurrences (written_keys ws)) refl
 
 all_new : (ks : List (List ℕ)) → new no_members ks ≡ ks
 all_new [] = refl
@@ -134,8 +134,8 @@ other_key true q k a h differ same =
     let yes : bytes_eq k a ≡ true = subst (λ x. bytes_eq x a ≡ true) (same_bytes q k h) same in cc
 
 at_put_at : (b : Bool) (q k a : List ℕ) (d e : Data) (ms : Members) → bytes_eq k a ≡ b
-    → tree_at_key q (put_in_place k d ms) ≡ cond (bytes_eq q k) (Some d) (tree_at_key q ms)
-    → tree_at_key q (cond b (member a d ms) (member a e (put_in_place k d ms)))
+    → tree_at_key q (put_at_key_position k d ms) ≡ cond (bytes_eq q k) (Some d) (tree_at_key q ms)
+    → tree_at_key q (cond b (member a d ms) (member a e (put_at_key_position k d ms)))
     ≡ cond (bytes_eq q k) (Some d) (cond (bytes_eq q a) (Some e) (tree_at_key q ms))
 at_put_at true q k a d e ms h is =
     subst (λ x. cond (bytes_eq q a) (Some d) (tree_at_key q ms)
@@ -144,39 +144,39 @@ at_put_at true q k a d e ms h is =
 at_put_at false q k a d e ms h is = ap (λ o. cond (bytes_eq q a) (Some e) o) is
     ∙ cond_apart (bytes_eq q k) (bytes_eq q a) (Some d) (Some e) (tree_at_key q ms) (other_key (bytes_eq q k) q k a refl h)
 
--- the value at k is the one that was put there; the value at each other key is unchanged
+-- the value at k is the one that was inserted there; the value at each other key is unchanged
 at_put : (q k : List ℕ) (d : Data) (ms : Members)
-    → tree_at_key q (put_in_place k d ms) ≡ cond (bytes_eq q k) (Some d) (tree_at_key q ms)
+    → tree_at_key q (put_at_key_position k d ms) ≡ cond (bytes_eq q k) (Some d) (tree_at_key q ms)
 at_put q k d no_members = refl
 at_put q k d (member a e ms) = at_put_at (bytes_eq k a) q k a d e ms refl (at_put q k d ms)
 
 -- what was written last, or else what was found
 abbrev at_last : Option json.Json → List ℕ → Members → Option Data
-at_last (Some j) q found = kept j
+at_last (Some j) q found = tree_of_json j
 at_last None q found = tree_at_key q found
 
 written_at : (o : Option json.Json) (b : Bool) (j : json.Json) (d : Data) (q : List ℕ) (found put : Members)
-    → kept j ≡ Some d → tree_at_key q put ≡ cond b (Some d) (tree_at_key q found)
-    → at_last o q put ≡ at_last (later (cond b (Some j) None) o) q found
+    → tree_of_json j ≡ Some d → tree_at_key q put ≡ cond b (Some d) (tree_at_key q found)
+    → at_last o q put ≡ at_last (last_of_two (cond b (Some j) None) o) q found
 written_at (Some i) b j d q found put h is = refl
 written_at None true j d q found put h is = is ∙ sym h
 written_at None false j d q found put h is = is
 
-values : (ws : json.Members) (found ms : Members) (q : List ℕ) → kept_members ws found ≡ Some ms
-    → tree_at_key q ms ≡ at_last (last_written q ws) q found
+values : (ws : json.Members) (found ms : Members) (q : List ℕ) → members_of_json ws found ≡ Some ms
+    → tree_at_key q ms ≡ at_last (last_value_at_key q ws) q found
 values json.no_members found ms q h = ap (tree_at_key q) (sym (un_some found ms h))
 values (json.member k j ws) found ms q h =
-    let a = after (λ d. kept_members ws (put_in_place k d found)) (kept j) ms h in
-    values ws (put_in_place k a.0 found) ms q a.2
-    ∙ written_at (last_written q ws) (bytes_eq q k) j a.0 q found (put_in_place k a.0 found) a.1 (at_put q k a.0 found)
+    let a = after (λ d. members_of_json ws (put_at_key_position k d found)) (tree_of_json j) ms h in
+    values ws (put_at_key_position k a.0 found) ms q a.2
+    ∙ written_at (last_value_at_key q ws) (bytes_eq q k) j a.0 q found (put_at_key_position k a.0 found) a.1 (at_put q k a.0 found)
 
-none_found : (o : Option json.Json) (q : List ℕ) → at_last o q no_members ≡ option_and_then kept o
+none_found : (o : Option json.Json) (q : List ℕ) → at_last o q no_members ≡ option_and_then tree_of_json o
 none_found (Some j) q = refl
 none_found None q = refl
 
-pub first_places_kept : (ws : json.Members) (ms : Members) → kept_members ws no_members ≡ Some ms
+pub first_places_kept : (ws : json.Members) (ms : Members) → members_of_json ws no_members ≡ Some ms
     → HasFirstPositions ws ms
 first_places_kept ws ms h = record {
-  places = places ws no_members ms h ∙ all_new (first_places (written_keys ws));
-  values = λ q. values ws no_members ms q h ∙ none_found (last_written q ws) q;
+  keys_at_first_positions = places ws no_members ms h ∙ all_new (first_occurrences (written_keys ws));
+  last_values = λ q. values ws no_members ms q h ∙ none_found (last_value_at_key q ws) q;
 }

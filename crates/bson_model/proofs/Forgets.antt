@@ -26,7 +26,7 @@ module _ (D : Doubles) where
   put_at Equal k l d e v w ms ps m n ns is = sorted_tree.entry l d v ms ps m ns
   put_at Greater k l d e v w ms ps m n ns is = sorted_tree.entry l e w (put k d ms) (insert_sorted_pair k v ps) n is
 
-  -- what is put at a key of the object is put at that of the document
+  -- what is inserted at a key of the object is inserted at that of the document
   put_means : {ms : Members} {ps : Pairs} (k : List ℕ) (d : Data) (v : Value) → MeansIn D d v → MeansDocumentIn D ms ps
       → MeansDocumentIn D (put k d ms) (insert_sorted_pair k v ps)
   put_means k d v m sorted_tree.empty = sorted_tree.entry k d v no_members no_pairs m sorted_tree.empty

@@ -11,13 +11,13 @@ use Rattle.json.specs.Lex.{tokens}
 use Rattle.serde_json.specs.Data.{Num, Data, number, array, object, Items, item, Members, no_members, member, put}
 use Rattle.serde_json.specs.Read.{number_of, of_json, of_items, of_members, read, max_depth}
 use Rattle.bson_model.proofs.Offered.{put_members_swap}
-use Rattle.bson_model.specs.OrderedTrees.{put_in_place, kept, kept_items, kept_members, read_in_order, tree_sorted_by_key, items_sorted_by_key}
+use Rattle.bson_model.specs.OrderedTrees.{put_at_key_position, tree_of_json, items_of_json, members_of_json, read_in_order, tree_sorted_by_key, items_sorted_by_key}
 use Rattle.bson_model.specs.OrderedTrees.{members_sorted_by_key}
 
 abbrev cmp : List ℕ → List ℕ → Ordering
 cmp k l = slice_cmp nat_cmp k l
 
--- ---- a value that is put in its place is put
+-- ---- a value that is inserted in its place is inserted
 
 again_at : (o : Ordering) (k a : List ℕ) (v w x : Data) (ms : Members) → cmp k a ≡ o
     → put k v (put k w ms) ≡ put k v ms
@@ -35,8 +35,8 @@ unequal : (k l : List ℕ) → bytes_eq k l ≡ false → k ≡ l → ⊥
 unequal k l h e = let yes : bytes_eq k l ≡ true = (bytes_eq-Decides k l).1 e in cc
 
 put_at : (b : Bool) (k l : List ℕ) (d e : Data) (ms : Members) → bytes_eq k l ≡ b
-    → members_sorted_by_key (put_in_place k d ms) ≡ put k (tree_sorted_by_key d) (members_sorted_by_key ms)
-    → members_sorted_by_key (cond b (member l d ms) (member l e (put_in_place k d ms)))
+    → members_sorted_by_key (put_at_key_position k d ms) ≡ put k (tree_sorted_by_key d) (members_sorted_by_key ms)
+    → members_sorted_by_key (cond b (member l d ms) (member l e (put_at_key_position k d ms)))
     ≡ put k (tree_sorted_by_key d) (put l (tree_sorted_by_key e) (members_sorted_by_key ms))
 put_at true k l d e ms h is =
     let one : k ≡ l = (bytes_eq-Decides k l).0 h in
@@ -47,7 +47,7 @@ put_at false k l d e ms h is = ap (put l (tree_sorted_by_key e)) is
     ∙ put_members_swap l k (tree_sorted_by_key e) (tree_sorted_by_key d) (members_sorted_by_key ms) (λ s. unequal k l h (sym s))
 
 pub put_forgotten : (k : List ℕ) (d : Data) (ms : Members)
-    → members_sorted_by_key (put_in_place k d ms) ≡ put k (tree_sorted_by_key d) (members_sorted_by_key ms)
+    → members_sorted_by_key (put_at_key_position k d ms) ≡ put k (tree_sorted_by_key d) (members_sorted_by_key ms)
 put_forgotten k d no_members = refl
 put_forgotten k d (member l e ms) = put_at (bytes_eq k l) k l d e ms refl (put_forgotten k d ms)
 
@@ -81,30 +81,30 @@ then_forgotten None f g h = refl
 then_forgotten (Some d) f g h = h d
 
 mutual
-  pub forgotten : (j : json.Json) → of_json j ≡ option_map tree_sorted_by_key (kept j)
+  pub forgotten : (j : json.Json) → of_json j ≡ option_map tree_sorted_by_key (tree_of_json j)
   forgotten json.null = refl
   forgotten (json.boolean b) = refl
   forgotten (json.number s) = number_forgotten (number_of s)
   forgotten (json.string s) = refl
-  forgotten (json.array js) = ap (option_map array) (items_forgotten js) ∙ array_forgotten (kept_items js)
+  forgotten (json.array js) = ap (option_map array) (items_forgotten js) ∙ array_forgotten (items_of_json js)
   forgotten (json.object ms) =
-      ap (option_map object) (members_forgotten ms no_members) ∙ object_forgotten (kept_members ms no_members)
+      ap (option_map object) (members_forgotten ms no_members) ∙ object_forgotten (members_of_json ms no_members)
 
-  items_forgotten : (js : json.Items) → of_items js ≡ option_map items_sorted_by_key (kept_items js)
+  items_forgotten : (js : json.Items) → of_items js ≡ option_map items_sorted_by_key (items_of_json js)
   items_forgotten json.no_items = refl
-  items_forgotten (json.item j js) = rw (forgotten j, items_forgotten js) (item_forgotten (kept j) (kept_items js))
+  items_forgotten (json.item j js) = rw (forgotten j, items_forgotten js) (item_forgotten (tree_of_json j) (items_of_json js))
 
   -- with what was found so far
   members_forgotten : (ms : json.Members) (found : Members)
-      → of_members ms (members_sorted_by_key found) ≡ option_map members_sorted_by_key (kept_members ms found)
+      → of_members ms (members_sorted_by_key found) ≡ option_map members_sorted_by_key (members_of_json ms found)
   members_forgotten json.no_members found = refl
   members_forgotten (json.member k j ms) found =
       ap (λ o. option_and_then (λ d. of_members ms (put k d (members_sorted_by_key found))) o) (forgotten j)
-      ∙ then_forgotten (kept j) (λ d. of_members ms (put k d (members_sorted_by_key found)))
-      (λ d. kept_members ms (put_in_place k d found))
-      (λ d. ap (of_members ms) (sym (put_forgotten k d found)) ∙ members_forgotten ms (put_in_place k d found))
+      ∙ then_forgotten (tree_of_json j) (λ d. of_members ms (put k d (members_sorted_by_key found)))
+      (λ d. members_of_json ms (put_at_key_position k d found))
+      (λ d. ap (of_members ms) (sym (put_forgotten k d found)) ∙ members_forgotten ms (put_at_key_position k d found))
 
-text_forgotten : (o : Option json.Json) → option_and_then of_json o ≡ option_map tree_sorted_by_key (option_and_then kept o)
+text_forgotten : (o : Option json.Json) → option_and_then of_json o ≡ option_map tree_sorted_by_key (option_and_then tree_of_json o)
 text_forgotten None = refl
 text_forgotten (Some j) = forgotten j
 

@@ -18,7 +18,7 @@ use Rattle.bson_scalar.specs.declared.form.Doubles.{Doubles}
 use Rattle.bson_scalar.specs.declared.form.Form.{Form}
 use Rattle.bson_scalar.proofs.Offered.{float_is_number, text_is}
 use Rattle.bson_model.proofs.Offered.{number_back}
-use Rattle.bson_model.specs.OrderedTrees.{put_in_place, kept, kept_items, kept_members, tree_sorted_by_key, has_key, KeysDiffer, read_in_order}
+use Rattle.bson_model.specs.OrderedTrees.{put_at_key_position, tree_of_json, items_of_json, members_of_json, tree_sorted_by_key, has_key, KeysDiffer, read_in_order}
 use Rattle.bson_model.specs.OrderedTrees.{IsTreeInOrder, ItemsAreTreesInOrder, MembersAreTreesInOrder}
 use Rattle.bson_model.specs.OrderedTexts.{TextReadsBackInOrder}
 use Rattle.bson_model.proofs.Forgetting.{read_forgotten}
@@ -84,9 +84,9 @@ apart_from l no_members k d ms h = (or_parts (bytes_eq l k) (has_key l ms) h).0
 apart_from l (member a e found) k d ms h =
     apart_from l found k d ms (or_parts (bytes_eq l a) (has_key l (joined found (member k d ms))) h).1
 
--- a new key goes last
+-- a new key becomes the last
 pub put_last : (found : Members) (k : List ℕ) (d : Data) (ms : Members) → KeysDiffer (joined found (member k d ms))
-    → put_in_place k d found ≡ joined found (member k d no_members)
+    → put_at_key_position k d found ≡ joined found (member k d no_members)
 put_last no_members k d ms h = refl
 put_last (member l e found) k d ms h =
     let apart : bytes_eq k l ≡ false = turned l k (apart_from l found k d ms h.0) in
@@ -95,7 +95,7 @@ put_last (member l e found) k d ms h =
 -- ---- what is parsed is the tree
 
 mutual
-  data_back : (d : Data) → IsTreeInOrder d → kept (json_of_tree d) ≡ Some d
+  data_back : (d : Data) → IsTreeInOrder d → tree_of_json (json_of_tree d) ≡ Some d
   data_back tree.null t = refl
   data_back (tree.boolean b) t = refl
   data_back (tree.number n) t = ap (option_map tree.number) (number_back n t)
@@ -103,12 +103,12 @@ mutual
   data_back (tree.array ds) t = ap (option_map tree.array) (items_back ds t)
   data_back (tree.object ms) t = ap (option_map tree.object) (members_back ms no_members t.0 t.1)
 
-  items_back : (ds : Items) → ItemsAreTreesInOrder ds → kept_items (json_of_items ds) ≡ Some ds
+  items_back : (ds : Items) → ItemsAreTreesInOrder ds → items_of_json (json_of_items ds) ≡ Some ds
   items_back no_items t = refl
   items_back (item d ds) t = rw (data_back d t.0, items_back ds t.1) refl
 
   members_back : (ms found : Members) → KeysDiffer (joined found ms) → MembersAreTreesInOrder ms
-      → kept_members (json_of_members ms) found ≡ Some (joined found ms)
+      → members_of_json (json_of_members ms) found ≡ Some (joined found ms)
   members_back no_members found up t = ap Some (sym (joined_none found))
   members_back (member k d ms) found up t =
       let last = put_last found k d ms up in
@@ -119,14 +119,14 @@ mutual
 
 -- the tree that a text is, nested no deeper than n
 abbrev read_within : ℕ → List ℕ → Option Data
-read_within n text = option_and_then kept (option_and_then (λ p. json.if_last p.0 p.1) (json.value n (tokens text)))
+read_within n text = option_and_then tree_of_json (option_and_then (λ p. json.if_last p.0 p.1) (json.value n (tokens text)))
 
 back_within : (n : ℕ) (d : Data) → IsTreeInOrder d → depth d ≤ n → read_within n (text_of d) ≡ Some d
 back_within n d t shallow =
     let printed = tokens-print (parsed.json_tokens (json_of_tree d)) (ArePrintable-json_tokens (json_of_tree d) (numbers d t)) in
     let value = ap (json.value n) (printed ∙ sym (append-nil (parsed.json_tokens (json_of_tree d))))
     ∙ value-json_tokens (json_of_tree d) n [] (omega (arith, same_depth d)) in
-    ap (λ o. option_and_then kept (option_and_then (λ p. json.if_last p.0 p.1) o)) value ∙ data_back d t
+    ap (λ o. option_and_then tree_of_json (option_and_then (λ p. json.if_last p.0 p.1) o)) value ∙ data_back d t
 
 -- two trees, however deep, have one text only where they are equal
 one_text : (d e : Data) → IsTreeInOrder d → IsTreeInOrder e → text_of d ≡ text_of e → d ≡ e

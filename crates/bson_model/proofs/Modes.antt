@@ -13,7 +13,7 @@ use Rattle.bson_model.specs.Value as model
 use Rattle.bson_model.specs.Laws.{IsTreeOfIn}
 use Rattle.bson_model.specs.Means.{Means, MeansIn, scalar, code_with_scope, array, document, MeansItems, MeansItemsIn}
 use Rattle.bson_model.specs.Means.{nothing, then, MeansDocument, MeansDocumentIn, empty, entry}
-use Rattle.bson_model.specs.Normal.{normal_form, writable_in, writable_items_in, writable_pairs_in, InRange}
+use Rattle.bson_model.specs.Normal.{normal_form, writable_in, writable_items_in, writable_pairs_in, NumbersInRange}
 use Rattle.bson_model.specs.Normal.{ItemsInRange, PairsInRange}
 use Rattle.bson_model.specs.Written.{Written, WrittenIn, WrittenItems, WrittenItemsIn, WrittenDocument}
 use Rattle.bson_model.specs.Written.{WrittenDocumentIn}
@@ -24,7 +24,7 @@ both_true : (a b : Bool) → a ≡ true → b ≡ true → (a && b) ≡ true
 both_true a b h g = rw (h, g) refl
 
 mutual
-  pub all_writable : (v : Value) → InRange v → writable_in Finite v ≡ true
+  pub all_writable : (v : Value) → NumbersInRange v → writable_in Finite v ≡ true
   all_writable (model.scalar x) r = scalars.all_writable_is x r
   all_writable (code_scope s ps) r = pairs_writable ps r
   all_writable (model.array vs) r = items_writable vs r
@@ -73,6 +73,6 @@ mutual
   kept_pairs no_pairs ms h = h
   kept_pairs (pair k v ps) ms h = (h.0, h.1, kept v h.0 h.2, kept_pairs ps h.1 h.3, h.4)
 
-pub grammar_tree : (D : Doubles) (f : Form) (v : Value) (t : Data) → WrittenIn D f (normal_form v) t → InRange v
+pub grammar_tree : (D : Doubles) (f : Form) (v : Value) (t : Data) → WrittenIn D f (normal_form v) t → NumbersInRange v
     → IsTreeOfIn D f v t
 grammar_tree D f v t c r = tree_is D f v t (canon_to D f v t c) r

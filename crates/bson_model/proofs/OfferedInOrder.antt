@@ -1,6 +1,6 @@
 -- The laws that the crates above use, in each mode of doubles. No other file of these proofs is cited from outside.
 
--- ---- for readers: `reads_in_order` gives just what `MeansInOrder` says, part by part
+-- ---- for readers: `reads_tree_in_order` gives just what `MeansInOrder` says, part by part
 pub use Rattle.bson_model.proofs.Forgets.{forgets}
 pub use Rattle.bson_model.proofs.Forgetting.{read_forgotten, forgotten, put_forgotten}
 pub use Rattle.bson_model.proofs.KeptTrees.{read_is_kept}
@@ -9,7 +9,7 @@ pub use Rattle.bson_model.proofs.OrderedMeansLaws.{one_in_order, meant_in_order}
 pub use Rattle.bson_model.proofs.OrderedReadForm.{form, in_range, distinct}
 pub use Rattle.bson_model.proofs.SortedKeys.{same_wrapper}
 pub use Rattle.bson_model.proofs.TextMeaning.{text_means, meant_by_text}
--- ---- for writers: `writes_in_order` gives just what `WrittenInOrder` says, part by part
+-- ---- for writers: `writes_value_in_order` gives just what `WrittenInOrder` says, part by part
 pub use Rattle.bson_model.proofs.KeptTexts.{own_text, joined, joined_again, joined_none, put_last}
 pub use Rattle.bson_model.proofs.Options.{turned}
 pub use Rattle.bson_model.proofs.OrderedTexts.{ordered_text, comes_back, has_no_float}

@@ -34,13 +34,13 @@ module _ (D : Doubles) where
     pub means_in_order : {t : Data} {v : Value} → MeansIn D t v → IsTree t → MeansInOrder D t v
     means_in_order (by_default.scalar d x m) is = scalar d x (subst (λ u. MeansScalarIn D u x) (sym (settled d is)) m)
     means_in_order (by_default.code_with_scope s ms ps m) is = code_with_scope s ms ps (document_in_order m is.1.1.0.1)
-    means_in_order (by_default.array ds vs m) is = array ds vs (items_in_order m is)
+    means_in_order (by_default.array ds vs m) is = array ds vs (reads_items_in_order m is)
     means_in_order (by_default.document ms ps none m) is = document ms ps none (document_in_order m is.1)
 
-    items_in_order : {ds : Items} {vs : Values} → MeansItemsIn D ds vs → ItemsAreTrees ds → MeansItemsInOrder D ds vs
-    items_in_order by_default.nothing is = nothing
-    items_in_order (by_default.then d v ds vs m n) is =
-        then d v ds vs (means_in_order m is.0) (items_in_order n is.1)
+    reads_items_in_order : {ds : Items} {vs : Values} → MeansItemsIn D ds vs → ItemsAreTrees ds → MeansItemsInOrder D ds vs
+    reads_items_in_order by_default.nothing is = nothing
+    reads_items_in_order (by_default.then d v ds vs m n) is =
+        then d v ds vs (means_in_order m is.0) (reads_items_in_order n is.1)
 
     document_in_order : {ms : Members} {ps : Pairs} → MeansDocumentIn D ms ps → MembersAreTrees ms
         → MeansDocumentInOrder D ms ps

@@ -7,7 +7,7 @@ use Rattle.bson_scalar.specs.declared.form.Doubles.TheVariants.{Special, Finite}
 use Rattle.bson_scalar.specs.declared.form.Form.{Form}
 use Rattle.bson_scalar.specs.declared.form.Form.TheVariants.{Canonical}
 use Rattle.bson_scalar.proofs.Offered.{in_each}
-use Rattle.bson_model.specs.Normal.{InRange, normal_form}
+use Rattle.bson_model.specs.Normal.{NumbersInRange, normal_form}
 use Rattle.bson_model.specs.Value.{Value, code_scope, Values, no_values, value, Pairs, no_pairs, pair}
 use Rattle.bson_model.specs.Value as model
 use Rattle.bson_model.proofs.Offered.{all_writable}
@@ -18,7 +18,7 @@ use Rattle.bson_model.specs.OrderedWritten.{WrittenInOrder, WrittenItemsInOrder,
 use Rattle.bson_model.proofs.TextMeaning.{text_means}
 use Rattle.bson_model.proofs.OrderedWriteLaws.{writable_has_tree}
 
-pub always_written : (f : Form) (v : Value) → InRange v → (t : Data) × WrittenInOrder Finite f (normal_form v) t
+pub always_written : (f : Form) (v : Value) → NumbersInRange v → (t : Data) × WrittenInOrder Finite f (normal_form v) t
 always_written f v r = writable_has_tree Finite f v (all_writable v r)
 
 mutual

@@ -9,13 +9,13 @@ use Rattle.bson_scalar.specs.declared.form.Doubles.{Doubles}
 use Rattle.bson_scalar.proofs.Offered as scalars
 use Rattle.bson_model.specs.Laws.{IsReadFormIn}
 use Rattle.bson_model.specs.Normal.{plain_items, plain_keys, plain_values, writable_items_in, writable_pairs_in}
-use Rattle.bson_model.specs.Normal.{InRange, ItemsInRange, PairsInRange}
+use Rattle.bson_model.specs.Normal.{NumbersInRange, ItemsInRange, PairsInRange}
 use Rattle.bson_model.specs.Value.{Value, Values, Pairs}
 use Rattle.bson_model.specs.DistinctKeys.{has_pair, AllKeysDistinct, ItemKeysDistinct, PairKeysDistinct}
 use Rattle.bson_model.specs.OrderedTrees.{has_key, KeysDiffer, IsTreeInOrder, tree_sorted_by_key, ItemsAreTreesInOrder, MembersAreTreesInOrder}
 use Rattle.bson_model.specs.OrderedMeans.{MeansInOrder, scalar, code_with_scope, scope_with_code, array, document}
 use Rattle.bson_model.specs.OrderedMeans.{MeansItemsInOrder, nothing, then, MeansDocumentInOrder, empty, entry}
-use Rattle.bson_model.proofs.Scalars.{ranged}
+use Rattle.bson_model.proofs.Scalars.{within_type_range}
 use Rattle.bson_model.proofs.Settled.{kept_tree}
 
 module _ (D : Doubles) where
@@ -60,8 +60,8 @@ module _ (D : Doubles) where
   -- ---- in range
 
   mutual
-    pub in_range : {t : Data} {v : Value} → MeansInOrder D t v → IsTreeInOrder t → InRange v
-    in_range (scalar d x m) is = ranged D (tree_sorted_by_key d) x m (kept_tree d is)
+    pub in_range : {t : Data} {v : Value} → MeansInOrder D t v → IsTreeInOrder t → NumbersInRange v
+    in_range (scalar d x m) is = within_type_range D (tree_sorted_by_key d) x m (kept_tree d is)
     in_range (code_with_scope s ms ps m) is = document_range m is.1.1.0.1
     in_range (scope_with_code s ms ps m) is = document_range m is.1.0.1
     in_range (array ds vs m) is = items_range m is

@@ -13,7 +13,7 @@ use Rattle.bson_scalar.specs.declared.form.Doubles.TheVariants.{Special, Finite}
 use Rattle.bson_scalar.specs.declared.form.Form.{Form}
 use Rattle.bson_scalar.specs.declared.form.Form.TheVariants.{Canonical, Relaxed}
 use Rattle.bson_scalar.proofs.Offered as scalars
-use Rattle.bson_model.specs.Normal.{InRange, ItemsInRange, PairsInRange, normal_form, as_read_back, plain, map_scalars}
+use Rattle.bson_model.specs.Normal.{NumbersInRange, ItemsInRange, PairsInRange, normal_form, as_read_back, plain, map_scalars}
 use Rattle.bson_model.specs.Normal.{map_scalars_of_items, map_scalars_of_pairs}
 use Rattle.bson_model.specs.Value.{Value, scalar, code_scope, array, document, Values, no_values, value, Pairs}
 use Rattle.bson_model.specs.Value.{no_pairs, pair}
@@ -22,7 +22,7 @@ use Rattle.bson_model.specs.DistinctKeys.{has_pair, AllKeysDistinct, ItemKeysDis
 use Rattle.bson_model.specs.OrderedTrees.{has_key, KeysDiffer, IsTreeInOrder, ItemsAreTreesInOrder, MembersAreTreesInOrder}
 use Rattle.bson_model.specs.OrderedMeans.{MeansInOrder}
 use Rattle.bson_model.specs.OrderedTexts.{HasEqualTextsInOrder, HasMeaningInOrder, IsOrderedTextOf, ValueRoundTripsInOrder}
-use Rattle.bson_model.specs.OrderedWriting.{writes_in_order, values_in_order, pairs_in_order}
+use Rattle.bson_model.specs.OrderedWriting.{writes_value_in_order, writes_items_in_order, writes_pairs_in_order}
 use Rattle.bson_model.specs.OrderedWritten.{WrittenInOrder, WrittenItemsInOrder, WrittenDocumentInOrder}
 use Rattle.bson_model.proofs.KeptTexts.{own_text}
 use Rattle.bson_model.proofs.OrderedMeansLaws.{one_in_order}
@@ -39,7 +39,7 @@ module _ (D : Doubles) where
   same_keys f q (pair k v ps) ms h = ap (has_key q) h.4 ∙ ap (λ x. bytes_eq q k || x) (same_keys f q ps h.1 h.3)
 
   mutual
-    is_kept : (f : Form) (v : Value) (t : Data) → WrittenInOrder D f (normal_form v) t → InRange v → AllKeysDistinct v
+    is_kept : (f : Form) (v : Value) (t : Data) → WrittenInOrder D f (normal_form v) t → NumbersInRange v → AllKeysDistinct v
         → IsTreeInOrder t
     is_kept f (scalar x) t h r a = tree_kept t (is_tree D f x t h r)
     is_kept f (code_scope s ps) t h r a =
@@ -96,7 +96,7 @@ module _ (D : Doubles) where
     -- what keeps the tree of each scalar keeps the tree
     each_written : (f : Form) (g : Scalar → Scalar)
         → ((x : Scalar) → writes_scalar_in D f (g x) ≡ writes_scalar_in D f x)
-        → (v : Value) → writes_in_order D f (map_scalars g v) ≡ writes_in_order D f v
+        → (v : Value) → writes_value_in_order D f (map_scalars g v) ≡ writes_value_in_order D f v
     each_written f g k (scalar x) = k x
     each_written f g k (code_scope s ps) = rw (each_pair f g k ps) refl
     each_written f g k (array vs) = rw (each_item f g k vs) refl
@@ -104,19 +104,19 @@ module _ (D : Doubles) where
 
     each_item : (f : Form) (g : Scalar → Scalar)
         → ((x : Scalar) → writes_scalar_in D f (g x) ≡ writes_scalar_in D f x)
-        → (vs : Values) → values_in_order D f (map_scalars_of_items g vs) ≡ values_in_order D f vs
+        → (vs : Values) → writes_items_in_order D f (map_scalars_of_items g vs) ≡ writes_items_in_order D f vs
     each_item f g k no_values = refl
     each_item f g k (value v vs) = rw (each_written f g k v, each_item f g k vs) refl
 
     each_pair : (f : Form) (g : Scalar → Scalar)
         → ((x : Scalar) → writes_scalar_in D f (g x) ≡ writes_scalar_in D f x)
-        → (ps : Pairs) → pairs_in_order D f (map_scalars_of_pairs g ps) ≡ pairs_in_order D f ps
+        → (ps : Pairs) → writes_pairs_in_order D f (map_scalars_of_pairs g ps) ≡ writes_pairs_in_order D f ps
     each_pair f g k no_pairs = refl
     each_pair f g k (pair l v ps) = rw (each_written f g k v, each_pair f g k ps) refl
 
-  as_read_written : (f : Form) (v : Value) → writes_in_order D f (as_read_back f (normal_form v)) ≡ writes_in_order D f v
+  as_read_written : (f : Form) (v : Value) → writes_value_in_order D f (as_read_back f (normal_form v)) ≡ writes_value_in_order D f v
   as_read_written f v =
-      subst (λ w. writes_in_order D f w ≡ writes_in_order D f v) (as_read_each f (normal_form v))
+      subst (λ w. writes_value_in_order D f w ≡ writes_value_in_order D f v) (as_read_each f (normal_form v))
       (each_written f (scalar_as_read_back f) (scalars.as_read_written D f) (normal_form v)
       ∙ each_written f normal_scalar (scalars.nf_written D f) v)
 
@@ -124,7 +124,7 @@ module _ (D : Doubles) where
 
   -- one text only where the normal forms are equal, and there always
   equal_texts : (f : Form) (v : Value) (t : Data) (w : Value) (u : Data) → WrittenInOrder D f (normal_form v) t
-      → plain v ≡ true → InRange v → AllKeysDistinct v → HasEqualTextsInOrder D f v t w u
+      → plain v ≡ true → NumbersInRange v → AllKeysDistinct v → HasEqualTextsInOrder D f v t w u
   equal_texts f v t w u h p r a q s b g =
       let kept_t = is_kept D f v t h r a in
       let kept_u = is_kept D f w u g s b in (
@@ -132,18 +132,18 @@ module _ (D : Doubles) where
             one_in_order D t _ _ kept_t (back_as_read D f v t h p r)
             (subst (λ d. MeansInOrder D d (as_read_back f (normal_form w))) (sym one) (back_as_read D f w u g q s)),
         λ e. ap (tree_text D f) (un_ok _ _ (sym (written_to D f w u g) ∙ sym (as_read_written f w)
-            ∙ ap (writes_in_order D f) (sym e) ∙ as_read_written f v ∙ written_to D f v t h)),
+            ∙ ap (writes_value_in_order D f) (sym e) ∙ as_read_written f v ∙ written_to D f v t h)),
       )
 
   pub ordered_text : (f : Form) (v : Value) (t : Data) → WrittenInOrder D f (normal_form v) t → plain v ≡ true
-      → InRange v → AllKeysDistinct v → IsOrderedTextOf D f v t
+      → NumbersInRange v → AllKeysDistinct v → IsOrderedTextOf D f v t
   ordered_text f v t h p r a = record {
     written = h;
     one = λ u g. one_written D f v t u h g;
     means = back_as_read D f v t h p r;
     own_text = own_text D f t (has_no_float D f v t h) (is_kept D f v t h r a);
     by_default = default_written D f v t h r;
-    equal = λ w u. equal_texts f v t w u h p r a;
+    equal_texts = λ w u. equal_texts f v t w u h p r a;
   }
 
   -- ---- what is read
@@ -151,4 +151,4 @@ module _ (D : Doubles) where
   pub comes_back : (v : Value) (text : List ℕ) → HasMeaningInOrder D text v → ValueRoundTripsInOrder D v
   comes_back v text m f =
       let it = writable_has_tree D f v m.read_form.1 in
-      (it.0, ordered_text f v it.0 it.1 m.read_form.0 m.ranged m.distinct)
+      (it.0, ordered_text f v it.0 it.1 m.read_form.0 m.within_type_range m.distinct)

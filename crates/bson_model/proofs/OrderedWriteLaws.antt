@@ -16,7 +16,7 @@ use Rattle.bson_scalar.specs.declared.form.Form.{Form}
 use Rattle.bson_scalar.proofs.Offered as scalars
 use Rattle.bson_model.specs.Normal.{normal_form, map_scalars, map_scalars_of_items, map_scalars_of_pairs, as_read_back}
 use Rattle.bson_model.specs.Normal.{plain, plain_items, plain_keys, plain_values, writable_in}
-use Rattle.bson_model.specs.Normal.{writable_items_in, writable_pairs_in, InRange, ItemsInRange, PairsInRange}
+use Rattle.bson_model.specs.Normal.{writable_items_in, writable_pairs_in, NumbersInRange, ItemsInRange, PairsInRange}
 use Rattle.bson_model.specs.Value.{Value, scalar, code_scope, array, document, Values, no_values, value, Pairs}
 use Rattle.bson_model.specs.Value.{no_pairs, pair}
 use Rattle.bson_model.specs.Writing.{with_scope}
@@ -25,7 +25,7 @@ use Rattle.bson_model.proofs.Offered.{as_read_each, bind_ok, un_ok}
 use Rattle.bson_model.specs.OrderedTrees.{tree_sorted_by_key, items_sorted_by_key, members_sorted_by_key}
 use Rattle.bson_model.specs.OrderedMeans.{MeansInOrder, MeansItemsInOrder, MeansDocumentInOrder}
 use Rattle.bson_model.specs.OrderedMeans as means
-use Rattle.bson_model.specs.OrderedWriting.{writes_in_order, values_in_order, pairs_in_order}
+use Rattle.bson_model.specs.OrderedWriting.{writes_value_in_order, writes_items_in_order, writes_pairs_in_order}
 use Rattle.bson_model.specs.OrderedWritten.{WrittenInOrder, WrittenItemsInOrder, WrittenDocumentInOrder}
 use Rattle.bson_model.proofs.Scalars.{is_tree, reads_back}
 use Rattle.bson_model.proofs.Settled.{settled}
@@ -34,47 +34,47 @@ module _ (D : Doubles) where
   -- ---- the function and the grammar
 
   mutual
-    pub written_from : (f : Form) (v : Value) (t : Data) → writes_in_order D f v ≡ Ok t
+    pub written_from : (f : Form) (v : Value) (t : Data) → writes_value_in_order D f v ≡ Ok t
         → WrittenInOrder D f (normal_form v) t
     written_from f (scalar x) t h = scalars.written_from D f x t h
     written_from f (code_scope s ps) t h =
-        let b = bind_ok (pairs_in_order D f ps) _ t h in (b.0, pairs_from f ps b.0 b.1, un_ok _ _ b.2)
+        let b = bind_ok (writes_pairs_in_order D f ps) _ t h in (b.0, pairs_from f ps b.0 b.1, un_ok _ _ b.2)
     written_from f (array vs) t h =
-        let b = bind_ok (values_in_order D f vs) _ t h in (b.0, items_from f vs b.0 b.1, un_ok _ _ b.2)
+        let b = bind_ok (writes_items_in_order D f vs) _ t h in (b.0, items_from f vs b.0 b.1, un_ok _ _ b.2)
     written_from f (document ps) t h =
-        let b = bind_ok (pairs_in_order D f ps) _ t h in (b.0, pairs_from f ps b.0 b.1, un_ok _ _ b.2)
+        let b = bind_ok (writes_pairs_in_order D f ps) _ t h in (b.0, pairs_from f ps b.0 b.1, un_ok _ _ b.2)
 
-    pub items_from : (f : Form) (vs : Values) (ds : Items) → values_in_order D f vs ≡ Ok ds
+    pub items_from : (f : Form) (vs : Values) (ds : Items) → writes_items_in_order D f vs ≡ Ok ds
         → WrittenItemsInOrder D f (map_scalars_of_items normal_scalar vs) ds
     items_from f no_values ds h = un_ok _ _ h
     items_from f (value v vs) ds h =
-        let b = bind_ok (writes_in_order D f v) _ ds h in
-        let c = bind_ok (values_in_order D f vs) _ ds b.2 in
+        let b = bind_ok (writes_value_in_order D f v) _ ds h in
+        let c = bind_ok (writes_items_in_order D f vs) _ ds b.2 in
         (b.0, c.0, written_from f v b.0 b.1, items_from f vs c.0 c.1, un_ok _ _ c.2)
 
-    pub pairs_from : (f : Form) (ps : Pairs) (ms : Members) → pairs_in_order D f ps ≡ Ok ms
+    pub pairs_from : (f : Form) (ps : Pairs) (ms : Members) → writes_pairs_in_order D f ps ≡ Ok ms
         → WrittenDocumentInOrder D f (map_scalars_of_pairs normal_scalar ps) ms
     pairs_from f no_pairs ms h = un_ok _ _ h
     pairs_from f (pair k v ps) ms h =
-        let b = bind_ok (writes_in_order D f v) _ ms h in
-        let c = bind_ok (pairs_in_order D f ps) _ ms b.2 in
+        let b = bind_ok (writes_value_in_order D f v) _ ms h in
+        let c = bind_ok (writes_pairs_in_order D f ps) _ ms b.2 in
         (b.0, c.0, written_from f v b.0 b.1, pairs_from f ps c.0 c.1, un_ok _ _ c.2)
 
   mutual
     pub written_to : (f : Form) (v : Value) (t : Data) → WrittenInOrder D f (normal_form v) t
-        → writes_in_order D f v ≡ Ok t
+        → writes_value_in_order D f v ≡ Ok t
     written_to f (scalar x) t h = scalars.written_to D f x t h
     written_to f (code_scope s ps) t h = rw (pairs_to f ps h.0 h.1) (ap Ok (sym h.2))
     written_to f (array vs) t h = rw (items_to f vs h.0 h.1) (ap Ok (sym h.2))
     written_to f (document ps) t h = rw (pairs_to f ps h.0 h.1) (ap Ok (sym h.2))
 
     pub items_to : (f : Form) (vs : Values) (ds : Items)
-        → WrittenItemsInOrder D f (map_scalars_of_items normal_scalar vs) ds → values_in_order D f vs ≡ Ok ds
+        → WrittenItemsInOrder D f (map_scalars_of_items normal_scalar vs) ds → writes_items_in_order D f vs ≡ Ok ds
     items_to f no_values ds h = ap Ok (sym h)
     items_to f (value v vs) ds h = rw (written_to f v h.0 h.2, items_to f vs h.1 h.3) (ap Ok (sym h.4))
 
     pub pairs_to : (f : Form) (ps : Pairs) (ms : Members)
-        → WrittenDocumentInOrder D f (map_scalars_of_pairs normal_scalar ps) ms → pairs_in_order D f ps ≡ Ok ms
+        → WrittenDocumentInOrder D f (map_scalars_of_pairs normal_scalar ps) ms → writes_pairs_in_order D f ps ≡ Ok ms
     pairs_to f no_pairs ms h = ap Ok (sym h)
     pairs_to f (pair k v ps) ms h = rw (written_to f v h.0 h.2, pairs_to f ps h.1 h.3) (ap Ok (sym h.4))
 
@@ -95,21 +95,21 @@ module _ (D : Doubles) where
   ok_both (Err e) q f = refl
 
   mutual
-    pub writable_is : (f : Form) (v : Value) → is_ok (writes_in_order D f v) ≡ writable_in D v
+    pub writable_is : (f : Form) (v : Value) → is_ok (writes_value_in_order D f v) ≡ writable_in D v
     writable_is f (scalar x) = scalars.writable_is D f x
-    writable_is f (code_scope s ps) = ok_bind (pairs_in_order D f ps) (with_scope s) ∙ pairs_writable f ps
-    writable_is f (array vs) = ok_bind (values_in_order D f vs) tree.array ∙ items_writable f vs
-    writable_is f (document ps) = ok_bind (pairs_in_order D f ps) tree.object ∙ pairs_writable f ps
+    writable_is f (code_scope s ps) = ok_bind (writes_pairs_in_order D f ps) (with_scope s) ∙ pairs_writable f ps
+    writable_is f (array vs) = ok_bind (writes_items_in_order D f vs) tree.array ∙ items_writable f vs
+    writable_is f (document ps) = ok_bind (writes_pairs_in_order D f ps) tree.object ∙ pairs_writable f ps
 
-    items_writable : (f : Form) (vs : Values) → is_ok (values_in_order D f vs) ≡ writable_items_in D vs
+    items_writable : (f : Form) (vs : Values) → is_ok (writes_items_in_order D f vs) ≡ writable_items_in D vs
     items_writable f no_values = refl
     items_writable f (value v vs) =
-        ok_both (writes_in_order D f v) (values_in_order D f vs) item ∙ rw (writable_is f v, items_writable f vs) refl
+        ok_both (writes_value_in_order D f v) (writes_items_in_order D f vs) item ∙ rw (writable_is f v, items_writable f vs) refl
 
-    pairs_writable : (f : Form) (ps : Pairs) → is_ok (pairs_in_order D f ps) ≡ writable_pairs_in D ps
+    pairs_writable : (f : Form) (ps : Pairs) → is_ok (writes_pairs_in_order D f ps) ≡ writable_pairs_in D ps
     pairs_writable f no_pairs = refl
     pairs_writable f (pair k v ps) =
-        ok_both (writes_in_order D f v) (pairs_in_order D f ps) (member k)
+        ok_both (writes_value_in_order D f v) (writes_pairs_in_order D f ps) (member k)
         ∙ rw (writable_is f v, pairs_writable f ps) refl
 
   tree_of : (r : Result Data WriteFault) → is_ok r ≡ true → (t : Data) × (r ≡ Ok t)
@@ -119,17 +119,17 @@ module _ (D : Doubles) where
   pub writable_has_tree : (f : Form) (v : Value) → writable_in D v ≡ true
       → (t : Data) × WrittenInOrder D f (normal_form v) t
   writable_has_tree f v w =
-      let it = tree_of (writes_in_order D f v) (writable_is f v ∙ w) in (it.0, written_from f v it.0 it.1)
+      let it = tree_of (writes_value_in_order D f v) (writable_is f v ∙ w) in (it.0, written_from f v it.0 it.1)
 
   -- ---- with the order forgotten
 
   -- the tree of a scalar has no order to forget
-  scalar_settled : (f : Form) (x : Scalar) (t : Data) → WrittenScalarIn D f (normal_scalar x) t → InRange (scalar x)
+  scalar_settled : (f : Form) (x : Scalar) (t : Data) → WrittenScalarIn D f (normal_scalar x) t → NumbersInRange (scalar x)
       → tree_sorted_by_key t ≡ t
   scalar_settled f x t h r = settled t (is_tree D f x t h r)
 
   mutual
-    pub default_written : (f : Form) (v : Value) (t : Data) → WrittenInOrder D f (normal_form v) t → InRange v
+    pub default_written : (f : Form) (v : Value) (t : Data) → WrittenInOrder D f (normal_form v) t → NumbersInRange v
         → WrittenIn D f (normal_form v) (tree_sorted_by_key t)
     default_written f (scalar x) t h r =
         subst (WrittenScalarIn D f (normal_scalar x)) (sym (scalar_settled f x t h r)) h
@@ -176,14 +176,14 @@ module _ (D : Doubles) where
       let q = and_parts _ _ p in
       ap has_wrapper h.4 ∙ or_from _ _ (no_wrapper (wrapper_of k) q.0) (keys_plain f ps h.1 h.3 q.1)
 
-  scalar_back : (f : Form) (x : Scalar) (t : Data) → WrittenScalarIn D f (normal_scalar x) t → InRange (scalar x)
+  scalar_back : (f : Form) (x : Scalar) (t : Data) → WrittenScalarIn D f (normal_scalar x) t → NumbersInRange (scalar x)
       → MeansInOrder D t (scalar (scalar_as_read_back f (normal_scalar x)))
   scalar_back f x t h r =
       let y = scalar_as_read_back f (normal_scalar x) in
       means.scalar t y (subst (λ u. MeansScalarIn D u y) (sym (scalar_settled f x t h r)) (reads_back D f x t h r))
 
   mutual
-    back : (f : Form) (v : Value) (t : Data) → WrittenInOrder D f (normal_form v) t → plain v ≡ true → InRange v
+    back : (f : Form) (v : Value) (t : Data) → WrittenInOrder D f (normal_form v) t → plain v ≡ true → NumbersInRange v
         → MeansInOrder D t (map_scalars (scalar_as_read_back f) (normal_form v))
     back f (scalar x) t h p r = scalar_back f x t h r
     back f (code_scope s ps) t h p r = rw h.2 (means.code_with_scope s h.0 _ (pairs_back f ps h.0 h.1 p r))
@@ -210,5 +210,5 @@ module _ (D : Doubles) where
         rw h.4 (means.entry k h.0 _ h.1 _ (back f v h.0 h.2 q.0 r.0) (pairs_back f ps h.1 h.3 q.1 r.1))
 
   pub back_as_read : (f : Form) (v : Value) (t : Data) → WrittenInOrder D f (normal_form v) t → plain v ≡ true
-      → InRange v → MeansInOrder D t (as_read_back f (normal_form v))
+      → NumbersInRange v → MeansInOrder D t (as_read_back f (normal_form v))
   back_as_read f v t h p r = subst (MeansInOrder D t) (as_read_each f (normal_form v)) (back f v t h p r)

@@ -1,5 +1,5 @@
--- In a list with ascending keys, two entries of different keys may be put in either order. `put` is any such
--- insertion: it says where an entry goes, by the first one that is there.
+-- In a list with ascending keys, two entries of different keys may be inserted in either order. `put` is any such
+-- insertion: it says where an entry is inserted, by the first one that is there.
 use Rattle.std.proofs.Common.{◌≡◌, ℕ, List, Ordering, Less, Equal, Greater, nat_cmp, refl, sym, ap, ◌∙◌, subst}
 use Rattle.std.specs.Cmp.Lexicographic.{slice_cmp}
 use Rattle.std.specs.Ordering.{match_ordering, ordering_reverse, is_eq}

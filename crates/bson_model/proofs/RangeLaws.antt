@@ -10,13 +10,13 @@ use Rattle.bson_scalar.specs.Means.{number_double, binary, uuid, timestamp, date
 use Rattle.bson_scalar.specs.Means.{date_of_number, db_pointer}
 use Rattle.bson_scalar.specs.Normal.{ScalarInRange}
 use Rattle.bson_scalar.specs.Scalar.{Scalar}
-use Rattle.bson_scalar.specs.TreeParts.{small_number, i64_at}
+use Rattle.bson_scalar.specs.TreeParts.{number_as_u32, i64_at}
 use Rattle.bson_scalar.proofs.Offered.{subtype_byte-of, finite_range}
 use Rattle.bson_model.specs.Value.{Value, Values, Pairs}
 use Rattle.bson_model.specs.Means.{MeansIn, scalar, code_with_scope, array, document, MeansItemsIn, nothing, then}
 use Rattle.bson_model.specs.Means.{MeansDocumentIn, empty, entry}
 use Rattle.bson_model.specs.Texts.{NumberFits, IsTree, ItemsAreTrees, MembersAreTrees}
-use Rattle.bson_model.specs.Normal.{InRange, ItemsInRange, PairsInRange}
+use Rattle.bson_model.specs.Normal.{NumbersInRange, ItemsInRange, PairsInRange}
 use Rattle.bson_types.proofs.Offered.{hex_bytes, sized_to}
 use Rattle.bson_datetime.proofs.Offered.{named_fits}
 use Rattle.bson_scalar.specs.declared.form.Doubles.{Doubles}
@@ -40,7 +40,7 @@ whole_fits (negative (pos n)) z t h = absurd t
 whole_fits (negative (negsuc n)) z t h = subst (FitsSigned w64) (un_some _ _ h) (record { sfits = t })
 whole_fits (float x) z t h = absurd cc
 
-small_range : (o : Option ℤ) (m : ℕ) → small_number o ≡ Some m → m < 2 ^ 32
+small_range : (o : Option ℤ) (m : ℕ) → number_as_u32 o ≡ Some m → m < 2 ^ 32
 small_range (Some (pos n)) m h = let g = guarded _ n m h in subst (λ k. k < 2 ^ 32) g.1 (ltb-true n (2 ^ 32) g.0)
 small_range (Some (negsuc n)) m h = absurd cc
 small_range None m h = absurd cc
@@ -90,7 +90,7 @@ module _ (D : Doubles) where
   -- ---- values
 
   mutual
-    pub in_range : {t : Data} {v : Value} → MeansIn D t v → IsTree t → InRange v
+    pub in_range : {t : Data} {v : Value} → MeansIn D t v → IsTree t → NumbersInRange v
     in_range (scalar d x m) is = range_in D d x m is
     in_range (code_with_scope s ms ps m) is = document_range m is.1.1.0.1
     in_range (array ds vs m) is = items_range m is

@@ -14,7 +14,7 @@ use Rattle.serde_json.specs.Data.{member, put}
 use Rattle.serde_json.specs.Data as tree
 use Rattle.serde_json.specs.Read.{is_integer, float_of, number_from, number_of, of_json, of_items, of_members}
 use Rattle.serde_json.specs.Read.{max_depth, read}
-use Rattle.bson_model.specs.Texts.{NumberFits, Ascends, IsTree, ItemsAreTrees, MembersAreTrees}
+use Rattle.bson_model.specs.Texts.{NumberFits, MemberKeysAscend, IsTree, ItemsAreTrees, MembersAreTrees}
 use Rattle.bson_model.proofs.TreeLaws.{ascends_put, trees_put}
 
 un_some : {A : Type 0} (x y : A) → Some x ≡ Some y → x ≡ y
@@ -97,9 +97,9 @@ mutual
       let m = mapped (item a.0) (of_items js) ds a.2 in
       subst ItemsAreTrees m.2 (json_tree j a.0 a.1, json_items js m.0 m.1)
 
-  json_members : (ms : json.Members) (found out : Members) → Ascends found → MembersAreTrees found
-      → of_members ms found ≡ Some out → Ascends out × MembersAreTrees out
-  json_members json.no_members found out up are h = subst (λ m. Ascends m × MembersAreTrees m) (un_some _ _ h) (up, are)
+  json_members : (ms : json.Members) (found out : Members) → MemberKeysAscend found → MembersAreTrees found
+      → of_members ms found ≡ Some out → MemberKeysAscend out × MembersAreTrees out
+  json_members json.no_members found out up are h = subst (λ m. MemberKeysAscend m × MembersAreTrees m) (un_some _ _ h) (up, are)
   json_members (json.member k j ms) found out up are h =
       let a = after (λ d. of_members ms (put k d found)) (of_json j) out h in
       json_members ms (put k a.0 found) out (ascends_put k a.0 found up)

@@ -15,8 +15,8 @@ use Rattle.bson_model.specs.Value.{scalar}
 use Rattle.bson_model.proofs.Offered.{has_text_in, in_range_in}
 
 module _ (D : Doubles) where
-  pub ranged : (t : Data) (x : Scalar) → MeansScalarIn D t x → IsTree t → ScalarInRange x
-  ranged t x m is = let means : MeansIn D t (scalar x) = by_default.scalar t x m in in_range_in D means is
+  pub within_type_range : (t : Data) (x : Scalar) → MeansScalarIn D t x → IsTree t → ScalarInRange x
+  within_type_range t x m is = let means : MeansIn D t (scalar x) = by_default.scalar t x m in in_range_in D means is
 
   pub is_tree : (f : Form) (x : Scalar) (t : Data) → WrittenScalarIn D f (normal_scalar x) t → ScalarInRange x
       → IsTree t

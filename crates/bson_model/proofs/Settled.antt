@@ -7,7 +7,7 @@ use Rattle.std.specs.Ordering.{nat_cmp}
 use Rattle.std.specs.Str.{bytes_eq}
 use Rattle.serde_json.specs.Data.{Data, Items, no_items, item, Members, no_members, member, put}
 use Rattle.serde_json.specs.Data as tree
-use Rattle.bson_model.specs.Texts.{IsTree, ItemsAreTrees, MembersAreTrees, IsBelow, Ascends}
+use Rattle.bson_model.specs.Texts.{IsTree, ItemsAreTrees, MembersAreTrees, IsBelowMemberKeys, MemberKeysAscend}
 use Rattle.bson_model.proofs.Offered.{ascends_put, trees_put}
 use Rattle.bson_model.specs.OrderedTrees.{tree_sorted_by_key, items_sorted_by_key, members_sorted_by_key, has_key, KeysDiffer, IsTreeInOrder}
 use Rattle.bson_model.specs.OrderedTrees.{ItemsAreTreesInOrder, MembersAreTreesInOrder}
@@ -18,7 +18,7 @@ cmp k l = slice_cmp nat_cmp k l
 
 -- ---- a tree whose keys ascend has no other order
 
-put_least : (k : List ℕ) (d : Data) (ms : Members) → IsBelow k ms → put k d ms ≡ member k d ms
+put_least : (k : List ℕ) (d : Data) (ms : Members) → IsBelowMemberKeys k ms → put k d ms ≡ member k d ms
 put_least k d no_members h = refl
 put_least k d (member l e ms) h = rw h.0 refl
 
@@ -35,7 +35,7 @@ mutual
   items_settled no_items h = refl
   items_settled (item d ds) h = rw (settled d h.0, items_settled ds h.1) refl
 
-  members_settled : (ms : Members) → Ascends ms → MembersAreTrees ms → members_sorted_by_key ms ≡ ms
+  members_settled : (ms : Members) → MemberKeysAscend ms → MembersAreTrees ms → members_sorted_by_key ms ≡ ms
   members_settled no_members up h = refl
   members_settled (member k d ms) up h = rw (settled d h.0, members_settled ms up.1 h.1) (put_least k d ms up.0)
 
@@ -47,7 +47,7 @@ apart_at true k l e h =
     let less : cmp k k ≡ Less = subst (λ q. cmp k q ≡ Less) (sym (same_bytes k l e)) h in
     let tied : cmp k k ≡ Equal = tied_itself nat_list_cmp_total k in cc
 
-below_new : (k : List ℕ) (ms : Members) → IsBelow k ms → has_key k ms ≡ false
+below_new : (k : List ℕ) (ms : Members) → IsBelowMemberKeys k ms → has_key k ms ≡ false
 below_new k no_members h = refl
 below_new k (member l d ms) h =
     or_from (bytes_eq k l) (has_key k ms) (apart_at (bytes_eq k l) k l refl h.0) (below_new k ms h.1)
@@ -65,7 +65,7 @@ mutual
   items_kept no_items h = tt
   items_kept (item d ds) h = (tree_kept d h.0, items_kept ds h.1)
 
-  members_differ : (ms : Members) → Ascends ms → KeysDiffer ms
+  members_differ : (ms : Members) → MemberKeysAscend ms → KeysDiffer ms
   members_differ no_members h = tt
   members_differ (member k d ms) h = (below_new k ms h.0, members_differ ms h.1)
 
@@ -89,7 +89,7 @@ mutual
   kept_items (item d ds) h = (kept_tree d h.0, kept_items ds h.1)
 
   kept_members : (ms : Members) → MembersAreTreesInOrder ms
-      → Ascends (members_sorted_by_key ms) × MembersAreTrees (members_sorted_by_key ms)
+      → MemberKeysAscend (members_sorted_by_key ms) × MembersAreTrees (members_sorted_by_key ms)
   kept_members no_members h = (tt, tt)
   kept_members (member k d ms) h =
       let rest = kept_members ms h.1 in (

@@ -1,4 +1,4 @@
--- Pairs may be put in any order in which those of each key keep their turns.
+-- Pairs may be inserted in any order in which those of each key keep their turns.
 use Rattle.std.proofs.Common.{◌≡◌, ℕ, List, [], ◌∷◌, ◌++◌, Bool, true, false, cond, Ordering, Less, refl, sym, ap, ◌∙◌, subst}
 use Rattle.std.proofs.lemmas.Cmp.{tied_itself}
 use Rattle.std.proofs.lemmas.Slice.Eq.{bytes_eq-Decides}
@@ -113,7 +113,7 @@ module _ {M : Type 0} (key_of : M → List ℕ) where
       sym (filter_within (twins m) (ties lt m) ns tied) ∙ ap (filter (twins m)) (stable m)
       ∙ filter_within (twins m) (ties lt m) ms tied
 
-  -- ---- put one after another
+  -- ---- inserted one after another
 
   module _ (value_of : M → Value) where
     abbrev put : List M → Pairs → Pairs
@@ -125,7 +125,7 @@ module _ {M : Type 0} (key_of : M → List ℕ) where
     abbrev put_one : M → Pairs → Pairs
     put_one m ps = insert_sorted_pair (key_of m) (value_of m) ps
 
-    -- the first of a key may be put before all others
+    -- the first of a key may be inserted before all others
     first_at : (b : Bool) (m n : M) (ns ms : List M) (ps : Pairs) → twins m n ≡ b
         → filter (twins m) (n ∷ ns) ≡ m ∷ ms
         → ((qs : Pairs) → filter (twins m) ns ≡ m ∷ ms → put ns qs ≡ put (without m ns) (put_one m qs))
@@ -160,7 +160,7 @@ module _ {M : Type 0} (key_of : M → List ℕ) where
     above k v [] ps least = refl
     above k v (m ∷ ms) ps least = rw (flipped k (key_of m) Less least.0) (above k v ms (put_one m ps) least.1)
 
-    -- members in ascending order are put unchanged
+    -- members in ascending order are inserted unchanged
     pub put_ascending : (ms : List M) → KeysAscend (as_pairs ms) → put ms no_pairs ≡ as_pairs ms
     put_ascending [] up = refl
     put_ascending (m ∷ ms) up =

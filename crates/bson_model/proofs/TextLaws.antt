@@ -17,7 +17,7 @@ use Rattle.bson_scalar.specs.TreeText.{tree_text}
 use Rattle.bson_scalar.specs.declared.form.Doubles.{Doubles}
 use Rattle.bson_scalar.specs.declared.form.Form.{Form}
 use Rattle.bson_scalar.proofs.Offered.{float_is_number, float_is_read, text_is}
-use Rattle.bson_model.specs.Texts.{NumberFits, IsBelow, Ascends, IsTree, ItemsAreTrees, MembersAreTrees, TextReadsBackIn}
+use Rattle.bson_model.specs.Texts.{NumberFits, IsBelowMemberKeys, MemberKeysAscend, IsTree, ItemsAreTrees, MembersAreTrees, TextReadsBackIn}
 use Rattle.bson_model.proofs.PutSwap.{cmp, flipped}
 
 -- ---- the tokens of the text are those of the tree
@@ -75,12 +75,12 @@ joined_none no_members = refl
 joined_none (member l e found) = ap (member l e) (joined_none found)
 
 below_key : (l : List ℕ) (found : Members) (k : List ℕ) (d : Data) (ms : Members)
-    → IsBelow l (joined found (member k d ms)) → cmp l k ≡ Less
+    → IsBelowMemberKeys l (joined found (member k d ms)) → cmp l k ≡ Less
 below_key l no_members k d ms h = h.0
 below_key l (member a e found) k d ms h = below_key l found k d ms h.1
 
--- a key above all others goes last
-put_last : (found : Members) (k : List ℕ) (d : Data) (ms : Members) → Ascends (joined found (member k d ms))
+-- a key above all others becomes the last
+put_last : (found : Members) (k : List ℕ) (d : Data) (ms : Members) → MemberKeysAscend (joined found (member k d ms))
     → put k d found ≡ joined found (member k d no_members)
 put_last no_members k d ms h = refl
 put_last (member l e found) k d ms h =
@@ -107,14 +107,14 @@ mutual
   items_back no_items t = refl
   items_back (item d ds) t = rw (data_back d t.0, items_back ds t.1) refl
 
-  members_back : (ms found : Members) → Ascends (joined found ms) → MembersAreTrees ms
+  members_back : (ms found : Members) → MemberKeysAscend (joined found ms) → MembersAreTrees ms
       → of_members (json_of_members ms) found ≡ Some (joined found ms)
   members_back no_members found up t = ap Some (sym (joined_none found))
   members_back (member k d ms) found up t =
       let last = put_last found k d ms up in
       let again = joined_again found k d ms in
       rw (data_back d t.0, last)
-      (members_back ms (joined found (member k d no_members)) (subst Ascends (sym again) up) t.1
+      (members_back ms (joined found (member k d no_members)) (subst MemberKeysAscend (sym again) up) t.1
       ∙ ap Some again)
 
 -- the tree that a text is, nested no deeper than n

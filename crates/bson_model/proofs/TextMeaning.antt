@@ -33,7 +33,7 @@ module _ (D : Doubles) where
         means = m;
         one = λ w n. one_in_order D t w v is n m;
         read_form = form D m;
-        ranged = in_range D m is;
+        within_type_range = in_range D m is;
         distinct = distinct D m is;
         by_default = default_meaning text t v h m;
       }

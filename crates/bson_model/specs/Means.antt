@@ -5,7 +5,7 @@ use Rattle.serde_json.specs.Data.{Data, Items, no_items, item, Members, no_membe
 use Rattle.serde_json.specs.Data as tree
 use Rattle.bson_scalar.specs.Means.{MeansScalarIn}
 use Rattle.bson_scalar.specs.Scalar.{Scalar}
-use Rattle.bson_scalar.specs.TreeParts.{object_of_two}
+use Rattle.bson_scalar.specs.TreeParts.{two_key_object}
 use Rattle.bson_scalar.specs.Table.{has_wrapper}
 use Rattle.bson_model.specs.Value.{Value, code_scope, Values, no_values, value, Pairs, no_pairs, pair}
 use Rattle.bson_model.specs.Value as model
@@ -15,23 +15,31 @@ use Rattle.bson_scalar.specs.declared.form.Doubles.TheVariants.{Special}
 mutual
   -- the tree means the value
   pub data MeansIn (doubles : Doubles) : Data → Value → Type 0 where
-    scalar : (d : Data) (x : Scalar) → MeansScalarIn doubles d x → MeansIn doubles d (model.scalar x)
-    code_with_scope : (s : List ℕ) (ms : Members) (ps : Pairs) → MeansDocumentIn doubles ms ps
-        → MeansIn doubles (object_of_two (codes "$code") (tree.string s) (codes "$scope") (tree.object ms)) (code_scope s ps)
-    array : (ds : Items) (vs : Values) → MeansItemsIn doubles ds vs → MeansIn doubles (tree.array ds) (model.array vs)
-    document : (ms : Members) (ps : Pairs) → has_wrapper ms ≡ false → MeansDocumentIn doubles ms ps
-        → MeansIn doubles (tree.object ms) (model.document ps)
+    scalar : (subtree : Data) (scalar_value : Scalar) → MeansScalarIn doubles subtree scalar_value
+        → MeansIn doubles subtree (model.scalar scalar_value)
+    code_with_scope : (code_text : List ℕ) (member_list : Members) (pair_list : Pairs)
+        → MeansDocumentIn doubles member_list pair_list
+        → MeansIn doubles
+        (two_key_object (codes "$code") (tree.string code_text) (codes "$scope") (tree.object member_list))
+        (code_scope code_text pair_list)
+    array : (item_list : Items) (value_list : Values) → MeansItemsIn doubles item_list value_list
+        → MeansIn doubles (tree.array item_list) (model.array value_list)
+    document : (member_list : Members) (pair_list : Pairs) → has_wrapper member_list ≡ false
+        → MeansDocumentIn doubles member_list pair_list
+        → MeansIn doubles (tree.object member_list) (model.document pair_list)
 
   pub data MeansItemsIn (doubles : Doubles) : Items → Values → Type 0 where
     nothing : MeansItemsIn doubles no_items no_values
-    then : (d : Data) (v : Value) (ds : Items) (vs : Values) → MeansIn doubles d v → MeansItemsIn doubles ds vs
-        → MeansItemsIn doubles (item d ds) (value v vs)
+    then : (subtree : Data) (bson_value : Value) (item_list : Items) (value_list : Values)
+        → MeansIn doubles subtree bson_value → MeansItemsIn doubles item_list value_list
+        → MeansItemsIn doubles (item subtree item_list) (value bson_value value_list)
 
   -- the keys of the map in its order, each with the meaning of its value; the keys are not tested
   pub data MeansDocumentIn (doubles : Doubles) : Members → Pairs → Type 0 where
     empty : MeansDocumentIn doubles no_members no_pairs
-    entry : (k : List ℕ) (d : Data) (v : Value) (ms : Members) (ps : Pairs) → MeansIn doubles d v → MeansDocumentIn doubles ms ps
-        → MeansDocumentIn doubles (member k d ms) (pair k v ps)
+    entry : (key_text : List ℕ) (subtree : Data) (bson_value : Value) (member_list : Members) (pair_list : Pairs)
+        → MeansIn doubles subtree bson_value → MeansDocumentIn doubles member_list pair_list
+        → MeansDocumentIn doubles (member key_text subtree member_list) (pair key_text bson_value pair_list)
 
 abbrev pub Means : Data → Value → Type 0
 Means = MeansIn Special

@@ -13,86 +13,91 @@ use Rattle.bson_scalar.specs.declared.form.Doubles.TheVariants.{Special}
 -- ---- the normal form
 
 abbrev mutual
-  -- the value with g of each value in it that holds no other
-  pub map_scalars : (Scalar → Scalar) → Value → Value
-  map_scalars g (scalar x) = scalar (g x)
-  map_scalars g (code_scope s ps) = code_scope s (map_scalars_of_pairs g ps)
-  map_scalars g (array vs) = array (map_scalars_of_items g vs)
-  map_scalars g (document ps) = document (map_scalars_of_pairs g ps)
+  -- the value with the function applied to each scalar in it
+  pub map_scalars : (scalar_function : Scalar → Scalar) → Value → Value
+  map_scalars scalar_function (scalar scalar_value) = scalar (scalar_function scalar_value)
+  map_scalars scalar_function (code_scope code_text pair_list) =
+      code_scope code_text (map_scalars_of_pairs scalar_function pair_list)
+  map_scalars scalar_function (array value_list) = array (map_scalars_of_items scalar_function value_list)
+  map_scalars scalar_function (document pair_list) = document (map_scalars_of_pairs scalar_function pair_list)
 
-  pub map_scalars_of_items : (Scalar → Scalar) → Values → Values
-  map_scalars_of_items g no_values = no_values
-  map_scalars_of_items g (value v vs) = value (map_scalars g v) (map_scalars_of_items g vs)
+  pub map_scalars_of_items : (scalar_function : Scalar → Scalar) → Values → Values
+  map_scalars_of_items scalar_function no_values = no_values
+  map_scalars_of_items scalar_function (value bson_value value_list) =
+      value (map_scalars scalar_function bson_value) (map_scalars_of_items scalar_function value_list)
 
-  pub map_scalars_of_pairs : (Scalar → Scalar) → Pairs → Pairs
-  map_scalars_of_pairs g no_pairs = no_pairs
-  map_scalars_of_pairs g (pair k v ps) = pair k (map_scalars g v) (map_scalars_of_pairs g ps)
+  pub map_scalars_of_pairs : (scalar_function : Scalar → Scalar) → Pairs → Pairs
+  map_scalars_of_pairs scalar_function no_pairs = no_pairs
+  map_scalars_of_pairs scalar_function (pair key_text bson_value pair_list) =
+      pair key_text (map_scalars scalar_function bson_value) (map_scalars_of_pairs scalar_function pair_list)
 
-abbrev pub normal_form : Value → Value
-normal_form v = map_scalars normal_scalar v
+abbrev pub normal_form : (bson_value : Value) → Value
+normal_form bson_value = map_scalars normal_scalar bson_value
 
 -- each Int64 that an i32 has is the Int32
-abbrev pub narrowed_form : Value → Value
-narrowed_form v = map_scalars (scalar_as_read_back Relaxed) v
+abbrev pub narrowed_form : (bson_value : Value) → Value
+narrowed_form bson_value = map_scalars (scalar_as_read_back Relaxed) bson_value
 
 -- the value as it is read back from its tree
-abbrev pub as_read_back : Form → Value → Value
-as_read_back Canonical v = v
-as_read_back Relaxed v = narrowed_form v
+abbrev pub as_read_back : Form → (bson_value : Value) → Value
+as_read_back Canonical bson_value = bson_value
+as_read_back Relaxed bson_value = narrowed_form bson_value
 
 -- ---- what a value may be
 
 abbrev mutual
   -- no document in it has a wrapper key of its own
   pub plain : Value → Bool
-  plain (scalar x) = true
-  plain (code_scope s ps) = plain_values ps
-  plain (array vs) = plain_items vs
-  plain (document ps) = plain_keys ps && plain_values ps
+  plain (scalar scalar_value) = true
+  plain (code_scope code_text pair_list) = plain_values pair_list
+  plain (array value_list) = plain_items value_list
+  plain (document pair_list) = plain_keys pair_list && plain_values pair_list
 
   pub plain_items : Values → Bool
   plain_items no_values = true
-  plain_items (value v vs) = plain v && plain_items vs
+  plain_items (value bson_value value_list) = plain bson_value && plain_items value_list
 
   pub plain_keys : Pairs → Bool
   plain_keys no_pairs = true
-  plain_keys (pair k v ps) = is_none (wrapper_of k) && plain_keys ps
+  plain_keys (pair key_text bson_value pair_list) = is_none (wrapper_of key_text) && plain_keys pair_list
 
   pub plain_values : Pairs → Bool
   plain_values no_pairs = true
-  plain_values (pair k v ps) = plain v && plain_values ps
+  plain_values (pair key_text bson_value pair_list) = plain bson_value && plain_values pair_list
 
 abbrev mutual
   -- each number in it is in the range of its Rust type
-  pub InRange : Value → Type 0
-  InRange (scalar x) = ScalarInRange x
-  InRange (code_scope s ps) = PairsInRange ps
-  InRange (array vs) = ItemsInRange vs
-  InRange (document ps) = PairsInRange ps
+  pub NumbersInRange : Value → Type 0
+  NumbersInRange (scalar scalar_value) = ScalarInRange scalar_value
+  NumbersInRange (code_scope code_text pair_list) = PairsInRange pair_list
+  NumbersInRange (array value_list) = ItemsInRange value_list
+  NumbersInRange (document pair_list) = PairsInRange pair_list
 
   pub ItemsInRange : Values → Type 0
   ItemsInRange no_values = Unit {0}
-  ItemsInRange (value v vs) = InRange v × ItemsInRange vs
+  ItemsInRange (value bson_value value_list) = NumbersInRange bson_value × ItemsInRange value_list
 
   pub PairsInRange : Pairs → Type 0
   PairsInRange no_pairs = Unit {0}
-  PairsInRange (pair k v ps) = InRange v × PairsInRange ps
+  PairsInRange (pair key_text bson_value pair_list) = NumbersInRange bson_value × PairsInRange pair_list
 
 abbrev mutual
   -- each double in it is a zero, an infinity or a NaN, or in the mode `Finite` any
   pub writable_in : Doubles → Value → Bool
-  writable_in doubles (scalar x) = writable_scalar_in doubles x
-  writable_in doubles (code_scope s ps) = writable_pairs_in doubles ps
-  writable_in doubles (array vs) = writable_items_in doubles vs
-  writable_in doubles (document ps) = writable_pairs_in doubles ps
+  writable_in doubles (scalar scalar_value) = writable_scalar_in doubles scalar_value
+  writable_in doubles (code_scope code_text pair_list) = writable_pairs_in doubles pair_list
+  writable_in doubles (array value_list) = writable_items_in doubles value_list
+  writable_in doubles (document pair_list) = writable_pairs_in doubles pair_list
 
   pub writable_items_in : Doubles → Values → Bool
   writable_items_in doubles no_values = true
-  writable_items_in doubles (value v vs) = writable_in doubles v && writable_items_in doubles vs
+  writable_items_in doubles (value bson_value value_list) =
+      writable_in doubles bson_value && writable_items_in doubles value_list
 
   pub writable_pairs_in : Doubles → Pairs → Bool
   writable_pairs_in doubles no_pairs = true
-  writable_pairs_in doubles (pair k v ps) = writable_in doubles v && writable_pairs_in doubles ps
+  writable_pairs_in doubles (pair key_text bson_value pair_list) =
+      writable_in doubles bson_value && writable_pairs_in doubles pair_list
 
 abbrev pub writable : Value → Bool
 writable = writable_in Special

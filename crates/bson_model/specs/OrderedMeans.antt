@@ -6,7 +6,7 @@ use Rattle.serde_json.specs.Data.{Data, Items, no_items, item, Members, no_membe
 use Rattle.serde_json.specs.Data as tree
 use Rattle.bson_scalar.specs.Means.{MeansScalarIn}
 use Rattle.bson_scalar.specs.Scalar.{Scalar}
-use Rattle.bson_scalar.specs.TreeParts.{object_of_two}
+use Rattle.bson_scalar.specs.TreeParts.{two_key_object}
 use Rattle.bson_scalar.specs.Table.{has_wrapper}
 use Rattle.bson_scalar.specs.declared.form.Doubles.{Doubles}
 use Rattle.bson_model.specs.Value.{Value, code_scope, Values, no_values, value, Pairs, no_pairs, pair}
@@ -17,24 +17,35 @@ mutual
   -- the tree means the value
   pub data MeansInOrder (doubles : Doubles) : Data → Value → Type 0 where
     -- the order inside a wrapper says nothing
-    scalar : (d : Data) (x : Scalar) → MeansScalarIn doubles (tree_sorted_by_key d) x → MeansInOrder doubles d (model.scalar x)
-    code_with_scope : (s : List ℕ) (ms : Members) (ps : Pairs) → MeansDocumentInOrder doubles ms ps
-        → MeansInOrder doubles (object_of_two (codes "$code") (tree.string s) (codes "$scope") (tree.object ms))
-        (code_scope s ps)
-    scope_with_code : (s : List ℕ) (ms : Members) (ps : Pairs) → MeansDocumentInOrder doubles ms ps
-        → MeansInOrder doubles (object_of_two (codes "$scope") (tree.object ms) (codes "$code") (tree.string s))
-        (code_scope s ps)
-    array : (ds : Items) (vs : Values) → MeansItemsInOrder doubles ds vs → MeansInOrder doubles (tree.array ds) (model.array vs)
-    document : (ms : Members) (ps : Pairs) → has_wrapper ms ≡ false → MeansDocumentInOrder doubles ms ps
-        → MeansInOrder doubles (tree.object ms) (model.document ps)
+    scalar : (subtree : Data) (scalar_value : Scalar)
+        → MeansScalarIn doubles (tree_sorted_by_key subtree) scalar_value
+        → MeansInOrder doubles subtree (model.scalar scalar_value)
+    code_with_scope : (code_text : List ℕ) (member_list : Members) (pair_list : Pairs)
+        → MeansDocumentInOrder doubles member_list pair_list
+        → MeansInOrder doubles
+        (two_key_object (codes "$code") (tree.string code_text) (codes "$scope") (tree.object member_list))
+        (code_scope code_text pair_list)
+    scope_with_code : (code_text : List ℕ) (member_list : Members) (pair_list : Pairs)
+        → MeansDocumentInOrder doubles member_list pair_list
+        → MeansInOrder doubles
+        (two_key_object (codes "$scope") (tree.object member_list) (codes "$code") (tree.string code_text))
+        (code_scope code_text pair_list)
+    array : (item_list : Items) (value_list : Values) → MeansItemsInOrder doubles item_list value_list
+        → MeansInOrder doubles (tree.array item_list) (model.array value_list)
+    document : (member_list : Members) (pair_list : Pairs) → has_wrapper member_list ≡ false
+        → MeansDocumentInOrder doubles member_list pair_list
+        → MeansInOrder doubles (tree.object member_list) (model.document pair_list)
 
   pub data MeansItemsInOrder (doubles : Doubles) : Items → Values → Type 0 where
     nothing : MeansItemsInOrder doubles no_items no_values
-    then : (d : Data) (v : Value) (ds : Items) (vs : Values) → MeansInOrder doubles d v → MeansItemsInOrder doubles ds vs
-        → MeansItemsInOrder doubles (item d ds) (value v vs)
+    then : (subtree : Data) (bson_value : Value) (item_list : Items) (value_list : Values)
+        → MeansInOrder doubles subtree bson_value → MeansItemsInOrder doubles item_list value_list
+        → MeansItemsInOrder doubles (item subtree item_list) (value bson_value value_list)
 
   -- the keys of the object in its order, each with the meaning of its value; the keys are not tested
   pub data MeansDocumentInOrder (doubles : Doubles) : Members → Pairs → Type 0 where
     empty : MeansDocumentInOrder doubles no_members no_pairs
-    entry : (k : List ℕ) (d : Data) (v : Value) (ms : Members) (ps : Pairs) → MeansInOrder doubles d v
-        → MeansDocumentInOrder doubles ms ps → MeansDocumentInOrder doubles (member k d ms) (pair k v ps)
+    entry : (key_text : List ℕ) (subtree : Data) (bson_value : Value) (member_list : Members) (pair_list : Pairs)
+        → MeansInOrder doubles subtree bson_value
+        → MeansDocumentInOrder doubles member_list pair_list
+        → MeansDocumentInOrder doubles (member key_text subtree member_list) (pair key_text bson_value pair_list)

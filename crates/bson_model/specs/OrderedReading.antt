@@ -9,42 +9,51 @@ use Rattle.bson_scalar.specs.Reading.{number_read_in, optional_wrapper_read_in}
 use Rattle.bson_scalar.specs.Scalar.{null, boolean, text}
 use Rattle.bson_scalar.specs.Table.{wrapper_of, has_wrapper}
 use Rattle.bson_scalar.specs.declared.form.Doubles.{Doubles}
-use Rattle.bson_model.specs.Reading.{scalar_value, code_at}
+use Rattle.bson_model.specs.Reading.{scalar_result_as_value, code_with_scope_read}
 use Rattle.bson_model.specs.Value.{Value, scalar, array, document, Values, no_values, value, Pairs}
 use Rattle.bson_model.specs.Value.{no_pairs, pair}
 use Rattle.bson_model.specs.OrderedTrees.{tree_sorted_by_key}
 
 abbrev mutual
-  pub reads_in_order : Doubles → Data → Result Value Fault
-  reads_in_order doubles tree.null = Ok (scalar null)
-  reads_in_order doubles (tree.boolean b) = Ok (scalar (boolean b))
-  reads_in_order doubles (tree.number n) = scalar_value (number_read_in doubles n)
-  reads_in_order doubles (tree.string s) = Ok (scalar (text s))
-  reads_in_order doubles (tree.array ds) = items_in_order doubles ds >>= λ vs. Ok (array vs)
-  reads_in_order doubles (tree.object ms) =
-      if has_wrapper ms then wrapper_in_order doubles ms else (members_in_order doubles ms >>= λ ps. Ok (document ps))
+  pub reads_tree_in_order : Doubles → Data → Result Value Fault
+  reads_tree_in_order doubles tree.null = Ok (scalar null)
+  reads_tree_in_order doubles (tree.boolean truth_value) = Ok (scalar (boolean truth_value))
+  reads_tree_in_order doubles (tree.number json_number) = scalar_result_as_value (number_read_in doubles json_number)
+  reads_tree_in_order doubles (tree.string text_bytes) = Ok (scalar (text text_bytes))
+  reads_tree_in_order doubles (tree.array item_list) =
+      reads_items_in_order doubles item_list >>= λ value_list. Ok (array value_list)
+  reads_tree_in_order doubles (tree.object member_list) =
+      if has_wrapper member_list then reads_wrapper_in_order doubles member_list
+      else (reads_members_in_order doubles member_list >>= λ pair_list. Ok (document pair_list))
 
-  pub items_in_order : Doubles → Items → Result Values Fault
-  items_in_order doubles no_items = Ok no_values
-  items_in_order doubles (item d ds) = reads_in_order doubles d >>= λ v. items_in_order doubles ds >>= λ vs. Ok (value v vs)
+  pub reads_items_in_order : Doubles → Items → Result Values Fault
+  reads_items_in_order doubles no_items = Ok no_values
+  reads_items_in_order doubles (item subtree item_list) =
+      reads_tree_in_order doubles subtree >>= λ bson_value. reads_items_in_order doubles item_list
+      >>= λ value_list. Ok (value bson_value value_list)
 
-  pub members_in_order : Doubles → Members → Result Pairs Fault
-  members_in_order doubles no_members = Ok no_pairs
-  members_in_order doubles (member k d ms) = reads_in_order doubles d >>= λ v. members_in_order doubles ms >>= λ ps. Ok (pair k v ps)
+  pub reads_members_in_order : Doubles → Members → Result Pairs Fault
+  reads_members_in_order doubles no_members = Ok no_pairs
+  reads_members_in_order doubles (member key_text subtree member_list) =
+      reads_tree_in_order doubles subtree >>= λ bson_value. reads_members_in_order doubles member_list
+      >>= λ pair_list. Ok (pair key_text bson_value pair_list)
 
   -- an object with a wrapper key: only code with its scope holds a document, and its two keys may have either order
-  pub wrapper_in_order : Doubles → Members → Result Value Fault
-  wrapper_in_order doubles no_members = Err wrong_shape
-  wrapper_in_order doubles (member k d no_members) = scalar_value (optional_wrapper_read_in doubles (wrapper_of k) (tree_sorted_by_key d))
-  wrapper_in_order doubles (member k d (member l e no_members)) =
-      if bytes_eq k (codes "$scope") then code_at l (tree_sorted_by_key e) k (scope_in_order doubles d)
-      else code_at k (tree_sorted_by_key d) l (scope_in_order doubles e)
-  wrapper_in_order doubles (member k d (member l e (member m f ms))) = Err wrong_shape
+  pub reads_wrapper_in_order : Doubles → Members → Result Value Fault
+  reads_wrapper_in_order doubles no_members = Err wrong_shape
+  reads_wrapper_in_order doubles (member key_text subtree no_members) = scalar_result_as_value (optional_wrapper_read_in doubles (wrapper_of key_text) (tree_sorted_by_key subtree))
+  reads_wrapper_in_order doubles (member key_text subtree (member other_key other_subtree no_members)) =
+      if bytes_eq key_text (codes "$scope") then code_with_scope_read other_key (tree_sorted_by_key other_subtree) key_text (reads_scope_in_order doubles subtree)
+      else code_with_scope_read key_text (tree_sorted_by_key subtree) other_key
+      (reads_scope_in_order doubles other_subtree)
+  reads_wrapper_in_order doubles
+      (member key_text subtree
+      (member other_key other_subtree (member third_key third_subtree member_list))) = Err wrong_shape
 
-  pub scope_in_order : Doubles → Data → Result (Option Pairs) Fault
-  scope_in_order doubles tree.null = Ok None
-  scope_in_order doubles (tree.boolean b) = Err wrong_shape
-  scope_in_order doubles (tree.number n) = Err wrong_shape
-  scope_in_order doubles (tree.string s) = Err wrong_shape
-  scope_in_order doubles (tree.array ds) = Err wrong_shape
-  scope_in_order doubles (tree.object ms) = members_in_order doubles ms >>= λ ps. Ok (Some ps)
+  pub reads_scope_in_order : Doubles → Data → Result (Option Pairs) Fault
+  reads_scope_in_order doubles tree.null = Ok None
+  reads_scope_in_order doubles (tree.boolean truth_value) = Err wrong_shape
+  reads_scope_in_order doubles (tree.number json_number) = Err wrong_shape
+  reads_scope_in_order doubles (tree.string text_bytes) = Err wrong_shape
+  reads_scope_in_order doubles (tree.array item_list) = Err wrong_shape
+  reads_scope_in_order doubles (tree.object member_list) = reads_members_in_order doubles member_list >>= λ pair_list. Ok (Some pair_list)

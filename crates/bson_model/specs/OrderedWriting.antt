@@ -11,16 +11,23 @@ use Rattle.bson_model.specs.Value.{no_pairs, pair}
 use Rattle.bson_model.specs.Writing.{with_scope}
 
 abbrev mutual
-  pub writes_in_order : Doubles → Form → Value → Result Data WriteFault
-  writes_in_order doubles form (scalar x) = writes_scalar_in doubles form x
-  writes_in_order doubles form (code_scope s ps) = pairs_in_order doubles form ps >>= λ ms. Ok (with_scope s ms)
-  writes_in_order doubles form (array vs) = values_in_order doubles form vs >>= λ ds. Ok (tree.array ds)
-  writes_in_order doubles form (document ps) = pairs_in_order doubles form ps >>= λ ms. Ok (tree.object ms)
+  pub writes_value_in_order : Doubles → Form → Value → Result Data WriteFault
+  writes_value_in_order doubles form (scalar scalar_value) = writes_scalar_in doubles form scalar_value
+  writes_value_in_order doubles form (code_scope code_text pair_list) =
+      writes_pairs_in_order doubles form pair_list >>= λ member_list. Ok (with_scope code_text member_list)
+  writes_value_in_order doubles form (array value_list) =
+      writes_items_in_order doubles form value_list >>= λ item_list. Ok (tree.array item_list)
+  writes_value_in_order doubles form (document pair_list) =
+      writes_pairs_in_order doubles form pair_list >>= λ member_list. Ok (tree.object member_list)
 
-  pub values_in_order : Doubles → Form → Values → Result Items WriteFault
-  values_in_order doubles form no_values = Ok no_items
-  values_in_order doubles form (value v vs) = writes_in_order doubles form v >>= λ d. values_in_order doubles form vs >>= λ ds. Ok (item d ds)
+  pub writes_items_in_order : Doubles → Form → Values → Result Items WriteFault
+  writes_items_in_order doubles form no_values = Ok no_items
+  writes_items_in_order doubles form (value bson_value value_list) =
+      writes_value_in_order doubles form bson_value >>= λ subtree. writes_items_in_order doubles form value_list
+      >>= λ item_list. Ok (item subtree item_list)
 
-  pub pairs_in_order : Doubles → Form → Pairs → Result Members WriteFault
-  pairs_in_order doubles form no_pairs = Ok no_members
-  pairs_in_order doubles form (pair k v ps) = writes_in_order doubles form v >>= λ d. pairs_in_order doubles form ps >>= λ ms. Ok (member k d ms)
+  pub writes_pairs_in_order : Doubles → Form → Pairs → Result Members WriteFault
+  writes_pairs_in_order doubles form no_pairs = Ok no_members
+  writes_pairs_in_order doubles form (pair key_text bson_value pair_list) =
+      writes_value_in_order doubles form bson_value >>= λ subtree. writes_pairs_in_order doubles form pair_list
+      >>= λ member_list. Ok (member key_text subtree member_list)

@@ -1,8 +1,8 @@
--- The grammars of the two forms in the value's own order, in each mode of `Doubles`: the tree of a value in each.
+-- The grammars of the two forms in the own order of the value, in each mode of `Doubles`: the tree of a value in each.
 use Rattle.std.specs.Prelude.{◌≡◌, codes}
 use Rattle.serde_json.specs.Data.{Data, Items, no_items, item, Members, no_members, member}
 use Rattle.serde_json.specs.Data as tree
-use Rattle.bson_scalar.specs.TreeParts.{object_of_two}
+use Rattle.bson_scalar.specs.TreeParts.{two_key_object}
 use Rattle.bson_scalar.specs.Written.{WrittenScalarIn}
 use Rattle.bson_scalar.specs.declared.form.Doubles.{Doubles}
 use Rattle.bson_scalar.specs.declared.form.Form.{Form}
@@ -12,19 +12,23 @@ use Rattle.bson_model.specs.Value.{no_pairs, pair}
 abbrev mutual
   -- the value, in normal form, has this tree; inside a wrapper the order is the one of Extended JSON
   pub WrittenInOrder : Doubles → Form → Value → Data → Type 0
-  WrittenInOrder doubles form (scalar x) t = WrittenScalarIn doubles form x t
-  WrittenInOrder doubles form (code_scope s ps) t = (ms : Members) × WrittenDocumentInOrder doubles form ps ms
-      × (t ≡ object_of_two (codes "$code") (tree.string s) (codes "$scope") (tree.object ms))
-  WrittenInOrder doubles form (array vs) t = (ds : Items) × WrittenItemsInOrder doubles form vs ds × (t ≡ tree.array ds)
-  WrittenInOrder doubles form (document ps) t = (ms : Members) × WrittenDocumentInOrder doubles form ps ms × (t ≡ tree.object ms)
+  WrittenInOrder doubles form (scalar scalar_value) json_tree = WrittenScalarIn doubles form scalar_value json_tree
+  WrittenInOrder doubles form (code_scope code_text pair_list) json_tree = (member_list : Members)
+      × WrittenDocumentInOrder doubles form pair_list member_list
+      × (json_tree ≡ two_key_object (codes "$code") (tree.string code_text) (codes "$scope") (tree.object member_list))
+  WrittenInOrder doubles form (array value_list) json_tree = (item_list : Items)
+      × WrittenItemsInOrder doubles form value_list item_list × (json_tree ≡ tree.array item_list)
+  WrittenInOrder doubles form (document pair_list) json_tree = (member_list : Members)
+      × WrittenDocumentInOrder doubles form pair_list member_list × (json_tree ≡ tree.object member_list)
 
   pub WrittenItemsInOrder : Doubles → Form → Values → Items → Type 0
-  WrittenItemsInOrder doubles form no_values ds = ds ≡ no_items
-  WrittenItemsInOrder doubles form (value v vs) ds =
-      (d : Data) × (es : Items) × WrittenInOrder doubles form v d × WrittenItemsInOrder doubles form vs es × (ds ≡ item d es)
+  WrittenItemsInOrder doubles form no_values item_list = item_list ≡ no_items
+  WrittenItemsInOrder doubles form (value bson_value value_list) item_list =
+      (subtree : Data) × (later_items : Items) × WrittenInOrder doubles form bson_value subtree
+      × WrittenItemsInOrder doubles form value_list later_items × (item_list ≡ item subtree later_items)
 
-  -- the keys in the document's order, each with the tree of its value
+  -- the keys in the order of the document, each with the tree of its value
   pub WrittenDocumentInOrder : Doubles → Form → Pairs → Members → Type 0
-  WrittenDocumentInOrder doubles form no_pairs ms = ms ≡ no_members
-  WrittenDocumentInOrder doubles form (pair k v ps) ms =
-      (d : Data) × (ns : Members) × WrittenInOrder doubles form v d × WrittenDocumentInOrder doubles form ps ns × (ms ≡ member k d ns)
+  WrittenDocumentInOrder doubles form no_pairs member_list = member_list ≡ no_members
+  WrittenDocumentInOrder doubles form (pair key_text bson_value pair_list) member_list =
+      (subtree : Data) × (later_members : Members) × WrittenInOrder doubles form bson_value subtree × WrittenDocumentInOrder doubles form pair_list later_members × (member_list ≡ member key_text subtree later_members)

@@ -13,57 +13,69 @@ use Rattle.bson_model.specs.Value.{no_pairs, pair}
 use Rattle.bson_scalar.specs.declared.form.Doubles.{Doubles}
 use Rattle.bson_scalar.specs.declared.form.Doubles.TheVariants.{Special}
 
-abbrev pub scalar_value : Result Scalar Fault → Result Value Fault
-scalar_value r = r >>= λ s. Ok (scalar s)
+abbrev pub scalar_result_as_value : (scalar_result : Result Scalar Fault) → Result Value Fault
+scalar_result_as_value scalar_result = scalar_result >>= λ read_scalar. Ok (scalar read_scalar)
 
-abbrev pub code_value : List ℕ → Option Pairs → Value
-code_value s None = scalar (code s)
-code_value s (Some ps) = code_scope s ps
+abbrev pub code_value : (text_bytes : List ℕ) → (scope_or_none : Option Pairs) → Value
+code_value text_bytes None = scalar (code text_bytes)
+code_value text_bytes (Some pair_list) = code_scope text_bytes pair_list
 
 -- code, with the scope that was read
-abbrev pub scope_value : List ℕ → Result (Option Pairs) Fault → Result Value Fault
-scope_value s scope = scope >>= λ ps. Ok (code_value s ps)
+abbrev pub scope_value : (text_bytes : List ℕ) → (scope_result : Result (Option Pairs) Fault) → Result Value Fault
+scope_value text_bytes scope_result = scope_result >>= λ pair_list. Ok (code_value text_bytes pair_list)
 
 -- the only wrapper of two keys
-abbrev pub code_at : List ℕ → Data → List ℕ → Result (Option Pairs) Fault → Result Value Fault
-code_at k d l scope = if bytes_eq k (codes "$code") && bytes_eq l (codes "$scope")
-    then on_text d (λ s. scope_value s scope) else Err wrong_shape
+abbrev pub code_with_scope_read : (key_text : List ℕ) → (subtree : Data) → (other_key : List ℕ)
+    → (scope_result : Result (Option Pairs) Fault)
+    → Result Value Fault
+code_with_scope_read key_text subtree other_key scope_result =
+    if bytes_eq key_text (codes "$code") && bytes_eq other_key (codes "$scope")
+    then on_text subtree (λ text_bytes. scope_value text_bytes scope_result) else Err wrong_shape
 
 abbrev mutual
-  pub reads_in : Doubles → Data → Result Value Fault
-  reads_in doubles tree.null = Ok (scalar null)
-  reads_in doubles (tree.boolean b) = Ok (scalar (boolean b))
-  reads_in doubles (tree.number n) = scalar_value (number_read_in doubles n)
-  reads_in doubles (tree.string s) = Ok (scalar (text s))
-  reads_in doubles (tree.array ds) = reads_items_in doubles ds >>= λ vs. Ok (array vs)
-  reads_in doubles (tree.object ms) = if has_wrapper ms then reads_wrapper_in doubles ms else (reads_members_in doubles ms >>= λ ps. Ok (document ps))
+  pub reads_tree_in : Doubles → Data → Result Value Fault
+  reads_tree_in doubles tree.null = Ok (scalar null)
+  reads_tree_in doubles (tree.boolean truth_value) = Ok (scalar (boolean truth_value))
+  reads_tree_in doubles (tree.number json_number) = scalar_result_as_value (number_read_in doubles json_number)
+  reads_tree_in doubles (tree.string text_bytes) = Ok (scalar (text text_bytes))
+  reads_tree_in doubles (tree.array item_list) =
+      reads_items_in doubles item_list >>= λ value_list. Ok (array value_list)
+  reads_tree_in doubles (tree.object member_list) =
+      if has_wrapper member_list then reads_wrapper_in doubles member_list
+      else (reads_members_in doubles member_list >>= λ pair_list. Ok (document pair_list))
 
   pub reads_items_in : Doubles → Items → Result Values Fault
   reads_items_in doubles no_items = Ok no_values
-  reads_items_in doubles (item d ds) = reads_in doubles d >>= λ v. reads_items_in doubles ds >>= λ vs. Ok (value v vs)
+  reads_items_in doubles (item subtree item_list) =
+      reads_tree_in doubles subtree >>= λ bson_value. reads_items_in doubles item_list
+      >>= λ value_list. Ok (value bson_value value_list)
 
   -- the values of a map by ascending key, whose own keys are not tested
   pub reads_members_in : Doubles → Members → Result Pairs Fault
   reads_members_in doubles no_members = Ok no_pairs
-  reads_members_in doubles (member k d ms) = reads_in doubles d >>= λ v. reads_members_in doubles ms >>= λ ps. Ok (pair k v ps)
+  reads_members_in doubles (member key_text subtree member_list) =
+      reads_tree_in doubles subtree >>= λ bson_value. reads_members_in doubles member_list
+      >>= λ pair_list. Ok (pair key_text bson_value pair_list)
 
   -- a map with a wrapper key
   pub reads_wrapper_in : Doubles → Members → Result Value Fault
   reads_wrapper_in doubles no_members = Err wrong_shape
-  reads_wrapper_in doubles (member k d no_members) = scalar_value (optional_wrapper_read_in doubles (wrapper_of k) d)
-  reads_wrapper_in doubles (member k d (member l e no_members)) = code_at k d l (reads_scope_in doubles e)
-  reads_wrapper_in doubles (member k d (member l e (member m f ms))) = Err wrong_shape
+  reads_wrapper_in doubles (member key_text subtree no_members) =
+      scalar_result_as_value (optional_wrapper_read_in doubles (wrapper_of key_text) subtree)
+  reads_wrapper_in doubles (member key_text subtree (member other_key other_subtree no_members)) =
+      code_with_scope_read key_text subtree other_key (reads_scope_in doubles other_subtree)
+  reads_wrapper_in doubles (member key_text subtree (member other_key other_subtree (member third_key third_subtree member_list))) = Err wrong_shape
 
   pub reads_scope_in : Doubles → Data → Result (Option Pairs) Fault
   reads_scope_in doubles tree.null = Ok None
-  reads_scope_in doubles (tree.boolean b) = Err wrong_shape
-  reads_scope_in doubles (tree.number n) = Err wrong_shape
-  reads_scope_in doubles (tree.string s) = Err wrong_shape
-  reads_scope_in doubles (tree.array ds) = Err wrong_shape
-  reads_scope_in doubles (tree.object ms) = reads_members_in doubles ms >>= λ ps. Ok (Some ps)
+  reads_scope_in doubles (tree.boolean truth_value) = Err wrong_shape
+  reads_scope_in doubles (tree.number json_number) = Err wrong_shape
+  reads_scope_in doubles (tree.string text_bytes) = Err wrong_shape
+  reads_scope_in doubles (tree.array item_list) = Err wrong_shape
+  reads_scope_in doubles (tree.object member_list) = reads_members_in doubles member_list >>= λ pair_list. Ok (Some pair_list)
 
-abbrev pub reads : Data → Result Value Fault
-reads = reads_in Special
+abbrev pub reads_tree : Data → Result Value Fault
+reads_tree = reads_tree_in Special
 
 abbrev pub reads_items : Items → Result Values Fault
 reads_items = reads_items_in Special

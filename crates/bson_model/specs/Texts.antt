@@ -13,7 +13,7 @@ use Rattle.bson_scalar.specs.declared.form.Form.TheVariants.{Canonical}
 use Rattle.bson_model.specs.Value.{Value}
 use Rattle.bson_model.specs.Means.{MeansIn}
 use Rattle.bson_model.specs.Same.{same}
-use Rattle.bson_model.specs.Normal.{normal_form, as_read_back, plain, InRange}
+use Rattle.bson_model.specs.Normal.{normal_form, as_read_back, plain, NumbersInRange}
 use Rattle.bson_model.specs.Written.{WrittenIn}
 use Rattle.bson_scalar.specs.declared.form.Doubles.{Doubles}
 use Rattle.bson_scalar.specs.declared.form.Doubles.TheVariants.{Special}
@@ -21,73 +21,86 @@ use Rattle.bson_scalar.specs.declared.form.Doubles.TheVariants.{Special}
 -- ---- the trees that `serde_json` has
 
 abbrev pub NumberFits : Num → Type 0
-NumberFits (unsigned n) = n < 2 ^ 64
-NumberFits (negative (pos n)) = ⊥
-NumberFits (negative (negsuc n)) = n < 2 ^ 63
-NumberFits (float x) = IsDouble x
+NumberFits (unsigned magnitude) = magnitude < 2 ^ 64
+NumberFits (negative (pos magnitude)) = ⊥
+NumberFits (negative (negsuc magnitude)) = magnitude < 2 ^ 63
+NumberFits (float float_value) = IsDouble float_value
 
 -- the key is less than each key of the map
-abbrev pub IsBelow : List ℕ → Members → Type 0
-IsBelow k no_members = Unit {0}
-IsBelow k (member l d ms) = (slice_cmp nat_cmp k l ≡ Less) × IsBelow k ms
+abbrev pub IsBelowMemberKeys : (key_text : List ℕ) → Members → Type 0
+IsBelowMemberKeys key_text no_members = Unit {0}
+IsBelowMemberKeys key_text (member other_key subtree member_list) = (slice_cmp nat_cmp key_text other_key ≡ Less)
+    × IsBelowMemberKeys key_text member_list
 
-abbrev pub Ascends : Members → Type 0
-Ascends no_members = Unit {0}
-Ascends (member k d ms) = IsBelow k ms × Ascends ms
+abbrev pub MemberKeysAscend : Members → Type 0
+MemberKeysAscend no_members = Unit {0}
+MemberKeysAscend (member key_text subtree member_list) = IsBelowMemberKeys key_text member_list
+    × MemberKeysAscend member_list
 
 abbrev mutual
   -- each number is in the range of its Rust type, and each map has its keys in ascending order
   pub IsTree : Data → Type 0
   IsTree tree.null = Unit {0}
-  IsTree (tree.boolean b) = Unit {0}
-  IsTree (tree.number n) = NumberFits n
-  IsTree (tree.string s) = Unit {0}
-  IsTree (tree.array ds) = ItemsAreTrees ds
-  IsTree (tree.object ms) = Ascends ms × MembersAreTrees ms
+  IsTree (tree.boolean truth_value) = Unit {0}
+  IsTree (tree.number json_number) = NumberFits json_number
+  IsTree (tree.string text_bytes) = Unit {0}
+  IsTree (tree.array item_list) = ItemsAreTrees item_list
+  IsTree (tree.object member_list) = MemberKeysAscend member_list × MembersAreTrees member_list
 
   pub ItemsAreTrees : Items → Type 0
   ItemsAreTrees no_items = Unit {0}
-  ItemsAreTrees (item d ds) = IsTree d × ItemsAreTrees ds
+  ItemsAreTrees (item subtree item_list) = IsTree subtree × ItemsAreTrees item_list
 
   pub MembersAreTrees : Members → Type 0
   MembersAreTrees no_members = Unit {0}
-  MembersAreTrees (member k d ms) = IsTree d × MembersAreTrees ms
+  MembersAreTrees (member key_text subtree member_list) = IsTree subtree × MembersAreTrees member_list
 
 -- the text is read as the tree again, unless that nests deeper than texts may, and no other tree has the text
 abbrev pub TextReadsBackIn : Doubles → Form → Data → Type 0
-TextReadsBackIn doubles form t = (depth t ≤ max_depth → read (tree_text doubles form t) ≡ Some t)
-    × ((u : Data) → HasNoFloatIn doubles form u → IsTree u → tree_text doubles form t ≡ tree_text doubles form u → t ≡ u)
+TextReadsBackIn doubles form json_tree = (depth json_tree ≤ max_depth
+    → read (tree_text doubles form json_tree) ≡ Some json_tree)
+    × ((written_tree : Data) → HasNoFloatIn doubles form written_tree → IsTree written_tree
+    → tree_text doubles form json_tree ≡ tree_text doubles form written_tree → json_tree ≡ written_tree)
 
 abbrev pub TextReadsBack : Data → Type 0
 TextReadsBack = TextReadsBackIn Special Canonical
 
 -- ---- texts of values
 
--- the tree u of v, and the tree x of w
-abbrev pub HasEqualTextsIn : Doubles → Form → Value → Data → Value → Data → Type 0
-HasEqualTextsIn doubles form v u w x = plain w ≡ true → InRange w → WrittenIn doubles form (normal_form w) x
-    → ((tree_text doubles form u ≡ tree_text doubles form x) ↔ (same (as_read_back form (normal_form v)) (as_read_back form (normal_form w)) ≡ true))
+-- two values, each with its tree
+abbrev pub HasEqualTextsIn : Doubles → Form → (bson_value : Value) → (written_tree : Data) → (other_value : Value)
+    → (other_tree : Data) → Type 0
+HasEqualTextsIn doubles form bson_value written_tree other_value other_tree = plain other_value ≡ true
+    → NumbersInRange other_value → WrittenIn doubles form (normal_form other_value) other_tree
+    → ((tree_text doubles form written_tree ≡ tree_text doubles form other_tree)
+    ↔ (same (as_read_back form (normal_form bson_value)) (as_read_back form (normal_form other_value)) ≡ true))
 
--- what the tree u of the value v in this form, and its compact text, are
-pub record HasTextIn (doubles : Doubles) (form : Form) (v : Value) (u : Data) : Type 0 where
-  pub written : WrittenIn doubles form (normal_form v) u
-  pub is_tree : IsTree u
+-- what the tree of a value in this form, and its compact text, are
+pub record HasTextIn (doubles : Doubles) (form : Form) (bson_value : Value) (written_tree : Data) : Type 0 where
+  pub written : WrittenIn doubles form (normal_form bson_value) written_tree
+  pub is_tree : IsTree written_tree
   -- the text is read as the tree again, unless it nests deeper than texts may
-  pub read_again : depth u ≤ max_depth → read (tree_text doubles form u) ≡ Some u
+  pub read_again : depth written_tree ≤ max_depth → read (tree_text doubles form written_tree) ≡ Some written_tree
   -- the tree means one value, the same as the normal form, and is the tree of that value too
-  pub means : (w : Value) × MeansIn doubles u w × (same w (as_read_back form (normal_form v)) ≡ true) × WrittenIn doubles form (normal_form w) u
+  pub means : (other_value : Value) × MeansIn doubles written_tree other_value
+      × (same other_value (as_read_back form (normal_form bson_value)) ≡ true)
+      × WrittenIn doubles form (normal_form other_value) written_tree
   -- no other value has the text
-  pub equal : (w : Value) (x : Data) → HasEqualTextsIn doubles form v u w x
+  pub equal_texts : (other_value : Value) (other_tree : Data)
+      → HasEqualTextsIn doubles form bson_value written_tree other_value other_tree
 
 -- the same of a value that is plain, as each one is that was read
 abbrev pub ReadsAgainIn : Doubles → Form → Value → Data → Type 0
-ReadsAgainIn doubles form v u = plain v ≡ true → HasTextIn doubles form v u
+ReadsAgainIn doubles form bson_value written_tree = plain bson_value ≡ true
+    → HasTextIn doubles form bson_value written_tree
 
 -- the value has a tree in each form, which is read from its text again
 abbrev pub ValueRoundTripsIn : Doubles → Value → Type 0
-ValueRoundTripsIn doubles v = (form : Form) → (u : Data) × HasTextIn doubles form v u
+ValueRoundTripsIn doubles bson_value = (form : Form) → (written_tree : Data)
+    × HasTextIn doubles form bson_value written_tree
 
-abbrev pub HasEqualTexts : Form → Value → Data → Value → Data → Type 0
+abbrev pub HasEqualTexts : Form → (bson_value : Value) → (written_tree : Data) → (other_value : Value)
+    → (other_tree : Data) → Type 0
 HasEqualTexts = HasEqualTextsIn Special
 
 abbrev pub HasText : Form → Value → Data → Type 0

@@ -7,7 +7,7 @@ use Rattle.bson_scalar.specs.Scalar.{Scalar}
 mutual
   pub data Value : Type 0 where
     scalar : Scalar → Value
-    code_scope : List ℕ → Pairs → Value
+    code_scope : (code_text : List ℕ) (pair_list : Pairs) → Value
     array : Values → Value
     document : Pairs → Value
 
@@ -17,20 +17,21 @@ mutual
 
   pub data Pairs : Type 0 where
     no_pairs : Pairs
-    pair : List ℕ → Value → Pairs → Pairs
+    pair : (key_text : List ℕ) → Value → Pairs → Pairs
 
 abbrev pub pair_keys : Pairs → List (List ℕ)
 pair_keys no_pairs = []
-pair_keys (pair k v ps) = k ∷ pair_keys ps
+pair_keys (pair key_text bson_value pair_list) = key_text ∷ pair_keys pair_list
 
 -- the value of the first pair with the key
-abbrev pub value_at_key : List ℕ → Pairs → Option Value
-value_at_key k no_pairs = None
-value_at_key k (pair l v ps) = cond (bytes_eq k l) (Some v) (value_at_key k ps)
+abbrev pub value_at_key : (key_text : List ℕ) → Pairs → Option Value
+value_at_key key_text no_pairs = None
+value_at_key key_text (pair other_key bson_value pair_list) =
+    cond (bytes_eq key_text other_key) (Some bson_value) (value_at_key key_text pair_list)
 
 -- what holds of the scalar, where the value is one
-abbrev pub IfScalar : Value → (Scalar → Type 0) → Type 0
-IfScalar (scalar x) P = P x
-IfScalar (code_scope s ps) P = Unit {0}
-IfScalar (array vs) P = Unit {0}
-IfScalar (document ps) P = Unit {0}
+abbrev pub IfScalar : Value → (property : Scalar → Type 0) → Type 0
+IfScalar (scalar scalar_value) property = property scalar_value
+IfScalar (code_scope code_text pair_list) property = Unit {0}
+IfScalar (array value_list) property = Unit {0}
+IfScalar (document pair_list) property = Unit {0}

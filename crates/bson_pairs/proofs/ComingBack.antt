@@ -17,7 +17,7 @@ use Rattle.bson.specs.WrittenInOrder.{WrittenInOrder}
 use Rattle.bson.specs.Options.{mongodb_options}
 use Rattle.bson.specs.declared.extjson.key_order.KeyOrder.TheVariants.{AsGiven}
 use Rattle.bson_codec.specs.Canonical.{PairsNestUpTo, pairs_read_back, with_written_subtype, document_bytes}
-use Rattle.bson_codec.specs.ReadDocuments.{IsRead}
+use Rattle.bson_codec.specs.ReadDocuments.{IsReadAsDocument}
 use Rattle.bson_run.specs.Encode.{Encodes}
 use Rattle.bson_scalar.specs.Normal.{normal_scalar}
 use Rattle.bson_pairs.specs.RoundTrip.{RoundTrips, NestsAtMost}
@@ -69,7 +69,7 @@ written_again ps back =
 -- a value has one text in its own order
 pub text_one : (D : Doubles) (f : Form) (v : Value) (s t : List ℕ) → IsTextInOrder D f v s → IsTextInOrder D f v t
     → s ≡ t
-text_one D f v s t a b = a.compact ∙ ap (tree_text D f) (b.one a.tree a.written) ∙ sym b.compact
+text_one D f v s t a b = a.compact ∙ ap (tree_text D f) (b.only_tree a.tree a.written) ∙ sym b.compact
 
 module _ (ps : Pairs) (text : List ℕ) (is : IsTextInOrder Finite Canonical (document ps) text) (back : RoundTrips ps) where
   -- the text is read as its tree again
@@ -102,10 +102,10 @@ module _ (ps : Pairs) (text : List ℕ) (is : IsTextInOrder Finite Canonical (do
 
   -- and they are read as it
   pub decoded_again : (out : List ℕ) (depth : ℕ) → Encodes AsGiven mongodb_options text out → NestsAtMost depth ps
-      → IsRead depth out ps
+      → IsReadAsDocument depth out ps
   decoded_again out depth e nests =
       let same = meant e.pairs e.meaning.1 in
       let deep : PairsNestUpTo e.pairs nests.0 = subst (λ qs. PairsNestUpTo qs nests.0) (sym same) nests.2 in
-      let read : IsRead (suc nests.0) out (pairs_read_back e.pairs) = e.back nests.0 deep in
-      subst (λ n. IsRead n out ps) (sym nests.1)
-      (subst (IsRead (suc nests.0) out) (ap pairs_read_back same ∙ written_again ps back) read)
+      let read : IsReadAsDocument (suc nests.0) out (pairs_read_back e.pairs) = e.back nests.0 deep in
+      subst (λ n. IsReadAsDocument n out ps) (sym nests.1)
+      (subst (IsReadAsDocument (suc nests.0) out) (ap pairs_read_back same ∙ written_again ps back) read)

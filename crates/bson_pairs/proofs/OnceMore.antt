@@ -6,6 +6,6 @@ use Rattle.bson_convert.specs.declared.mode.Mode.TheVariants.{Canonical, Relaxed
 
 pub once_more : (mode : Mode) (once twice : List ℕ) → mode ≢ Show → IsFixedPoint mode once → Converts mode once twice
     → ((other : List ℕ) → Converts mode once other → other ≡ twice) → once ≡ twice
-once_more Canonical once twice form kept x one = one once (kept.again (kept.only x.tree x.text))
-once_more Relaxed once twice form kept x one = one once (kept.again (kept.only x.tree x.text))
+once_more Canonical once twice form kept x one = one once (kept.again (kept.shallow_if_text x.tree x.text))
+once_more Relaxed once twice form kept x one = one once (kept.again (kept.shallow_if_text x.tree x.text))
 once_more Show once twice form kept x one = absurd (form refl)

@@ -15,17 +15,17 @@ use Rattle.bson_pairs.specs.declared.round_trip.RoundTripError.{RoundTripError}
 use Rattle.bson_pairs.specs.declared.round_trip.RoundTripError.TheVariants.{NoBytes, NoDocument, NoText}
 
 -- the document is plain and in normal form, and its text nests no deeper than JSON texts may
-pub record RoundTrips (ps : Pairs) : Type 0 where
-  pub is_plain : plain (document ps) ≡ true
-  pub is_normal : normal_form (document ps) ≡ document ps
-  pub is_shallow : (t : Data) → WrittenInOrder Finite Canonical (document ps) t → depth t ≤ max_depth
+pub record RoundTrips (pairs : Pairs) : Type 0 where
+  pub is_plain : plain (document pairs) ≡ true
+  pub is_normal : normal_form (document pairs) ≡ document pairs
+  pub is_shallow : (tree : Data) → WrittenInOrder Finite Canonical (document pairs) tree → depth tree ≤ max_depth
 
 -- documents, arrays and scopes nest at most so deep, with the document itself counted
-abbrev pub NestsAtMost : ℕ → Pairs → Type 0
-NestsAtMost depth ps = (d : ℕ) × (depth ≡ suc d) × PairsNestUpTo ps d
+abbrev pub NestsAtMost : (depth : ℕ) → Pairs → Type 0
+NestsAtMost depth pairs = (inner_depth : ℕ) × (depth ≡ suc inner_depth) × PairsNestUpTo pairs inner_depth
 
 -- an allocation failed
 abbrev pub IsAllocationFailure : RoundTripError → Type 0
-IsAllocationFailure (NoBytes e) = e ≡ errors.OutOfMemory
-IsAllocationFailure (NoDocument e) = e ≡ read_errors.OutOfMemory
-IsAllocationFailure (NoText e) = e ≡ write_errors.OutOfMemory
+IsAllocationFailure (NoBytes inner_error) = inner_error ≡ errors.OutOfMemory
+IsAllocationFailure (NoDocument inner_error) = inner_error ≡ read_errors.OutOfMemory
+IsAllocationFailure (NoText inner_error) = inner_error ≡ write_errors.OutOfMemory

@@ -20,17 +20,17 @@ use std::alloc::Global;
 /// document has a wrapper key of its own, they are equal exactly if the values' normal forms are
 /// the same.
 ///
-/// A value that holds a finite double other than zero, at any depth, is refused as `FiniteDouble`,
-/// and running out of memory is `OutOfMemory`.
+/// The error is `FiniteDouble` if a value contains a finite double other than zero, at any depth,
+/// and `OutOfMemory` if memory runs out.
 pub fn have_one_text(alloc: Global, left: &Bson, right: &Bson) -> Result<bool, WriteError>
     ensures { plain (bson_view left.now) ≡ true → plain (bson_view right.now) ≡ true
         → IfOk result
-        (λ equal. (equal ≡ true)
+        (λ texts_equal. (texts_equal ≡ true)
         ↔ (same (normal_form (bson_view left.now)) (normal_form (bson_view right.now)) ≡ true)) }
 {
-    let first = left.to_canonical_text(alloc)?;
-    let second = right.to_canonical_text(alloc)?;
-    Ok(first == second)
+    let left_text = left.to_canonical_text(alloc)?;
+    let right_text = right.to_canonical_text(alloc)?;
+    Ok(left_text == right_text)
 }
 
 /// Returns whether the texts of two values in a form are equal, with these doubles. Of plain values they are equal exactly if the values' normal forms are the same, narrowed
@@ -46,15 +46,15 @@ pub fn have_one_text_in_form(
 ) -> Result<bool, WriteError>
     ensures pair { plain (bson_view left.now) ≡ true → plain (bson_view right.now) ≡ true
         → IfOk result
-        (λ equal. (equal ≡ true) ↔ (same (as_read_back form (normal_form (bson_view left.now)))
+        (λ texts_equal. (texts_equal ≡ true) ↔ (same (as_read_back form (normal_form (bson_view left.now)))
         (as_read_back form (normal_form (bson_view right.now))) ≡ true)) }
-    ensures every { IfErr result (IsWriteErrorIn doubles) }
+    ensures possible_errors { IfErr result (IsWriteErrorIn doubles) }
 {
     let options = Options {
         doubles,
         key_order: KeyOrder::Ascending,
     };
-    let first = left.to_text(alloc, options, form)?;
-    let second = right.to_text(alloc, options, form)?;
-    Ok(first == second)
+    let left_text = left.to_text(alloc, options, form)?;
+    let right_text = right.to_text(alloc, options, form)?;
+    Ok(left_text == right_text)
 }

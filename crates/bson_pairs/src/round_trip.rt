@@ -7,7 +7,7 @@ ghost use Rattle.bson.specs.Options.{mongodb_options};
 ghost use Rattle.bson.specs.Texts.{IsTextInOrder};
 ghost use Rattle.bson.specs.Value.{Pairs, document};
 ghost use Rattle.bson_codec.specs.Canonical.{FitsDocument};
-ghost use Rattle.bson_codec.specs.ReadDocuments.{IsCanonical, IsRead};
+ghost use Rattle.bson_codec.specs.ReadDocuments.{IsCanonical, IsReadAsDocument};
 ghost use Rattle.bson_pairs.specs.RoundTrip.{RoundTrips, IsAllocationFailure, NestsAtMost};
 
 use bson::Bson;
@@ -38,10 +38,11 @@ fn options() -> Options
 /// Returns the text of the document that the bytes encode: canonical, its keys in their own order.
 pub fn decode_bytes(alloc: Global, bytes: &[u8], depth: usize) -> Result<String, RoundTripError>
     // It is the text of the one document that the bytes are in the grammar.
-    ensures ok { (ps : Pairs) → IsRead depth bytes.now ps
-        → IfOk result (λ text. IsTextInOrder Finite Canonical (document ps) (string_bytes text)) }
+    ensures ok { (pairs : Pairs) → IsReadAsDocument depth bytes.now pairs
+        → IfOk result (λ text. IsTextInOrder Finite Canonical (document pairs) (string_bytes text)) }
     // If the bytes are a document, only an allocation can fail.
-    ensures only { (ps : Pairs) → IsRead depth bytes.now ps → IfErr result (λ error. IsAllocationFailure error) }
+    ensures only { (pairs : Pairs) → IsReadAsDocument depth bytes.now pairs
+        → IfErr result (λ error. IsAllocationFailure error) }
 {
     let document = match from_slice(alloc, bytes, depth) {
         Ok(document) => document,
@@ -56,15 +57,17 @@ pub fn decode_bytes(alloc: Global, bytes: &[u8], depth: usize) -> Result<String,
 /// Converts a text to bytes, and those to a text.
 pub fn round_trip_text(alloc: Global, text: &str, depth: usize) -> Result<String, RoundTripError>
     // The canonical text of a document, with its keys as given, round-trips.
-    ensures same { (ps : Pairs) → IsTextInOrder Finite Canonical (document ps) text.now → RoundTrips ps → NestsAtMost depth ps
+    ensures same { (pairs : Pairs) → IsTextInOrder Finite Canonical (document pairs) text.now → RoundTrips pairs
+        → NestsAtMost depth pairs
         → IfOk result (λ round_trip. string_bytes round_trip ≡ text.now) }
     // If the document has bytes, only an allocation can fail.
-    ensures only { (ps : Pairs) → IsTextInOrder Finite Canonical (document ps) text.now → RoundTrips ps → NestsAtMost depth ps
-        → FitsDocument ps → IfErr result (λ error. IsAllocationFailure error) }
+    ensures only { (pairs : Pairs) → IsTextInOrder Finite Canonical (document pairs) text.now → RoundTrips pairs
+        → NestsAtMost depth pairs
+        → FitsDocument pairs → IfErr result (λ error. IsAllocationFailure error) }
 {
     let bytes = match encode(alloc, options(), text.as_bytes()) {
         Ok(bytes) => bytes,
-        Err(fault) => return Err(RoundTripError::NoBytes(fault)),
+        Err(error) => return Err(RoundTripError::NoBytes(error)),
     };
     decode_bytes(alloc, bytes.as_slice(), depth)
 }
@@ -76,14 +79,15 @@ pub fn round_trip_bytes(
     depth: usize,
 ) -> Result<Vec<u8>, RoundTripError>
     // The canonical bytes of a document round-trip.
-    ensures same { (ps : Pairs) → IsCanonical depth bytes.now ps → RoundTrips ps
+    ensures same { (pairs : Pairs) → IsCanonical depth bytes.now pairs → RoundTrips pairs
         → IfOk result (λ round_trip. round_trip.items ≡ bytes.now) }
     // Only an allocation can fail.
-    ensures only { (ps : Pairs) → IsCanonical depth bytes.now ps → RoundTrips ps → IfErr result (λ error. IsAllocationFailure error) }
+    ensures only { (pairs : Pairs) → IsCanonical depth bytes.now pairs → RoundTrips pairs
+        → IfErr result (λ error. IsAllocationFailure error) }
 {
     let text = decode_bytes(alloc, bytes, depth)?;
     match encode(alloc, options(), text.as_bytes()) {
         Ok(round_trip) => Ok(round_trip),
-        Err(fault) => Err(RoundTripError::NoBytes(fault)),
+        Err(error) => Err(RoundTripError::NoBytes(error)),
     }
 }

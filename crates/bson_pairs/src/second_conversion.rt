@@ -15,9 +15,9 @@ use std::alloc::Global;
 /// - `NotExtendedJson`: the JSON text is not valid Extended JSON.
 /// - `OutOfMemory`: an allocation failed.
 pub fn convert_twice(alloc: Global, mode: Mode, bytes: &[u8]) -> Result<(Vec<u8>, Vec<u8>), Error>
-    ensures same { mode ≢ Mode.Show → IfOk result (λ both. both.0.items ≡ both.1.items) }
+    ensures same { mode ≢ Mode.Show → IfOk result (λ output_pair. output_pair.0.items ≡ output_pair.1.items) }
 {
-    let once = convert(alloc, mode, bytes)?;
-    let twice = convert(alloc, mode, &once)?;
-    Ok((once, twice))
+    let first_output = convert(alloc, mode, bytes)?;
+    let second_output = convert(alloc, mode, &first_output)?;
+    Ok((first_output, second_output))
 }

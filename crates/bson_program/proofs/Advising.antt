@@ -5,7 +5,7 @@ use Rattle.std.proofs.lemmas.List.{take_rest}
 use Rattle.std.specs.Option.{IfSome}
 use Rattle.bson_run.specs.ErrorMessages.{BreaksRule, IsSubslice}
 use Rattle.bson_run.specs.declared.rule.Rule.{Rule}
-use Rattle.bson_program.specs.Hints.{IsAdvice, IsAdvisedAt, IsSplit, advice_under}
+use Rattle.bson_program.specs.Hints.{IsAdvice, IsSyntaxAdvice, IsSplit, advice_for_rule}
 use Rattle.bson_program.specs.Messages.{line_len}
 use Rattle.bson_program.specs.declared.advice.Advice.{Advice}
 use Rattle.bson_program.specs.declared.invocation.Invocation.{Invocation}
@@ -65,14 +65,14 @@ after_shorter bytes next is some =
 
 pub at_stop : (invocation : Invocation) (text : List ℕ) (rule : Rule) (offset : ℕ) (result : Option Advice)
     → BreaksRule text rule
-    → result ≡ advice_under invocation.input invocation.options.doubles rule (take (length text - offset) (drop offset text))
-    → IfSome result (IsAdvisedAt invocation text)
+    → result ≡ advice_for_rule invocation.input invocation.options.doubles rule (take (length text - offset) (drop offset text))
+    → IfSome result (IsSyntaxAdvice invocation text)
 at_stop invocation text rule offset None breaks is = tt
 at_stop invocation text rule offset (Some it) breaks is = (
   rule,
   offset,
   breaks,
-  ap (λ rest. advice_under invocation.input invocation.options.doubles rule rest) (sym (take_rest text offset)) ∙ sym is,
+  ap (λ rest. advice_for_rule invocation.input invocation.options.doubles rule rest) (sym (take_rest text offset)) ∙ sym is,
 )
 
 pub within : (invocation : Invocation) (part bytes : List ℕ) (it : Advice) → IsSubslice part bytes

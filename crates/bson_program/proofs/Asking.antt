@@ -12,14 +12,14 @@ use Rattle.bson_run.specs.declared.task.Preprocessing.{Preprocessing}
 use Rattle.bson_run.specs.declared.task.Task.{Task}
 use Rattle.bson_run.specs.declared.task.Task.TheVariants.{Write, Check, Encode, Preprocessed}
 use Rattle.bson_program.specs.Flags.{has_flag}
-use Rattle.bson_program.specs.Invocation.{first_preprocessed, is_option, with_criterion, mode_arg, requested_order, AreParsed, one_more, IsRequestOf}
-use Rattle.bson_program.specs.Invocation.{requested_preprocessing, IsRequestedBy, IsNamed, IsTaskFor, IsNamedTaskFor, IsArgAfter}
-use Rattle.bson_program.specs.Invocation.{command_of, StartsWithDash, IsValueInArg, IsNumbered, IsUsageError, IsParsed, AcceptsArg}
+use Rattle.bson_program.specs.Invocation.{with_preprocessing, is_option, with_criterion, mode_arg, requested_key_order, AreParsed, one_more_arg, IsRequestOf}
+use Rattle.bson_program.specs.Invocation.{requested_preprocessing, IsRequestedBy, NamesMode, IsTaskFor, IsNamedTaskFor, IsArgAfter}
+use Rattle.bson_program.specs.Invocation.{command_of, StartsWithDash, IsValueInArg, IsParsedCount, IsUsageError, IsParsed, AcceptsArg}
 use Rattle.bson_program.specs.declared.arguments.ArgsSoFar.{ArgsSoFar}
 use Rattle.bson_program.specs.declared.arguments.ParsedArg as arguments
 use Rattle.bson_program.specs.declared.arguments.ParsedArg.TheVariants as parsed
 use Rattle.bson_program.specs.declared.invocation.Request.{Request}
-use Rattle.bson_program.specs.declared.invocation.Request.TheVariants.{Run, Help, Version, Wrong}
+use Rattle.bson_program.specs.declared.invocation.Request.TheVariants.{Run, Help, Version, InvalidUsage}
 use Rattle.bson_program.specs.declared.invocation.Command.{Command}
 use Rattle.bson_program.specs.declared.invocation.Flag.TheVariants as flag
 use Rattle.bson_program.specs.declared.invocation.UsageError.{UsageError}
@@ -29,7 +29,7 @@ use Rattle.bson_convert.specs.declared.mode.Mode.TheVariants as modes
 
 -- ---- options leave a task its name
 
-taken_name : (preprocessing : Preprocessing) (task : Task) → task_name (first_preprocessed preprocessing task) ≡ task_name task
+taken_name : (preprocessing : Preprocessing) (task : Task) → task_name (with_preprocessing preprocessing task) ≡ task_name task
 taken_name preprocessing (Write mode) = refl
 taken_name preprocessing (Check Valid) = refl
 taken_name preprocessing (Check Canonical) = refl
@@ -44,7 +44,7 @@ judged_name true Encode = refl
 judged_name true (Preprocessed preprocessing inner_task) = refl
 
 named : (preprocessing : Option Preprocessing) (task : Task)
-    → task_name (option_map_or (λ it. first_preprocessed it task) preprocessing task) ≡ task_name task
+    → task_name (option_map_or (λ it. with_preprocessing it task) preprocessing task) ≡ task_name task
 named None task = refl
 named (Some it) task = taken_name it task
 
@@ -56,8 +56,8 @@ named_for purpose.Digests task named_task e = refl
 named_for purpose.Comparison task named_task e = refl
 
 canonical_taken : (preprocessing : Option Preprocessing) (it : Purpose) (sorts strict : Bool)
-    → IsTaskFor it (requested_order it sorts strict)
-    (option_map_or (λ t. first_preprocessed t (Write modes.Canonical)) preprocessing (Write modes.Canonical))
+    → IsTaskFor it (requested_key_order it sorts strict)
+    (option_map_or (λ t. with_preprocessing t (Write modes.Canonical)) preprocessing (Write modes.Canonical))
 canonical_taken preprocessing purpose.Output sorts strict = tt
 canonical_taken None purpose.Digests sorts strict = (refl, refl)
 canonical_taken None purpose.Comparison sorts strict = (refl, refl)
@@ -70,14 +70,14 @@ unjudged false = refl
 
 -- with what sorts the keys, and what is looked for in a text first
 sorted_for : (it : Purpose) (b sorts strict : Bool) (preprocessing : Option Preprocessing) (named_task : Task) → IsNamedTaskFor it named_task
-    → IsTaskFor it (requested_order it sorts strict)
-    (let task = with_criterion b named_task in option_map_or (λ t. first_preprocessed t task) preprocessing task)
+    → IsTaskFor it (requested_key_order it sorts strict)
+    (let task = with_criterion b named_task in option_map_or (λ t. with_preprocessing t task) preprocessing task)
 sorted_for purpose.Output b sorts strict preprocessing named_task is = tt
 sorted_for purpose.Digests b sorts strict preprocessing named_task is =
-    subst (λ task. IsTaskFor purpose.Digests Ascending (option_map_or (λ t. first_preprocessed t task) preprocessing task))
+    subst (λ task. IsTaskFor purpose.Digests Ascending (option_map_or (λ t. with_preprocessing t task) preprocessing task))
     (sym (ap (with_criterion b) is ∙ unjudged b)) (canonical_taken preprocessing purpose.Digests sorts strict)
 sorted_for purpose.Comparison b sorts strict preprocessing named_task is =
-    subst (λ task. IsTaskFor purpose.Comparison Ascending (option_map_or (λ t. first_preprocessed t task) preprocessing task))
+    subst (λ task. IsTaskFor purpose.Comparison Ascending (option_map_or (λ t. with_preprocessing t task) preprocessing task))
     (sym (ap (with_criterion b) is ∙ unjudged b)) (canonical_taken preprocessing purpose.Comparison sorts strict)
 
 -- ---- the answer
@@ -93,25 +93,25 @@ verb_there args it o named_task h e = subst (λ o. IfSome o (IsThere args it)) e
 answered : (args : List (List ℕ)) (args_so_far : ArgsSoFar) (requested : Request) → AreParsed args args_so_far
     → IfSome args_so_far.task (IsThere args args_so_far.purpose) → IsRequestOf args_so_far requested → IsRequestedBy args requested
 answered args args_so_far (Run invocation) are h is =
-    let there : IsThere args args_so_far.purpose is.named_task = verb_there args args_so_far.purpose args_so_far.task is.named_task h is.is_verb in
+    let there : IsThere args args_so_far.purpose is.named_task = verb_there args args_so_far.purpose args_so_far.task is.named_task h is.is_named_task in
     let name : task_name invocation.task ≡ task_name is.named_task =
     ap task_name is.task ∙ named _ (with_criterion args_so_far.is_canonical is.named_task) ∙ judged_name args_so_far.is_canonical is.named_task in (
       subst (λ it. Contains args (mode_arg it invocation.task)) (sym is.purpose)
           (subst (Contains args) (sym (named_for args_so_far.purpose invocation.task is.named_task name)) there.0),
       subst (λ it. IsTaskFor it invocation.options.key_order invocation.task) (sym is.purpose)
           (subst (λ order. IsTaskFor args_so_far.purpose order invocation.task) (sym (ap (λ (o : Options). o.key_order) is.options))
-          (subst (IsTaskFor args_so_far.purpose (requested_order args_so_far.purpose args_so_far.sorts_keys args_so_far.is_strict)) (sym is.task)
+          (subst (IsTaskFor args_so_far.purpose (requested_key_order args_so_far.purpose args_so_far.sorts_keys args_so_far.is_strict)) (sym is.task)
           (sorted_for args_so_far.purpose args_so_far.is_canonical args_so_far.sorts_keys args_so_far.is_strict
-          (requested_preprocessing args_so_far.is_distinct args_so_far.is_legacy) is.named_task there.1))),
+          (requested_preprocessing args_so_far.rejects_duplicates args_so_far.is_legacy) is.named_task there.1))),
       (args_so_far, are, is),
     )
 answered args args_so_far (Help command) are h is = absurd is
 answered args args_so_far Version are h is = absurd is
-answered args args_so_far (Wrong wrong) are h is = (args_so_far, is.1, inl (are, is.0))
+answered args args_so_far (InvalidUsage invalid_usage) are h is = (args_so_far, is.1, inl (are, is.0))
 
 pub still_there : (args : List (List ℕ)) (arg : List ℕ) (before after : Purpose) (old new : Option Task) → Contains args arg
     → IfSome old (IsThere args before)
-    → IfSome new (λ named_task. ((old ≡ Some named_task) × (after ≡ before)) ⊎ IsNamed arg after named_task) → IfSome new (IsThere args after)
+    → IfSome new (λ named_task. ((old ≡ Some named_task) × (after ≡ before)) ⊎ NamesMode arg after named_task) → IfSome new (IsThere args after)
 still_there args arg before after old None there h is = tt
 still_there args arg before after old (Some named_task) there h (inl e) =
     subst (λ it. IsThere args it named_task) (sym e.1) (verb_there args before old named_task h e.0)
@@ -123,7 +123,7 @@ version_there args arg args_so_far parsed.AcceptedArg there h e = absurd cc
 version_there args arg args_so_far parsed.Help there h e = absurd cc
 version_there args arg args_so_far parsed.Version there (inl is) e = inl (subst (Contains args) is there)
 version_there args arg args_so_far parsed.Version there (inr is) e = inr (subst (Contains args) is there)
-version_there args arg args_so_far (parsed.Wrong why) there h e = absurd cc
+version_there args arg args_so_far (parsed.InvalidUsage why) there h e = absurd cc
 
 -- the arg at a place is among the args
 pub word_there : {X : Type 0} (f : X → List ℕ) (all xs : List X) (i : ℕ) (x : X) (arg : List ℕ) → xs ≡ all → i < length xs
@@ -155,7 +155,7 @@ more_given f all xs i x arg old new same within is of args_so_far takes =
     next_taken (map f xs) i (f x) (subst (λ n. i < n) (sym (length-map xs f)) within) there in
     let before : AreParsed (take i (map f xs)) old = subst (λ ys. AreParsed (take i (map f ys)) old) (sym same) args_so_far in
     let after : AreParsed (take (suc i) (map f xs)) new =
-    subst (λ ws. AreParsed ws new) (sym grown) (one_more (f x) new before (subst (λ w. AcceptsArg w old new) of takes)) in
+    subst (λ ws. AreParsed ws new) (sym grown) (one_more_arg (f x) new before (subst (λ w. AcceptsArg w old new) of takes)) in
     subst (λ ys. AreParsed (take (i + 1) (map f ys)) new) same
     (subst (λ n. AreParsed (take n (map f xs)) new) (sym (add-one i)) after)
 
@@ -165,11 +165,11 @@ more_given f all xs i x arg old new same within is of args_so_far takes =
 pub following : {X : Type 0} (f : X → List ℕ) (all xs : List X) (i : ℕ) (x : X) (arg : List ℕ) (args_so_far : ArgsSoFar) → xs ≡ all
     → i < length xs → x ≡ get_or xs i x → arg ≡ f x → AreParsed (take i (map f all)) args_so_far → IsArgAfter (map f all) args_so_far arg
 following f all xs i x arg args_so_far same within is of are = record {
-  at = i;
-  within = subst (λ ys. i < length (map f ys)) same (subst (λ n. i < n) (sym (length-map xs f)) within);
-  is = subst (λ ys. get_or (map f ys) i arg ≡ arg) same
+  arg_index = i;
+  in_range = subst (λ ys. i < length (map f ys)) same (subst (λ n. i < n) (sym (length-map xs f)) within);
+  is_arg = subst (λ ys. get_or (map f ys) i arg ≡ arg) same
       (subst (λ w. get_or (map f xs) i w ≡ w) (sym of) (get_or-map f xs i x (f x) within ∙ ap f (sym is)));
-  before = are;
+  parsed_before = are;
 }
 
 pub help_behind : (args : List (List ℕ)) (args_so_far : ArgsSoFar) (arg : List ℕ) (it : arguments.ParsedArg) (command : Command)
@@ -178,35 +178,35 @@ pub help_behind : (args : List (List ℕ)) (args_so_far : ArgsSoFar) (arg : List
 help_behind args args_so_far arg parsed.AcceptedArg command there h e of = absurd cc
 help_behind args args_so_far arg parsed.Help command there h e of = (args_so_far, arg, there, h, of)
 help_behind args args_so_far arg parsed.Version command there h e of = absurd cc
-help_behind args args_so_far arg (parsed.Wrong why) command there h e of = absurd cc
+help_behind args args_so_far arg (parsed.InvalidUsage why) command there h e of = absurd cc
 
 pub refused_behind : (args : List (List ℕ)) (args_so_far : ArgsSoFar) (arg : List ℕ) (it : arguments.ParsedArg) (why : UsageError)
-    → IsParsed args_so_far arg it → it ≡ parsed.Wrong why → IsUsageError args_so_far arg why
+    → IsParsed args_so_far arg it → it ≡ parsed.InvalidUsage why → IsUsageError args_so_far arg why
 refused_behind args args_so_far arg parsed.AcceptedArg why h e = absurd cc
 refused_behind args args_so_far arg parsed.Help why h e = absurd cc
 refused_behind args args_so_far arg parsed.Version why h e = absurd cc
-refused_behind args args_so_far arg (parsed.Wrong other) why h e =
+refused_behind args args_so_far arg (parsed.InvalidUsage other) why h e =
     let same : other ≡ why = cc in
     subst (IsUsageError args_so_far arg) same h
 
 -- ---- values of options
 
-pub numbered_indent : (args_so_far old : ArgsSoFar) (arg text : List ℕ) (it : arguments.ParsedArg) → IsNumbered flag.Indent 16 old text it
+pub numbered_indent : (args_so_far old : ArgsSoFar) (arg text : List ℕ) (it : arguments.ParsedArg) → IsParsedCount flag.Indent 16 old text it
     → has_flag flag.Indent old ≡ has_flag flag.Indent args_so_far → (arg ≡ text) ⊎ (arg ≡ codes "--indent=" ++ text)
     → IsParsed args_so_far arg it
 numbered_indent args_so_far old arg text parsed.AcceptedArg h e at = tt
 numbered_indent args_so_far old arg text parsed.Help h e at = absurd h
 numbered_indent args_so_far old arg text parsed.Version h e at = absurd h
-numbered_indent args_so_far old arg text (parsed.Wrong why) (inl is) e at = subst (IsUsageError args_so_far arg) (sym is.0) (sym e ∙ is.1)
-numbered_indent args_so_far old arg text (parsed.Wrong why) (inr is) e at = subst (IsUsageError args_so_far arg) (sym is.0) (text, is.1, at)
+numbered_indent args_so_far old arg text (parsed.InvalidUsage why) (inl is) e at = subst (IsUsageError args_so_far arg) (sym is.0) (sym e ∙ is.1)
+numbered_indent args_so_far old arg text (parsed.InvalidUsage why) (inr is) e at = subst (IsUsageError args_so_far arg) (sym is.0) (text, is.1, at)
 
-pub numbered_jobs : (args_so_far old : ArgsSoFar) (arg text : List ℕ) (it : arguments.ParsedArg) → IsNumbered flag.Jobs 9999 old text it
+pub numbered_jobs : (args_so_far old : ArgsSoFar) (arg text : List ℕ) (it : arguments.ParsedArg) → IsParsedCount flag.Jobs 9999 old text it
     → has_flag flag.Jobs old ≡ has_flag flag.Jobs args_so_far → (arg ≡ text) ⊎ (arg ≡ codes "--jobs=" ++ text) → IsParsed args_so_far arg it
 numbered_jobs args_so_far old arg text parsed.AcceptedArg h e at = tt
 numbered_jobs args_so_far old arg text parsed.Help h e at = absurd h
 numbered_jobs args_so_far old arg text parsed.Version h e at = absurd h
-numbered_jobs args_so_far old arg text (parsed.Wrong why) (inl is) e at = subst (IsUsageError args_so_far arg) (sym is.0) (sym e ∙ is.1)
-numbered_jobs args_so_far old arg text (parsed.Wrong why) (inr is) e at = subst (IsUsageError args_so_far arg) (sym is.0) (text, is.1, at)
+numbered_jobs args_so_far old arg text (parsed.InvalidUsage why) (inl is) e at = subst (IsUsageError args_so_far arg) (sym is.0) (sym e ∙ is.1)
+numbered_jobs args_so_far old arg text (parsed.InvalidUsage why) (inr is) e at = subst (IsUsageError args_so_far arg) (sym is.0) (text, is.1, at)
 
 pub joined_taken : (args_so_far : ArgsSoFar) (arg : List ℕ) (it : arguments.ParsedArg) → IsValueInArg args_so_far arg it → StartsWithDash arg
     → is_option arg ≡ false → IsParsed args_so_far arg it

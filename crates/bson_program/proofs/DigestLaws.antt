@@ -65,7 +65,7 @@ none_ended open_line = refl
 
 pub none_begun : (hasher : Sha256) (open_line bytes : List ℕ) → Holds256 hasher open_line → HasOpenLine hasher open_line bytes 0 0
 unfolding open_line_after
-none_begun hasher open_line bytes holds = record { kept = open_line; holds = holds; line = append-nil open_line }
+none_begun hasher open_line bytes holds = record { hashed_bytes = open_line; holds = holds; is_open_line = append-nil open_line }
 
 one_more_from : (bytes : List ℕ) (start at : ℕ) → start ≤ at → at < length bytes
     → slice_range bytes start (at + 1) ≡ slice_range bytes start at ++ get_or bytes at 0 ∷ []
@@ -82,9 +82,9 @@ one_more_from bytes start at before within =
 pub line_ended : (hasher : Sha256) (open_line bytes : List ℕ) (at : ℕ) → at < length bytes → get_or bytes at 0 ≡ 10
     → Holds256 hasher [] → HasOpenLine hasher open_line bytes (at + 1) (at + 1)
 line_ended hasher open_line bytes at within is holds = record {
-  kept = [];
+  hashed_bytes = [];
   holds = holds;
-  line =
+  is_open_line =
       let ended : open_line_after open_line (take at bytes ++ get_or bytes at 0 ∷ []) ≡ [] =
       begun_more open_line (take at bytes) (get_or bytes at 0)
       ∙ ap (λ (x : ℕ). if x == 10 then [] else open_line_after open_line (take at bytes) ++ x ∷ []) is in
@@ -109,16 +109,16 @@ digest_added open_line bytes old new at within is before grown =
 pub line_grown : (hasher : Sha256) (open_line bytes : List ℕ) (start at : ℕ) → start ≤ at → at < length bytes
     → (get_or bytes at 0 ≡ 10 → ⊥) → HasOpenLine hasher open_line bytes start at → HasOpenLine hasher open_line bytes start (at + 1)
 line_grown hasher open_line bytes start at before within other it = record {
-  kept = it.kept;
+  hashed_bytes = it.hashed_bytes;
   holds = it.holds;
-  line =
+  is_open_line =
       let test : (get_or bytes at 0 == 10) ≡ false = not_equal (get_or bytes at 0) 10 other in
       let grown : open_line_after open_line (take at bytes ++ get_or bytes at 0 ∷ []) ≡ open_line_after open_line (take at bytes) ++ get_or bytes at 0 ∷ [] =
       begun_more open_line (take at bytes) (get_or bytes at 0)
       ∙ ap (λ (t : Bool). if t then [] else open_line_after open_line (take at bytes) ++ get_or bytes at 0 ∷ []) test in
-      ap (λ l. it.kept ++ l) (one_more_from bytes start at before within)
-      ∙ sym (append_assoc it.kept (slice_range bytes start at) (get_or bytes at 0 ∷ []))
-      ∙ ap (λ l. l ++ get_or bytes at 0 ∷ []) it.line ∙ sym grown ∙ ap (open_line_after open_line) (sym (take_more bytes at 0 within));
+      ap (λ l. it.hashed_bytes ++ l) (one_more_from bytes start at before within)
+      ∙ sym (append_assoc it.hashed_bytes (slice_range bytes start at) (get_or bytes at 0 ∷ []))
+      ∙ ap (λ l. l ++ get_or bytes at 0 ∷ []) it.is_open_line ∙ sym grown ∙ ap (open_line_after open_line) (sym (take_more bytes at 0 within));
 }
 
 pub digests_kept : (open_line bytes digests : List ℕ) (at : ℕ) → at < length bytes → (get_or bytes at 0 ≡ 10 → ⊥)
@@ -136,4 +136,4 @@ digests_kept open_line bytes digests at within other before =
 pub line_fed : (old new : Sha256) (open_line bytes : List ℕ) (start at : ℕ) → HasOpenLine old open_line bytes start at
     → ((m : List ℕ) → Holds256 old m → Holds256 new (m ++ slice_range bytes start at))
     → Holds256 new (open_line_after open_line (take at bytes))
-line_fed old new open_line bytes start at it fed = subst (Holds256 new) it.line (fed it.kept it.holds)
+line_fed old new open_line bytes start at it fed = subst (Holds256 new) it.is_open_line (fed it.hashed_bytes it.holds)

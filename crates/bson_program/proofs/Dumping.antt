@@ -32,39 +32,39 @@ flushed output_before mid output_after first last bytes e f h k =
     (kept (append_known output_before first) mid (append_known output_after last) bytes h k))
 
 -- the end at a document of a run that keeps going
-pub cut_dump : (run : Run) (before after output_before mid output_after diagnostics_before said diagnostics_after : Option (List ℕ)) (first last : List ℕ)
-    (fault : RunFault) (number left start documents refused : ℕ)
-    → EndsAt run before after (append_known output_before first) mid diagnostics_before said fault number left start → first ≡ [] → last ≡ []
+pub cut_dump : (run : Run) (before after output_before mid output_after diagnostics_before diagnostics_between diagnostics_after : Option (List ℕ)) (first last : List ℕ)
+    (fault : RunFault) (number refused_before document_offset documents refused : ℕ)
+    → EndsAt run before after (append_known output_before first) mid diagnostics_before diagnostics_between fault number refused_before document_offset → first ≡ [] → last ≡ []
     → Keeps mid (append_known output_after last) → run.keep_going ≡ true → IsFaultOfDocument fault
-    → Appends said diagnostics_after (diagnostic_of number start fault) → documents ≡ number → refused ≡ left + 1
+    → Appends diagnostics_between diagnostics_after (diagnostic_of number document_offset fault) → documents ≡ number → refused ≡ refused_before + 1
     → IsDoneDump run before after output_before output_after diagnostics_before diagnostics_after documents refused
-cut_dump run before after output_before mid output_after diagnostics_before said diagnostics_after first last fault number left start documents refused h e f k going is reports_appended same counted =
-    let ended : EndsAt run before after output_before output_after diagnostics_before said fault number left start = record {
-      done = h.done;
+cut_dump run before after output_before mid output_after diagnostics_before diagnostics_between diagnostics_after first last fault number refused_before document_offset documents refused h e f k going is reports_appended same counted =
+    let ended : EndsAt run before after output_before output_after diagnostics_before diagnostics_between fault number refused_before document_offset = record {
+      converted_bytes = h.converted_bytes;
       bytes_read = h.bytes_read;
       output = h.output;
-      more = h.more;
+      partial_line = h.partial_line;
       diagnostic_lines = h.diagnostic_lines;
-      partial_report = h.partial_report;
-      count = h.count;
+      partial_diagnostic = h.partial_diagnostic;
+      earlier_documents = h.earlier_documents;
       consumed_bytes = h.consumed_bytes;
       front = h.front;
       documents = h.documents;
       counted = h.counted;
-      place = h.place;
+      offset_is_length = h.offset_is_length;
       reason = h.reason;
-      written = flushed output_before mid output_after first last (h.output ++ h.more) e f h.written k;
+      written = flushed output_before mid output_after first last (h.output ++ h.partial_line) e f h.written k;
       reports_appended = h.reports_appended;
     } in
     subst (λ (n : ℕ). IsDoneDump run before after output_before output_after diagnostics_before diagnostics_after n refused) (sym same)
     (inr (record {
       fault = fault;
-      left = left;
-      start = start;
-      said = said;
+      refused_before = refused_before;
+      document_offset = document_offset;
+      diagnostics_between = diagnostics_between;
       keeps_going = going;
-      of_bytes = is;
-      ended = ended;
+      is_document_fault = is;
+      ends_at = ended;
       reports_appended = reports_appended;
-      counted = counted;
+      counts_this_document = counted;
     }))

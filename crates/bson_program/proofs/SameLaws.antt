@@ -16,9 +16,9 @@ use Rattle.std.specs.declared.cmp.Ordering.{Ordering}
 use Rattle.std.specs.declared.cmp.Ordering.TheVariants.{Less, Equal, Greater}
 use Rattle.bson_program.proofs.Verdicts.{first}
 use Rattle.bson_program.specs.Messages.{line_len, split_lines}
-use Rattle.bson_program.specs.Comparison.{DifferFirstAt, IsDifference}
+use Rattle.bson_program.specs.Comparison.{FirstDifferenceAt, IsDifference}
 use Rattle.bson_program.specs.declared.compare_outputs.Difference.{Difference}
-use Rattle.bson_program.specs.declared.compare_outputs.Difference.TheVariants.{At, Counts, Lines}
+use Rattle.bson_program.specs.declared.compare_outputs.Difference.TheVariants.{AtValue, UnequalCounts, EqualCounts}
 
 -- the bytes of lines
 abbrev pub texts : List (Bor (List ℕ)) → List (List ℕ)
@@ -57,11 +57,11 @@ same_more xs ys at d in_xs in_ys test before =
 
 pub differ_here : (xs ys : List (Bor (List ℕ))) (at : ℕ) (d : Bor (List ℕ)) → at < length xs → at < length ys
     → not (pointwise nat_eq (get_or xs at d).now (get_or ys at d).now) ≡ true
-    → take at (texts xs) ≡ take at (texts ys) → DifferFirstAt at (texts xs) (texts ys)
+    → take at (texts xs) ≡ take at (texts ys) → FirstDifferenceAt at (texts xs) (texts ys)
 differ_here xs ys at d in_xs in_ys test before = record {
   in_first = subst (λ n. at < n) (sym (length-map xs (λ line. line.now))) in_xs;
   in_second = subst (λ n. at < n) (sym (length-map ys (λ line. line.now))) in_ys;
-  before = before;
+  same_before = before;
   differ = λ same.
       let equal : bytes_eq (get_or xs at d).now (get_or ys at d).now ≡ true =
       (bytes_eq-Decides (get_or xs at d).now (get_or ys at d).now).1 (sym (text_at xs at d in_xs) ∙ same ∙ text_at ys at d in_ys) in
@@ -173,9 +173,9 @@ sorted_from_same xs ys us vs moved other up down same =
 
 -- lines with a difference are not the same
 differs : (first second : List (List ℕ)) (it : Difference) → IsDifference first second it → first ≡ second → ⊥
-differs first second (At number) is same = is.2.differ (ap (λ l. get_or l is.0 []) same)
-differs first second (Counts count other) is same = is.differ (is.in_first ∙ ap length same ∙ sym is.in_second)
-differs first second (Lines count) is same = is
+differs first second (AtValue number) is same = is.2.differ (ap (λ l. get_or l is.0 []) same)
+differs first second (UnequalCounts count other) is same = is.differ (is.in_first ∙ ap length same ∙ sym is.in_second)
+differs first second (EqualCounts count) is same = is
 
 pub differ_sorted : (xs ys us vs : List (Bor (List ℕ))) (it : Difference) → IsPermutation xs us → IsPermutation ys vs
     → IsSorted (λ x y. by_bytes x.now y.now) us → IsSorted (λ x y. by_bytes x.now y.now) vs

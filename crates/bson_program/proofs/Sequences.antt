@@ -15,9 +15,9 @@ use Rattle.bson_run.specs.Accepted.{HasOutput, IsUtf8Accepted}
 use Rattle.bson_run.specs.declared.accepted.Accepted.{Accepted}
 use Rattle.bson_run.specs.Lines.{WritesText}
 use Rattle.bson_run.specs.ErrorMessages.{IsPositionMessage}
-use Rattle.bson_program.specs.Texts.{AcceptedStops, AreWritten, HasLine, IsNotJson, IsSequence, IsTextDone, StopsAt, TextFails}
-use Rattle.bson_program.specs.Texts.{TextStops, TextsDone, TextsStop, WritesAccepted, WritesAll, content_of, is_sequence}
-use Rattle.bson_program.specs.Texts.AreWritten.{no_texts, one_more}
+use Rattle.bson_program.specs.Texts.{CannotWriteAccepted, AreTextOutputs, IsErrorLine, IsNotJson, IsSequence, WritesTextOutput, StopsAt, IsTextFailure}
+use Rattle.bson_program.specs.Texts.{FailsAtText, ConvertsTexts, FailsOnInput, WritesAcceptedText, WritesAllTexts, content_of, is_sequence}
+use Rattle.bson_program.specs.Texts.AreTextOutputs.{no_texts, one_more_text}
 use Rattle.bson_program.specs.SingleText.{IsTextRejected, WritesOutput}
 use Rattle.bson_program.specs.declared.invocation.Invocation.{Invocation}
 use Rattle.bson_program.specs.declared.run.RunFailure.{RunFailure}
@@ -63,7 +63,7 @@ pub record Reaches (invocation : Invocation) (content rest : List ℕ) (output_b
   pub done : List (List ℕ)
   pub written : List ℕ
   pub texts : texts_in content ≡ done ++ texts_in rest
-  pub outputs : AreWritten invocation done written
+  pub outputs : AreTextOutputs invocation done written
   pub utf8 : WritesText invocation.task → IsUtf8 written
   pub kept : Appends output_before output_after written
   pub front : List ℕ
@@ -118,7 +118,7 @@ module _ (invocation : Invocation) (content : List ℕ) (output_before : Option 
 
   pub goes_on : (rest text next : List ℕ) (output_between output_after : Option (List ℕ)) → texts_in rest ≡ prepend_part text (texts_in next)
       → ((rest ≡ text) × (next ≡ [])) ⊎ ((x : ℕ) × (rest ≡ text ++ x ∷ next)) → 0 < length text
-      → IsTextDone invocation text output_between output_after → Reaches invocation content rest output_before output_between → Reaches invocation content next output_before output_after
+      → WritesTextOutput invocation text output_between output_after → Reaches invocation content rest output_before output_between → Reaches invocation content next output_before output_after
   goes_on rest text next output_between output_after found place some t r =
       let a = after rest text next place in
       record {
@@ -126,18 +126,18 @@ module _ (invocation : Invocation) (content : List ℕ) (output_before : Option 
         written = r.written ++ t.output;
         texts = r.texts ∙ ap (λ ts. r.done ++ ts) (found ∙ one_text text (texts_in next) some)
             ∙ sym (append_assoc r.done (text ∷ []) (texts_in next));
-        outputs = one_more text t.output r.outputs t.has.gives;
-        utf8 = λ w. IsUtf8-append r.written t.output (r.utf8 w) (t.has.utf8 w);
+        outputs = one_more_text text t.output r.outputs t.text_output.writes_output;
+        utf8 = λ w. IsUtf8-append r.written t.output (r.utf8 w) (t.text_output.utf8 w);
         kept = Appends-trans output_before output_between output_after r.written t.output r.kept t.written;
         front = r.front ++ (text ++ a.between);
         following = moved r.front rest text next a r.following;
       }
 
   pub ends : (rest : List ℕ) (output_after : Option (List ℕ)) → length rest ≡ 0 → Reaches invocation content rest output_before output_after
-      → WritesAll invocation content output_before output_after
+      → WritesAllTexts invocation content output_before output_after
   ends rest output_after none r = record {
     output = r.written;
-    outputs = subst (λ ts. AreWritten invocation ts r.written)
+    outputs = subst (λ ts. AreTextOutputs invocation ts r.written)
         (sym (r.texts ∙ ap (λ ts. r.done ++ ts) (none_left rest none) ∙ append-nil r.done)) r.outputs;
     utf8 = r.utf8;
     written = r.kept;
@@ -170,7 +170,7 @@ pub stops_in : (invocation : Invocation) (stop : RunFailure) (name content rest 
     → texts_in rest ≡ prepend_part text (texts_in next)
     → ((rest ≡ text) × (next ≡ [])) ⊎ ((x : ℕ) × (rest ≡ text ++ x ∷ next)) → 0 < length text
     → Reaches invocation content rest output_before output_between
-    → TextStops invocation stop name content (length content - length rest) text output_between output_after
+    → FailsAtText invocation stop name content (length content - length rest) text output_between output_after
     → IsSequence invocation content → StopsAt invocation stop name content output_before output_after
 stops_in invocation stop name content rest text next output_before output_between output_after found place some r stops sequence =
     let a = after invocation content output_before rest text next place in
@@ -179,22 +179,22 @@ stops_in invocation stop name content rest text next output_before output_betwee
       start = length content - length rest;
       written = r.written;
       output_between = output_between;
-      is = inr (record {
-        done = r.done;
-        rest = texts_in next;
+      input_text = inr (record {
+        texts_before = r.done;
+        texts_after = texts_in next;
         sequence = sequence;
         texts = r.texts ∙ ap (λ ts. r.done ++ ts) (found ∙ one_text text (texts_in next) some);
-        begins = text_there r.front rest text a.between next content r.following a.splits;
+        is_text_at_start = text_there r.front rest text a.between next content r.following a.splits;
         outputs = r.outputs;
       });
-      before = r.kept;
-      stops = stops;
+      written_before = r.kept;
+      fails_at_text = stops;
     }
 
 -- the text is rejected for the error, with the words for it
 pub text_fails : (invocation : Invocation) (fault : Error) (place content text : List ℕ) (start number : ℕ)
-    → IsTextRejected invocation.options invocation.task fault text → IsPositionMessage text fault place → HasLine fault content start text number
-    → TextFails invocation fault place number content start text
+    → IsTextRejected invocation.options invocation.task fault text → IsPositionMessage text fault place → IsErrorLine fault content start text number
+    → IsTextFailure invocation fault place number content start text
 text_fails invocation OutOfMemory place content text start number is lies line = (line, lies)
 text_fails invocation CannotRead place content text start number is lies line = (is, lies, line)
 text_fails invocation CannotWrite place content text start number is lies line = (is, lies, line)
@@ -205,16 +205,16 @@ text_fails invocation (NotCanonical column) place content text start number is l
 
 -- all bytes are the text at which a run stops
 pub stops_whole : (invocation : Invocation) (stop : RunFailure) (name content : List ℕ) (output_before output_after : Option (List ℕ))
-    → (IsNotJson stop → is_sequence invocation content ≡ false) → TextStops invocation stop name content 0 content output_before output_after
+    → (IsNotJson stop → is_sequence invocation content ≡ false) → FailsAtText invocation stop name content 0 content output_before output_after
     → StopsAt invocation stop name content output_before output_after
 stops_whole invocation stop name content output_before output_after alone stops = record {
   text = content;
   start = 0;
   written = [];
   output_between = output_before;
-  is = inl (record { whole = refl; first = refl; nothing = refl; alone = alone });
-  before = Appends-nil output_before;
-  stops = stops;
+  input_text = inl (record { is_content = refl; starts_at_zero = refl; nothing_written = refl; not_sequence = alone });
+  written_before = Appends-nil output_before;
+  fails_at_text = stops;
 }
 
 -- what was read has the bytes
@@ -225,36 +225,36 @@ content_read invocation name content read bytes is same = is ∙ ap (content_of 
 -- all was read before it
 pub reads_and_stops : (invocation : Invocation) (stop : RunFailure) (name content bytes : List ℕ) (before after output_before output_after : Option (List ℕ))
     → ReadsAll before after bytes → content ≡ content_of invocation name bytes → StopsAt invocation stop name content output_before output_after
-    → TextsStop invocation stop name before after output_before output_after
+    → FailsOnInput invocation stop name before after output_before output_after
 reads_and_stops invocation stop name content bytes before after output_before output_after all is at = inr (record {
   bytes = bytes;
-  all = all;
-  at = subst (λ c. StopsAt invocation stop name c output_before output_after) is at;
+  reads_all = all;
+  stops_at = subst (λ c. StopsAt invocation stop name c output_before output_after) is at;
 })
 
 module _ (invocation : Invocation) (name content : List ℕ) (accepted : Accepted) (output_before output_after : Option (List ℕ))
     (has : HasOutput invocation.options (WritesOutput invocation invocation.task content) accepted)
     (utf8 : WritesText invocation.task → IsUtf8Accepted accepted) where
   pub one_text_done : (before after : Option (List ℕ)) (bytes : List ℕ) → ReadsAll before after bytes
-      → content ≡ content_of invocation name bytes → WritesAccepted invocation accepted output_before output_after
-      → TextsDone invocation name before after output_before output_after
+      → content ≡ content_of invocation name bytes → WritesAcceptedText invocation accepted output_before output_after
+      → ConvertsTexts invocation name before after output_before output_after
   one_text_done before after bytes all is w = record {
     bytes = bytes;
     output = w.output;
-    all = all;
-    gives = inl (subst (λ c. WritesOutput invocation invocation.task c w.output) is (has.given w.output w.outputs));
+    reads_all = all;
+    writes_output = inl (subst (λ c. WritesOutput invocation invocation.task c w.output) is (has.each_output w.output w.outputs));
     utf8 = λ t. w.utf8 (utf8 t);
     written = w.written;
   }
 
-  one_text_stops : (stop : RunFailure) → AcceptedStops invocation stop name accepted output_before output_after
-      → TextStops invocation stop name content 0 content output_before output_after
+  one_text_stops : (stop : RunFailure) → CannotWriteAccepted invocation stop name accepted output_before output_after
+      → FailsAtText invocation stop name content 0 content output_before output_after
   one_text_stops (stops.Output it error) h = (
     h.0,
     (
       h.1.0,
       record {
-        gives = has.given h.1.0 h.1.1;
+        writes_output = has.each_output h.1.0 h.1.1;
         utf8 = λ t. h.1.2 (utf8 t);
       },
     ),
@@ -267,11 +267,11 @@ module _ (invocation : Invocation) (name content : List ℕ) (accepted : Accepte
   one_text_stops (stops.Text it number (NoBytes why) place) h = absurd h
   one_text_stops (stops.Text it number (NotCanonical column) place) h = absurd h
   one_text_stops (stops.Input it error) h = absurd h
-  one_text_stops (stops.Both it) h = absurd h
-  one_text_stops stops.Terminal h = absurd h
+  one_text_stops (stops.InputIsOutput it) h = absurd h
+  one_text_stops stops.OutputIsTerminal h = absurd h
   one_text_stops (stops.Document it end) h = absurd h
 
-  no_syntax_error : (stop : RunFailure) → AcceptedStops invocation stop name accepted output_before output_after → IsNotJson stop
+  no_syntax_error : (stop : RunFailure) → CannotWriteAccepted invocation stop name accepted output_before output_after → IsNotJson stop
       → is_sequence invocation content ≡ false
   no_syntax_error (stops.Text it number OutOfMemory place) h is = absurd is
   no_syntax_error (stops.Text it number CannotRead place) h is = absurd is
@@ -282,11 +282,11 @@ module _ (invocation : Invocation) (name content : List ℕ) (accepted : Accepte
   no_syntax_error (stops.Text it number (NotCanonical column) place) h is = absurd is
   no_syntax_error (stops.Output it error) h is = absurd is
   no_syntax_error (stops.Input it error) h is = absurd is
-  no_syntax_error (stops.Both it) h is = absurd is
-  no_syntax_error stops.Terminal h is = absurd is
+  no_syntax_error (stops.InputIsOutput it) h is = absurd is
+  no_syntax_error stops.OutputIsTerminal h is = absurd is
   no_syntax_error (stops.Document it end) h is = absurd is
 
-  pub accepted_stops : (stop : RunFailure) → AcceptedStops invocation stop name accepted output_before output_after → StopsAt invocation stop name content output_before output_after
+  pub accepted_stops : (stop : RunFailure) → CannotWriteAccepted invocation stop name accepted output_before output_after → StopsAt invocation stop name content output_before output_after
   accepted_stops stop h =
       stops_whole invocation stop name content output_before output_after (no_syntax_error stop h) (one_text_stops stop h)
 

@@ -4,54 +4,58 @@ use Rattle.std.specs.Prelude.{get_or, length, take, if◌then◌else◌}
 use Rattle.std.specs.Fmt.{decimal}
 use Rattle.std.specs.List.Sorted.{IsPermutation}
 use Rattle.bson_program.specs.declared.compare_outputs.Difference.{Difference}
-use Rattle.bson_program.specs.declared.compare_outputs.Difference.TheVariants.{At, Counts, Lines}
+use Rattle.bson_program.specs.declared.compare_outputs.Difference.TheVariants.{AtValue, UnequalCounts, EqualCounts}
 
 -- the lines at this place are the first that differ
-pub record DifferFirstAt (at : ℕ) (first second : List (List ℕ)) : Type 0 where
-  pub in_first : at < length first
-  pub in_second : at < length second
-  pub before : take at first ≡ take at second
-  pub differ : get_or first at [] ≢ get_or second at []
+pub record FirstDifferenceAt (line_index : ℕ) (first_lines second_lines : List (List ℕ)) : Type 0 where
+  pub in_first : line_index < length first_lines
+  pub in_second : line_index < length second_lines
+  pub same_before : take line_index first_lines ≡ take line_index second_lines
+  pub differ : get_or first_lines line_index [] ≢ get_or second_lines line_index []
 
 -- one list of lines is the beginning of the other
-pub record EndsEarlier (first second : List (List ℕ)) (count other : ℕ) : Type 0 where
-  pub in_first : count ≡ length first
-  pub in_second : other ≡ length second
-  pub differ : count ≢ other
-  pub before : take (min count other) first ≡ take (min count other) second
+pub record IsShorterOutput (first_lines second_lines : List (List ℕ)) (first_count second_count : ℕ) : Type 0 where
+  pub in_first : first_count ≡ length first_lines
+  pub in_second : second_count ≡ length second_lines
+  pub differ : first_count ≢ second_count
+  pub same_before : take (min first_count second_count) first_lines ≡ take (min first_count second_count) second_lines
 
 -- the first difference
-abbrev pub IsDifference : (first second : List (List ℕ)) → Difference → Type 0
-IsDifference first second (At number) = (at : ℕ) × (number ≡ at + 1) × DifferFirstAt at first second
-IsDifference first second (Counts first_count second_count) = EndsEarlier first second first_count second_count
-IsDifference first second (Lines count) = ⊥
+abbrev pub IsDifference : (first_lines second_lines : List (List ℕ)) → Difference → Type 0
+IsDifference first_lines second_lines (AtValue value_number) = (line_index : ℕ) × (value_number ≡ line_index + 1)
+    × FirstDifferenceAt line_index first_lines second_lines
+IsDifference first_lines second_lines (UnequalCounts first_count second_count) =
+    IsShorterOutput first_lines second_lines first_count second_count
+IsDifference first_lines second_lines (EqualCounts count) = ⊥
 
 -- the difference between lines whose order does not matter
-abbrev pub IsUnorderedDifference : (first second : List (List ℕ)) → Difference → Type 0
-IsUnorderedDifference first second (At number) = ⊥
-IsUnorderedDifference first second (Counts first_count second_count) =
-    (first_count ≡ length first) × (second_count ≡ length second) × (first_count ≢ second_count)
-IsUnorderedDifference first second (Lines count) =
-    (count ≡ length first) × (count ≡ length second) × (IsPermutation first second → ⊥)
+abbrev pub IsUnorderedDifference : (first_lines second_lines : List (List ℕ)) → Difference → Type 0
+IsUnorderedDifference first_lines second_lines (AtValue value_number) = ⊥
+IsUnorderedDifference first_lines second_lines (UnequalCounts first_count second_count) =
+    (first_count ≡ length first_lines) × (second_count ≡ length second_lines) × (first_count ≢ second_count)
+IsUnorderedDifference first_lines second_lines (EqualCounts count) =
+    (count ≡ length first_lines) × (count ≡ length second_lines) × (IsPermutation first_lines second_lines → ⊥)
 
 -- the result of a comparison
-abbrev pub IsComparison : (is_unordered : Bool) → (first second : List (List ℕ)) → Option Difference → Type 0
-IsComparison false first second None = first ≡ second
-IsComparison true first second None = IsPermutation first second
-IsComparison false first second (Some difference) = IsDifference first second difference
-IsComparison true first second (Some difference) = IsUnorderedDifference first second difference
+abbrev pub IsComparison : (is_unordered : Bool) → (first_lines second_lines : List (List ℕ)) → Option Difference
+    → Type 0
+IsComparison false first_lines second_lines None = first_lines ≡ second_lines
+IsComparison true first_lines second_lines None = IsPermutation first_lines second_lines
+IsComparison false first_lines second_lines (Some difference) = IsDifference first_lines second_lines difference
+IsComparison true first_lines second_lines (Some difference) = IsUnorderedDifference first_lines second_lines difference
 
 -- ---- messages
 
 -- a number of values for a message
-abbrev pub counted : ℕ → List ℕ
-counted count = if count == 1 then codes "1 value" else decimal count ++ codes " values"
+abbrev pub value_count_text : (count : ℕ) → List ℕ
+value_count_text count = if count == 1 then codes "1 value" else decimal count ++ codes " values"
 
 -- the line that says how two files differ, by the names that messages show
-abbrev pub difference_message : (first second : List ℕ) → Difference → List ℕ
-difference_message first second (At number) =
-    codes "bson: " ++ first ++ codes " and " ++ second ++ codes " differ at value " ++ decimal number
-difference_message first second (Counts count other) =
-    codes "bson: " ++ first ++ codes " has " ++ counted count ++ codes ", and " ++ second ++ codes " has " ++ decimal other
-difference_message first second (Lines count) =
-    codes "bson: " ++ first ++ codes " and " ++ second ++ codes " differ: each has " ++ counted count
+abbrev pub difference_message : (first_name second_name : List ℕ) → Difference → List ℕ
+difference_message first_name second_name (AtValue value_number) =
+    codes "bson: " ++ first_name ++ codes " and " ++ second_name ++ codes " differ at value " ++ decimal value_number
+difference_message first_name second_name (UnequalCounts first_count second_count) =
+    codes "bson: " ++ first_name ++ codes " has " ++ value_count_text first_count ++ codes ", and " ++ second_name
+    ++ codes " has " ++ decimal second_count
+difference_message first_name second_name (EqualCounts count) =
+    codes "bson: " ++ first_name ++ codes " and " ++ second_name ++ codes " differ: each has " ++ value_count_text count

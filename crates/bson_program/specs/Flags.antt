@@ -6,7 +6,7 @@ use Rattle.bson_run.specs.declared.task.Task.{Task}
 use Rattle.bson_run.specs.declared.task.Task.TheVariants.{Write, Check, Encode}
 use Rattle.bson_program.specs.declared.arguments.ArgsSoFar.{ArgsSoFar}
 use Rattle.bson_program.specs.declared.invocation.Flag.{Flag}
-use Rattle.bson_program.specs.declared.invocation.Flag.TheVariants.{SortKeys, Strict, Legacy, NoDoubleKeys, Canonical, Indent, KeepGoing, Jobs}
+use Rattle.bson_program.specs.declared.invocation.Flag.TheVariants.{SortKeys, Strict, Legacy, NoDuplicateKeys, Canonical, Indent, KeepGoing, Jobs}
 use Rattle.bson_program.specs.declared.invocation.Flag.TheVariants.{Output, Unordered}
 use Rattle.bson_program.specs.declared.invocation.Input.{Input}
 use Rattle.bson_program.specs.declared.invocation.Input.TheVariants.{Text, Documents}
@@ -18,10 +18,10 @@ use Rattle.bson_program.specs.declared.invocation.Purpose.TheVariants as purpose
 -- The columns are one document (Text), lines and dumps (Documents), each with its task.
 
 -- a form of Extended JSON is written
-abbrev pub is_form : Task → Bool
-is_form (Write Show) = false
-is_form (Write mode) = true
-is_form task = false
+abbrev pub writes_form : Task → Bool
+writes_form (Write Show) = false
+writes_form (Write mode) = true
+writes_form task = false
 
 -- the input is only checked
 abbrev pub is_check : Task → Bool
@@ -40,43 +40,43 @@ reads_texts input (Check criterion.Canonical) = false
 reads_texts input task = true
 
 -- texts are read, and only checked
-abbrev pub judges_texts : Input → Task → Bool
-judges_texts Documents task = false
-judges_texts input task = is_check task
+abbrev pub checks_texts : Input → Task → Bool
+checks_texts Documents task = false
+checks_texts input task = is_check task
 
 -- many documents are read
-abbrev pub reads_many : Input → Bool
-reads_many Text = false
-reads_many input = true
+abbrev pub reads_lines_or_documents : Input → Bool
+reads_lines_or_documents Text = false
+reads_lines_or_documents input = true
 
 -- the command has the option
 abbrev pub command_allows : Flag → Input → Task → Bool
-command_allows SortKeys Documents task = is_form task
+command_allows SortKeys Documents task = writes_form task
 command_allows SortKeys input task = has_output task
-command_allows Strict Documents task = is_form task
+command_allows Strict Documents task = writes_form task
 command_allows Strict input task = true
 command_allows Legacy input task = reads_texts input task
-command_allows NoDoubleKeys input task = reads_texts input task
-command_allows Canonical input task = judges_texts input task
-command_allows Indent Text task = is_form task
+command_allows NoDuplicateKeys input task = reads_texts input task
+command_allows Canonical input task = checks_texts input task
+command_allows Indent Text task = writes_form task
 command_allows Indent input task = false
-command_allows KeepGoing input task = reads_many input
-command_allows Jobs input task = reads_many input
+command_allows KeepGoing input task = reads_lines_or_documents input
+command_allows Jobs input task = reads_lines_or_documents input
 command_allows Output input task = has_output task
 command_allows Unordered input task = true
 
 -- modes with this purpose have the option
 abbrev pub purpose_allows : Flag → Purpose → Bool
 purpose_allows SortKeys purpose.Output = true
-purpose_allows SortKeys other = false
+purpose_allows SortKeys purpose = false
 purpose_allows Indent purpose.Output = true
-purpose_allows Indent other = false
+purpose_allows Indent purpose = false
 purpose_allows KeepGoing purpose.Comparison = false
 purpose_allows Jobs purpose.Comparison = false
 purpose_allows Output purpose.Comparison = false
 purpose_allows Unordered purpose.Comparison = true
-purpose_allows Unordered other = false
-purpose_allows flag other = true
+purpose_allows Unordered purpose = false
+purpose_allows flag purpose = true
 
 -- ---- options that are set
 
@@ -84,7 +84,7 @@ abbrev pub has_flag : Flag → ArgsSoFar → Bool
 has_flag SortKeys args_so_far = args_so_far.sorts_keys
 has_flag Strict args_so_far = args_so_far.is_strict
 has_flag Legacy args_so_far = args_so_far.is_legacy
-has_flag NoDoubleKeys args_so_far = args_so_far.is_distinct
+has_flag NoDuplicateKeys args_so_far = args_so_far.rejects_duplicates
 has_flag Canonical args_so_far = args_so_far.is_canonical
 has_flag Indent args_so_far = is_some args_so_far.indent
 has_flag KeepGoing args_so_far = args_so_far.keeps_going
@@ -94,7 +94,9 @@ has_flag Unordered args_so_far = args_so_far.is_unordered
 
 -- an option is set that the command does not have
 abbrev pub is_unsupported : Flag → ArgsSoFar → Task → Bool
-is_unsupported flag args_so_far task = if purpose_allows flag args_so_far.purpose && command_allows flag args_so_far.input task then false else has_flag flag args_so_far
+is_unsupported flag args_so_far task =
+    if purpose_allows flag args_so_far.purpose && command_allows flag args_so_far.input task then false
+    else has_flag flag args_so_far
 
 -- ---- the names of options
 
@@ -102,7 +104,7 @@ abbrev pub flag_name : Flag → List ℕ
 flag_name SortKeys = codes "--sort-keys"
 flag_name Strict = codes "--strict"
 flag_name Legacy = codes "--legacy"
-flag_name NoDoubleKeys = codes "--no-double-keys"
+flag_name NoDuplicateKeys = codes "--no-double-keys"
 flag_name Canonical = codes "--canonical"
 flag_name Indent = codes "--indent"
 flag_name KeepGoing = codes "--keep-going"

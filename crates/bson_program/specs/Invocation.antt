@@ -16,7 +16,7 @@ use Rattle.bson_run.specs.declared.task.Task.TheVariants.{Write, Check, Encode, 
 use Rattle.bson_run.specs.declared.task.InnerTask.TheVariants as inner_task
 use Rattle.bson_program.specs.Flags.{is_unsupported, has_flag}
 use Rattle.bson_program.specs.declared.invocation.Request.{Request}
-use Rattle.bson_program.specs.declared.invocation.Request.TheVariants.{Run, Help, Version, Wrong}
+use Rattle.bson_program.specs.declared.invocation.Request.TheVariants.{Run, Help, Version, InvalidUsage}
 use Rattle.bson_program.specs.declared.invocation.Command.{Command}
 use Rattle.bson_program.specs.declared.invocation.Command.TheVariants as command
 use Rattle.bson_program.specs.declared.invocation.Flag.{Flag}
@@ -31,8 +31,8 @@ use Rattle.bson_program.specs.declared.invocation.Purpose.TheVariants as purpose
 use Rattle.bson_program.specs.declared.arguments.ArgsSoFar.{ArgsSoFar}
 use Rattle.bson_program.specs.declared.arguments.ParsedArg as arguments
 use Rattle.bson_program.specs.declared.arguments.ParsedArg.TheVariants as parsed
-use Rattle.bson_program.specs.declared.arguments.Next.{Next}
-use Rattle.bson_program.specs.declared.arguments.Next.TheVariants.{Any, Output, Indent, Jobs, Name}
+use Rattle.bson_program.specs.declared.arguments.ExpectedArg.{ExpectedArg}
+use Rattle.bson_program.specs.declared.arguments.ExpectedArg.TheVariants.{AnyArg, OutputFile, IndentWidth, JobCount, Operand}
 use Rattle.bson.specs.Doubles.{Doubles}
 use Rattle.bson.specs.Doubles.TheVariants.{Finite, Special}
 use Rattle.bson.specs.declared.extjson.key_order.KeyOrder.{KeyOrder}
@@ -42,33 +42,33 @@ use Rattle.bson.specs.declared.extjson.options.Options.{Options}
 -- ---- tasks and options
 
 -- a check by the criterion that the option sets
-abbrev pub with_criterion : (is_canonical : Bool) → Task → Task
+abbrev pub with_criterion : (is_canonical : Bool) → (named_task : Task) → Task
 with_criterion false task = task
 with_criterion true (Check criterion) = Check Canonical
 with_criterion true task = task
 
 -- the preprocessing of a text before it is read: the check for duplicate keys, and rewriting Extended JSON v1
-abbrev pub requested_preprocessing : (is_distinct is_legacy : Bool) → Option Preprocessing
+abbrev pub requested_preprocessing : (rejects_duplicates is_legacy : Bool) → Option Preprocessing
 requested_preprocessing true true = Some DistinctLegacy
 requested_preprocessing true false = Some Distinct
 requested_preprocessing false true = Some Legacy
 requested_preprocessing false false = None
 
--- of texts that are taken so; bytes are made of texts that are not, and those that are to be canonical are not either
-abbrev pub first_preprocessed : Preprocessing → Task → Task
-first_preprocessed preprocessing (Write mode) = Preprocessed preprocessing (inner_task.Write mode)
-first_preprocessed preprocessing (Check Valid) = Preprocessed preprocessing inner_task.Check
-first_preprocessed preprocessing task = task
+-- the task on preprocessed texts; texts that are encoded, or checked for their canonical form, are not preprocessed
+abbrev pub with_preprocessing : Preprocessing → Task → Task
+with_preprocessing preprocessing (Write mode) = Preprocessed preprocessing (inner_task.Write mode)
+with_preprocessing preprocessing (Check Valid) = Preprocessed preprocessing inner_task.Check
+with_preprocessing preprocessing task = task
 
 -- all doubles have a text; or, if the run is strict, those of the specification
-abbrev pub doubles_of : (is_strict : Bool) → Doubles
-doubles_of true = Special
-doubles_of false = Finite
+abbrev pub accepted_doubles : (is_strict : Bool) → Doubles
+accepted_doubles true = Special
+accepted_doubles false = Finite
 
 -- keys keep their order, unless they are sorted, the run is strict, or it has digests or a comparison
-abbrev pub requested_order : Purpose → (sorts_keys is_strict : Bool) → KeyOrder
-requested_order purpose.Output false false = AsGiven
-requested_order purpose sorts_keys is_strict = Ascending
+abbrev pub requested_key_order : (purpose : Purpose) → (sorts_keys is_strict : Bool) → KeyOrder
+requested_key_order purpose.Output false false = AsGiven
+requested_key_order purpose sorts_keys is_strict = Ascending
 
 -- ---- arguments
 
@@ -77,11 +77,11 @@ abbrev pub IsOutputOption : (file arg : List ℕ) → Type 0
 IsOutputOption file arg = (arg ≡ codes "--output=" ++ file) ⊎ (arg ≡ codes "-o" ++ file)
 
 -- a number from 1 to the greatest, as it is written, is not the argument
-abbrev pub IsInvalidCount : (most : ℕ) → (arg : List ℕ) → Type 0
-IsInvalidCount most arg = (count : ℕ) → 0 < count → count ≤ most → arg ≡ decimal count → ⊥
+abbrev pub IsInvalidCount : (maximum : ℕ) → (arg : List ℕ) → Type 0
+IsInvalidCount maximum arg = (count : ℕ) → 0 < count → count ≤ maximum → arg ≡ decimal count → ⊥
 
 -- the arguments that are options, each with its value in the argument or after it
-abbrev pub is_option : List ℕ → Bool
+abbrev pub is_option : (arg : List ℕ) → Bool
 is_option arg = bytes_eq arg (codes "--sort-keys") || bytes_eq arg (codes "--strict") || bytes_eq arg (codes "--legacy")
     || bytes_eq arg (codes "--no-double-keys") || bytes_eq arg (codes "--canonical") || bytes_eq arg (codes "--unordered")
     || bytes_eq arg (codes "--keep-going") || bytes_eq arg (codes "--indent")
@@ -100,24 +100,25 @@ mode_arg purpose.Comparison task = codes "same"
 -- digests and comparisons are of canonical text
 abbrev pub IsNamedTaskFor : Purpose → (named_task : Task) → Type 0
 IsNamedTaskFor purpose.Output named_task = Unit {0}
-IsNamedTaskFor other named_task = named_task ≡ Write modes.Canonical
+IsNamedTaskFor purpose named_task = named_task ≡ Write modes.Canonical
 
 -- with the keys of each document in ascending order
 abbrev pub IsTaskFor : Purpose → KeyOrder → Task → Type 0
-IsTaskFor purpose.Output order task = Unit {0}
-IsTaskFor other order (Write mode) = (mode ≡ modes.Canonical) × (order ≡ Ascending)
-IsTaskFor other order (Preprocessed preprocessing (inner_task.Write mode)) = (mode ≡ modes.Canonical) × (order ≡ Ascending)
-IsTaskFor other order task = ⊥
+IsTaskFor purpose.Output key_order task = Unit {0}
+IsTaskFor purpose key_order (Write mode) = (mode ≡ modes.Canonical) × (key_order ≡ Ascending)
+IsTaskFor purpose key_order (Preprocessed preprocessing (inner_task.Write mode)) = (mode ≡ modes.Canonical)
+    × (key_order ≡ Ascending)
+IsTaskFor purpose key_order task = ⊥
 
 -- the argument names this mode
-abbrev pub IsNamed : (arg : List ℕ) → Purpose → (named_task : Task) → Type 0
-IsNamed arg purpose named_task = (arg ≡ mode_arg purpose named_task) × IsNamedTaskFor purpose named_task
+abbrev pub NamesMode : (arg : List ℕ) → Purpose → (named_task : Task) → Type 0
+NamesMode arg purpose named_task = (arg ≡ mode_arg purpose named_task) × IsNamedTaskFor purpose named_task
 
 -- ---- commands
 
 -- the input that a command names
-abbrev pub input_named : (arg : List ℕ) → Input → Input
-input_named arg input = if bytes_eq arg (codes "lines") then Lines
+abbrev pub input_of_command : (arg : List ℕ) → Input → Input
+input_of_command arg input = if bytes_eq arg (codes "lines") then Lines
     else (if bytes_eq arg (codes "decode") then Documents
     else (if bytes_eq arg (codes "encode") then Lines else input))
 
@@ -127,7 +128,7 @@ is_text Text = true
 is_text input = false
 
 abbrev pub command_of : Input → Option Task → Command
-command_of Text None = command.All
+command_of Text None = command.AllCommands
 command_of Text (Some task) = command.Text
 command_of Documents task = command.Decode
 command_of Lines (Some Encode) = command.Encode
@@ -136,25 +137,25 @@ command_of Lines task = command.Lines
 -- ---- the meaning of the arguments
 
 -- after a mode an argument is a file
-abbrev pub input_of : (arg : List ℕ) → ArgsSoFar → Input
-input_of arg args_so_far = option_map_or (λ named_task. args_so_far.input) args_so_far.task (input_named arg args_so_far.input)
+abbrev pub input_after_arg : (arg : List ℕ) → ArgsSoFar → Input
+input_after_arg arg args_so_far = option_map_or (λ named_task. args_so_far.input) args_so_far.task (input_of_command arg args_so_far.input)
 
 -- what an argument sets that is not the value of an option: each option and each command sets its own part, and any
 -- other argument none of these
-abbrev pub set_flags : List ℕ → ArgsSoFar → ArgsSoFar
+abbrev pub set_flags : (arg : List ℕ) → (args_so_far : ArgsSoFar) → ArgsSoFar
 set_flags arg args_so_far = record args_so_far {
   keeps_going = bytes_eq arg (codes "--keep-going") || args_so_far.keeps_going;
-  input = input_of arg args_so_far;
+  input = input_after_arg arg args_so_far;
   sorts_keys = bytes_eq arg (codes "--sort-keys") || args_so_far.sorts_keys;
   is_strict = bytes_eq arg (codes "--strict") || args_so_far.is_strict;
-  is_distinct = bytes_eq arg (codes "--no-double-keys") || args_so_far.is_distinct;
+  rejects_duplicates = bytes_eq arg (codes "--no-double-keys") || args_so_far.rejects_duplicates;
   is_legacy = bytes_eq arg (codes "--legacy") || args_so_far.is_legacy;
   is_canonical = bytes_eq arg (codes "--canonical") || args_so_far.is_canonical;
   is_unordered = bytes_eq arg (codes "--unordered") || args_so_far.is_unordered;
-  next = if bytes_eq arg (codes "--") then Name
-      else (if bytes_eq arg (codes "-o") || bytes_eq arg (codes "--output") then Output
-      else (if bytes_eq arg (codes "--indent") then Indent
-      else (if bytes_eq arg (codes "--jobs") then Jobs else args_so_far.next)));
+  expected_arg = if bytes_eq arg (codes "--") then Operand
+      else (if bytes_eq arg (codes "-o") || bytes_eq arg (codes "--output") then OutputFile
+      else (if bytes_eq arg (codes "--indent") then IndentWidth
+      else (if bytes_eq arg (codes "--jobs") then JobCount else args_so_far.expected_arg)));
 }
 
 -- an argument that is an option sets what the table says; arguments for files, the mode and numbers set the rest
@@ -169,57 +170,59 @@ SetsOption arg old new = new ≡ record (set_flags arg old) {
 }
 
 -- the argument is the one that the argument before it expects
-abbrev pub AcceptsAs : Next → (arg : List ℕ) → (old new : ArgsSoFar) → Type 0
-AcceptsAs Any arg old new = SetsOption arg old new
-AcceptsAs Output arg old new = new ≡ record old { next = Any; output = new.output }
-AcceptsAs Indent arg old new = new ≡ record old { next = Any; indent = new.indent }
-AcceptsAs Jobs arg old new = new ≡ record old { next = Any; jobs = new.jobs }
-AcceptsAs Name arg old new = new ≡ record old {
+abbrev pub AcceptsExpectedArg : ExpectedArg → (arg : List ℕ) → (old new : ArgsSoFar) → Type 0
+AcceptsExpectedArg AnyArg arg old new = SetsOption arg old new
+AcceptsExpectedArg OutputFile arg old new = new ≡ record old { expected_arg = AnyArg; output = new.output }
+AcceptsExpectedArg IndentWidth arg old new = new ≡ record old { expected_arg = AnyArg; indent = new.indent }
+AcceptsExpectedArg JobCount arg old new = new ≡ record old { expected_arg = AnyArg; jobs = new.jobs }
+AcceptsExpectedArg Operand arg old new = new ≡ record old {
   task = new.task;
   purpose = new.purpose;
-  input = input_of arg old;
+  input = input_after_arg arg old;
   inputs = new.inputs;
 }
 
 abbrev pub AcceptsArg : (arg : List ℕ) → (old new : ArgsSoFar) → Type 0
-AcceptsArg arg old new = AcceptsAs old.next arg old new
+AcceptsArg arg old new = AcceptsExpectedArg old.expected_arg arg old new
 
 -- the state before the first argument
-abbrev pub IsInitial : ArgsSoFar → Type 0
-IsInitial args_so_far = args_so_far ≡ record args_so_far {
+abbrev pub IsInitialState : ArgsSoFar → Type 0
+IsInitialState args_so_far = args_so_far ≡ record args_so_far {
   task = None;
   purpose = purpose.Output;
   input = Text;
   keeps_going = false;
   sorts_keys = false;
   is_strict = false;
-  is_distinct = false;
+  rejects_duplicates = false;
   is_legacy = false;
   is_canonical = false;
   is_unordered = false;
   indent = None;
   jobs = None;
   output = None;
-  next = Any;
+  expected_arg = AnyArg;
 }
 
 -- the state after the arguments, one after another
-pub data AreParsed : List (List ℕ) → ArgsSoFar → Type 0 where
-  none : (args_so_far : ArgsSoFar) → IsInitial args_so_far → vec_len args_so_far.inputs ≡ 0 → AreParsed [] args_so_far
-  one_more : {args : List (List ℕ)} {old : ArgsSoFar} (arg : List ℕ) (new : ArgsSoFar) → AreParsed args old → AcceptsArg arg old new
+pub data AreParsed : (args : List (List ℕ)) → ArgsSoFar → Type 0 where
+  no_args : (args_so_far : ArgsSoFar) → IsInitialState args_so_far → vec_len args_so_far.inputs ≡ 0 → AreParsed [] args_so_far
+  one_more_arg : {args : List (List ℕ)} {old : ArgsSoFar} (arg : List ℕ) (new : ArgsSoFar) → AreParsed args old
+      → AcceptsArg arg old new
       → AreParsed (args ++ arg ∷ []) new
 
 -- ---- arguments that are not accepted
 
 -- the argument names a mode, or, as the first, a command
-abbrev pub IsMode : Input → (arg : List ℕ) → Type 0
-IsMode Text arg = ((purpose : Purpose) × (task : Task) × (arg ≡ mode_arg purpose task)) ⊎ (arg ≡ codes "lines")
+abbrev pub IsModeOrCommand : Input → (arg : List ℕ) → Type 0
+IsModeOrCommand Text arg = ((purpose : Purpose) × (task : Task) × (arg ≡ mode_arg purpose task)) ⊎ (arg ≡ codes "lines")
     ⊎ (arg ≡ codes "decode")
-IsMode input arg = (purpose : Purpose) × (task : Task) × (task ≢ Encode) × (arg ≡ mode_arg purpose task)
+IsModeOrCommand input arg = (purpose : Purpose) × (task : Task) × (task ≢ Encode) × (arg ≡ mode_arg purpose task)
 
 -- the argument, or the part after its option, is not the expected value
-abbrev pub HasInvalidNumber : (most : ℕ) → (option arg : List ℕ) → Type 0
-HasInvalidNumber most option arg = (text : List ℕ) × IsInvalidCount most text × ((arg ≡ text) ⊎ (arg ≡ option ++ text))
+abbrev pub HasInvalidNumber : (maximum : ℕ) → (option arg : List ℕ) → Type 0
+HasInvalidNumber maximum option arg = (text : List ℕ) × IsInvalidCount maximum text
+    × ((arg ≡ text) ⊎ (arg ≡ option ++ text))
 
 -- the argument begins as an option
 abbrev pub StartsWithDash : (arg : List ℕ) → Type 0
@@ -228,23 +231,25 @@ StartsWithDash arg = (slice_index arg 0 == 45) ≡ true
 -- why the argument is not accepted after those before it
 abbrev pub IsUsageError : ArgsSoFar → (arg : List ℕ) → UsageError → Type 0
 IsUsageError args_so_far arg usage_error.UnknownOption = StartsWithDash arg × (is_option arg ≡ false)
-IsUsageError args_so_far arg usage_error.UnknownMode = (args_so_far.task ≡ None) × (IsMode args_so_far.input arg → ⊥)
+IsUsageError args_so_far arg usage_error.UnknownMode = (args_so_far.task ≡ None)
+    × (IsModeOrCommand args_so_far.input arg → ⊥)
 IsUsageError args_so_far arg usage_error.RemovedOption = (arg ≡ codes "--doubles") ⊎ (arg ≡ codes "--keep-order")
-IsUsageError args_so_far arg (usage_error.Twice flag) = has_flag flag args_so_far ≡ true
-IsUsageError args_so_far arg (usage_error.NoValue flag.Indent) = HasInvalidNumber 16 (codes "--indent=") arg
-IsUsageError args_so_far arg (usage_error.NoValue flag.Jobs) = HasInvalidNumber 9999 (codes "--jobs=") arg
-IsUsageError args_so_far arg other = ⊥
+IsUsageError args_so_far arg (usage_error.OptionTwice flag) = has_flag flag args_so_far ≡ true
+IsUsageError args_so_far arg (usage_error.BadOptionValue flag.Indent) = HasInvalidNumber 16 (codes "--indent=") arg
+IsUsageError args_so_far arg (usage_error.BadOptionValue flag.Jobs) = HasInvalidNumber 9999 (codes "--jobs=") arg
+IsUsageError args_so_far arg error_kind = ⊥
 
 -- the argument requests help: `help` is a file after a mode
-abbrev pub IsHelp : ArgsSoFar → (arg : List ℕ) → Type 0
-IsHelp args_so_far arg = (arg ≡ codes "--help") ⊎ (arg ≡ codes "-h") ⊎ ((arg ≡ codes "help") × (args_so_far.task ≡ None))
+abbrev pub RequestsHelp : ArgsSoFar → (arg : List ℕ) → Type 0
+RequestsHelp args_so_far arg = (arg ≡ codes "--help") ⊎ (arg ≡ codes "-h")
+    ⊎ ((arg ≡ codes "help") × (args_so_far.task ≡ None))
 
 -- the result for an argument after those before it
 abbrev pub IsParsed : ArgsSoFar → (arg : List ℕ) → arguments.ParsedArg → Type 0
 IsParsed args_so_far arg parsed.AcceptedArg = Unit {0}
-IsParsed args_so_far arg parsed.Help = IsHelp args_so_far arg
+IsParsed args_so_far arg parsed.Help = RequestsHelp args_so_far arg
 IsParsed args_so_far arg parsed.Version = (arg ≡ codes "--version") ⊎ (arg ≡ codes "-v")
-IsParsed args_so_far arg (parsed.Wrong why) = IsUsageError args_so_far arg why
+IsParsed args_so_far arg (parsed.InvalidUsage error_kind) = IsUsageError args_so_far arg error_kind
 
 -- ---- modes and options
 
@@ -253,7 +258,7 @@ pub record AllOptionsSupported (args_so_far : ArgsSoFar) (task : Task) : Type 0 
   pub sort_keys : is_unsupported flag.SortKeys args_so_far task ≡ false
   pub strict : is_unsupported flag.Strict args_so_far task ≡ false
   pub legacy : is_unsupported flag.Legacy args_so_far task ≡ false
-  pub no_double_keys : is_unsupported flag.NoDoubleKeys args_so_far task ≡ false
+  pub no_double_keys : is_unsupported flag.NoDuplicateKeys args_so_far task ≡ false
   pub canonical : is_unsupported flag.Canonical args_so_far task ≡ false
   pub indent : is_unsupported flag.Indent args_so_far task ≡ false
   pub keep_going : is_unsupported flag.KeepGoing args_so_far task ≡ false
@@ -262,12 +267,12 @@ pub record AllOptionsSupported (args_so_far : ArgsSoFar) (task : Task) : Type 0 
   pub unordered : is_unsupported flag.Unordered args_so_far task ≡ false
 
 -- the file at this place among the files is standard input
-abbrev pub IsStandardAt : (at : ℕ) → Vec (String Global) Global → Type 0
-IsStandardAt at inputs = (name : String Global) × (name ≡ get_or inputs.items at name) × (string_bytes name ≡ codes "-")
+abbrev pub IsStandardInputAt : (input_index : ℕ) → (inputs : Vec (String Global) Global) → Type 0
+IsStandardInputAt input_index inputs = (name : String Global) × (name ≡ get_or inputs.items input_index name) × (string_bytes name ≡ codes "-")
 
 -- two files, at most one of which is standard input
-abbrev pub AreTwoFiles : Vec (String Global) Global → Type 0
-AreTwoFiles inputs = (vec_len inputs ≡ 2) × ((IsStandardAt 0 inputs × IsStandardAt 1 inputs) → ⊥)
+abbrev pub AreTwoFiles : (inputs : Vec (String Global) Global) → Type 0
+AreTwoFiles inputs = (vec_len inputs ≡ 2) × ((IsStandardInputAt 0 inputs × IsStandardInputAt 1 inputs) → ⊥)
 
 -- the mode has the options, and a comparison is of two files
 pub record OptionsFitMode (args_so_far : ArgsSoFar) (task : Task) : Type 0 where
@@ -276,72 +281,76 @@ pub record OptionsFitMode (args_so_far : ArgsSoFar) (task : Task) : Type 0 where
 
 -- why they do not fit
 abbrev pub IsOptionError : ArgsSoFar → Task → UsageError → Type 0
-IsOptionError args_so_far task (usage_error.UnsupportedOption flag mode named_task) = (mode ≡ args_so_far.purpose) × (named_task ≡ task) × (is_unsupported flag args_so_far task ≡ true)
-IsOptionError args_so_far task usage_error.TwoFiles = (args_so_far.purpose ≡ purpose.Comparison) × (vec_len args_so_far.inputs ≢ 2)
-IsOptionError args_so_far task usage_error.StandardTwice =
-    (args_so_far.purpose ≡ purpose.Comparison) × IsStandardAt 0 args_so_far.inputs × IsStandardAt 1 args_so_far.inputs
-IsOptionError args_so_far task other = ⊥
+IsOptionError args_so_far task (usage_error.UnsupportedOption flag purpose named_task) = (purpose ≡ args_so_far.purpose)
+    × (named_task ≡ task) × (is_unsupported flag args_so_far task ≡ true)
+IsOptionError args_so_far task usage_error.NeedsTwoFiles = (args_so_far.purpose ≡ purpose.Comparison)
+    × (vec_len args_so_far.inputs ≢ 2)
+IsOptionError args_so_far task usage_error.StandardInputTwice =
+    (args_so_far.purpose ≡ purpose.Comparison) × IsStandardInputAt 0 args_so_far.inputs × IsStandardInputAt 1 args_so_far.inputs
+IsOptionError args_so_far task error_kind = ⊥
 
 -- the option whose value is missing
-abbrev pub option_without_value : Next → Option Flag
-option_without_value Output = Some flag.Output
-option_without_value Indent = Some flag.Indent
-option_without_value Jobs = Some flag.Jobs
-option_without_value next = None
+abbrev pub option_without_value : ExpectedArg → Option Flag
+option_without_value OutputFile = Some flag.Output
+option_without_value IndentWidth = Some flag.Indent
+option_without_value JobCount = Some flag.Jobs
+option_without_value expected_arg = None
 
 -- ---- what is asked for
 
 -- the task of a mode with the options
-abbrev pub task_of : ArgsSoFar → (named_task : Task) → Task
-task_of args_so_far named_task =
+abbrev pub requested_task : ArgsSoFar → (named_task : Task) → Task
+requested_task args_so_far named_task =
     let task = with_criterion args_so_far.is_canonical named_task in
-    option_map_or (λ preprocessing. first_preprocessed preprocessing task) (requested_preprocessing args_so_far.is_distinct args_so_far.is_legacy) task
+    option_map_or (λ preprocessing. with_preprocessing preprocessing task) (requested_preprocessing args_so_far.rejects_duplicates args_so_far.is_legacy) task
 
-abbrev pub options_of : ArgsSoFar → Options
-options_of args_so_far = record {
-  doubles = doubles_of args_so_far.is_strict;
-  key_order = requested_order args_so_far.purpose args_so_far.sorts_keys args_so_far.is_strict;
+abbrev pub requested_options : ArgsSoFar → Options
+requested_options args_so_far = record {
+  doubles = accepted_doubles args_so_far.is_strict;
+  key_order = requested_key_order args_so_far.purpose args_so_far.sorts_keys args_so_far.is_strict;
 }
 
 -- the files, or the standard stream if there is none
-abbrev pub or_standard : List (List ℕ) → List (List ℕ)
-or_standard [] = codes "-" ∷ []
-or_standard (name ∷ names) = name ∷ names
+abbrev pub or_standard_input : (names : List (List ℕ)) → List (List ℕ)
+or_standard_input [] = codes "-" ∷ []
+or_standard_input (name ∷ names) = name ∷ names
 
 -- the run that the arguments request
 pub record IsInvocationOf (args_so_far : ArgsSoFar) (invocation : Invocation) : Type 0 where
   pub named_task : Task
-  pub is_verb : args_so_far.task ≡ Some named_task
-  pub ended : option_without_value args_so_far.next ≡ None
-  pub fits : OptionsFitMode args_so_far (with_criterion args_so_far.is_canonical named_task)
-  pub task : invocation.task ≡ task_of args_so_far named_task
-  pub options : invocation.options ≡ options_of args_so_far
+  pub is_named_task : args_so_far.task ≡ Some named_task
+  pub no_missing_value : option_without_value args_so_far.expected_arg ≡ None
+  pub options_fit_mode : OptionsFitMode args_so_far (with_criterion args_so_far.is_canonical named_task)
+  pub task : invocation.task ≡ requested_task args_so_far named_task
+  pub options : invocation.options ≡ requested_options args_so_far
   pub on_refusal : invocation.on_refusal ≡ (if args_so_far.keeps_going then KeepGoing else Stop)
   pub purpose : invocation.purpose ≡ args_so_far.purpose
   pub unordered : invocation.is_unordered ≡ args_so_far.is_unordered
   pub input : invocation.input ≡ args_so_far.input
   pub indent : invocation.indent ≡ args_so_far.indent
   pub output : string_bytes invocation.output ≡ option_map_or string_bytes args_so_far.output (codes "-")
-  pub inputs : map string_bytes invocation.inputs.items ≡ or_standard (map string_bytes args_so_far.inputs.items)
+  pub inputs : map string_bytes invocation.inputs.items ≡ or_standard_input (map string_bytes args_so_far.inputs.items)
 
 -- what is wrong with all arguments, if each was accepted
 abbrev pub IsErrorOfAllArgs : ArgsSoFar → UsageError → Type 0
-IsErrorOfAllArgs args_so_far (usage_error.NoValue flag) = option_without_value args_so_far.next ≡ Some flag
+IsErrorOfAllArgs args_so_far (usage_error.BadOptionValue flag) = option_without_value args_so_far.expected_arg ≡ Some flag
 IsErrorOfAllArgs args_so_far usage_error.NoMode = args_so_far.task ≡ None
-IsErrorOfAllArgs args_so_far why = (named_task : Task) × (args_so_far.task ≡ Some named_task) × IsOptionError args_so_far (with_criterion args_so_far.is_canonical named_task) why
+IsErrorOfAllArgs args_so_far error_kind = (named_task : Task) × (args_so_far.task ≡ Some named_task)
+    × IsOptionError args_so_far (with_criterion args_so_far.is_canonical named_task) error_kind
 
 -- the result for all arguments, if no help was requested: a run, or what is wrong
 abbrev pub IsRequestOf : ArgsSoFar → Request → Type 0
 IsRequestOf args_so_far (Run invocation) = IsInvocationOf args_so_far invocation
-IsRequestOf args_so_far (Wrong wrong) = IsErrorOfAllArgs args_so_far wrong.usage_error × (wrong.command ≡ command_of args_so_far.input args_so_far.task)
-IsRequestOf args_so_far other = ⊥
+IsRequestOf args_so_far (InvalidUsage invalid_usage) = IsErrorOfAllArgs args_so_far invalid_usage.usage_error
+    × (invalid_usage.command ≡ command_of args_so_far.input args_so_far.task)
+IsRequestOf args_so_far request = ⊥
 
 -- the argument is among the arguments, and this is the state after those before it
 pub record IsArgAfter (args : List (List ℕ)) (args_so_far : ArgsSoFar) (arg : List ℕ) : Type 0 where
-  pub at : ℕ
-  pub within : at < length args
-  pub is : get_or args at arg ≡ arg
-  pub before : AreParsed (take at args) args_so_far
+  pub arg_index : ℕ
+  pub in_range : arg_index < length args
+  pub is_arg : get_or args arg_index arg ≡ arg
+  pub parsed_before : AreParsed (take arg_index args) args_so_far
 
 -- what each request says of the arguments: a run is what all of them request, and any other request is that of the
 -- first argument that requests help, or is not accepted, or that of all arguments
@@ -350,31 +359,37 @@ IsRequestedBy args (Run invocation) =
     Contains args (mode_arg invocation.purpose invocation.task)
     × IsTaskFor invocation.purpose invocation.options.key_order invocation.task
     × ((args_so_far : ArgsSoFar) × AreParsed args args_so_far × IsInvocationOf args_so_far invocation)
-IsRequestedBy args (Help command) = (args_so_far : ArgsSoFar) × (arg : List ℕ) × IsArgAfter args args_so_far arg × IsHelp args_so_far arg
+IsRequestedBy args (Help command) = (args_so_far : ArgsSoFar) × (arg : List ℕ) × IsArgAfter args args_so_far arg
+    × RequestsHelp args_so_far arg
     × (command ≡ command_of args_so_far.input args_so_far.task)
 IsRequestedBy args Version = Contains args (codes "--version") ⊎ Contains args (codes "-v")
-IsRequestedBy args (Wrong wrong) = (args_so_far : ArgsSoFar) × (wrong.command ≡ command_of args_so_far.input args_so_far.task)
-    × ((AreParsed args args_so_far × IsErrorOfAllArgs args_so_far wrong.usage_error)
-    ⊎ (IsArgAfter args args_so_far (string_bytes wrong.arg) × IsUsageError args_so_far (string_bytes wrong.arg) wrong.usage_error))
+IsRequestedBy args (InvalidUsage invalid_usage) = (args_so_far : ArgsSoFar)
+    × (invalid_usage.command ≡ command_of args_so_far.input args_so_far.task)
+    × ((AreParsed args args_so_far × IsErrorOfAllArgs args_so_far invalid_usage.usage_error)
+    ⊎ (IsArgAfter args args_so_far (string_bytes invalid_usage.arg)
+    × IsUsageError args_so_far (string_bytes invalid_usage.arg) invalid_usage.usage_error))
 
 -- ---- for private clauses
 
-abbrev pub IsWrongRequest : UsageError → Command → Request → Type 0
-IsWrongRequest why command (Wrong wrong) = (wrong.usage_error ≡ why) × (wrong.command ≡ command)
-IsWrongRequest why command other = ⊥
+abbrev pub IsInvalidUsageRequest : UsageError → Command → Request → Type 0
+IsInvalidUsageRequest error_kind command (InvalidUsage invalid_usage) = (invalid_usage.usage_error ≡ error_kind)
+    × (invalid_usage.command ≡ command)
+IsInvalidUsageRequest error_kind command request = ⊥
 
 -- the number of an option is in the text, or the option occurs twice
-abbrev pub IsNumbered : Flag → (most : ℕ) → ArgsSoFar → (text : List ℕ) → arguments.ParsedArg → Type 0
-IsNumbered flag most args_so_far text parsed.AcceptedArg = Unit {0}
-IsNumbered flag most args_so_far text (parsed.Wrong why) =
-    ((why ≡ usage_error.Twice flag) × (has_flag flag args_so_far ≡ true)) ⊎ ((why ≡ usage_error.NoValue flag) × IsInvalidCount most text)
-IsNumbered flag most args_so_far text other = ⊥
+abbrev pub IsParsedCount : Flag → (maximum : ℕ) → ArgsSoFar → (text : List ℕ) → arguments.ParsedArg → Type 0
+IsParsedCount flag maximum args_so_far text parsed.AcceptedArg = Unit {0}
+IsParsedCount flag maximum args_so_far text (parsed.InvalidUsage error_kind) =
+    ((error_kind ≡ usage_error.OptionTwice flag) × (has_flag flag args_so_far ≡ true))
+    ⊎ ((error_kind ≡ usage_error.BadOptionValue flag) × IsInvalidCount maximum text)
+IsParsedCount flag maximum args_so_far text parsed_arg = ⊥
 
-abbrev pub IsStored : ArgsSoFar → arguments.ParsedArg → Type 0
-IsStored args_so_far parsed.AcceptedArg = Unit {0}
-IsStored args_so_far (parsed.Wrong (usage_error.Twice flag.Output)) = has_flag flag.Output args_so_far ≡ true
-IsStored args_so_far other = ⊥
+abbrev pub IsParsedOutputFile : ArgsSoFar → arguments.ParsedArg → Type 0
+IsParsedOutputFile args_so_far parsed.AcceptedArg = Unit {0}
+IsParsedOutputFile args_so_far (parsed.InvalidUsage (usage_error.OptionTwice flag.Output)) = has_flag flag.Output args_so_far ≡ true
+IsParsedOutputFile args_so_far parsed_arg = ⊥
 
 -- the value of an option is in its argument, or the argument is not an option
 abbrev pub IsValueInArg : ArgsSoFar → (arg : List ℕ) → arguments.ParsedArg → Type 0
-IsValueInArg args_so_far arg it = (it ≡ parsed.Wrong usage_error.UnknownOption) ⊎ IsParsed args_so_far arg it
+IsValueInArg args_so_far arg parsed_arg = (parsed_arg ≡ parsed.InvalidUsage usage_error.UnknownOption)
+    ⊎ IsParsed args_so_far arg parsed_arg

@@ -26,102 +26,118 @@ abbrev pub input_kind : invocation.Input → List ℕ
 input_kind Documents = codes "documents"
 input_kind input = codes "lines"
 
-abbrev pub summary_of : invocation.Input → (all refused : ℕ) → List ℕ
-summary_of input all refused =
-    codes "bson: " ++ decimal all ++ codes " " ++ input_kind input ++ codes ", " ++ decimal refused ++ codes " refused"
+abbrev pub counts_summary : invocation.Input → (total_count refused : ℕ) → List ℕ
+counts_summary input total_count refused =
+    codes "bson: " ++ decimal total_count ++ codes " " ++ input_kind input ++ codes ", " ++ decimal refused
+    ++ codes " refused"
 
 -- ---- names of files
 
 -- the name of a standard stream
-abbrev pub is_standard : List ℕ → Bool
-is_standard name = bytes_eq name (codes "-")
+abbrev pub is_standard_stream : (file_name : List ℕ) → Bool
+is_standard_stream file_name = bytes_eq file_name (codes "-")
 
 -- a character that breaks a line or steers a terminal
-abbrev pub is_unprintable : ℕ → Bool
-is_unprintable c = is_control c || ((c == 0x2028) || (c == 0x2029))
+abbrev pub is_unprintable : (code_point : ℕ) → Bool
+is_unprintable code_point = is_control code_point || ((code_point == 0x2028) || (code_point == 0x2029))
 
 -- this character as its escape in Rust, any other unchanged
-abbrev pub printable : ℕ → List ℕ
-printable c = if is_unprintable c then encode_utf8_all (escape_default c) else encode_utf8 c
+abbrev pub printable : (code_point : ℕ) → List ℕ
+printable code_point =
+    if is_unprintable code_point then encode_utf8_all (escape_default code_point) else encode_utf8 code_point
 
-abbrev pub escaped_name : List ℕ → List ℕ
-escaped_name name = flat_map printable (chars name)
+abbrev pub escaped_name : (unescaped : List ℕ) → List ℕ
+escaped_name unescaped = flat_map printable (chars unescaped)
 
 -- a file, or the standard stream of this name
-abbrev pub shown_name : (name stream : List ℕ) → List ℕ
-shown_name name stream = if is_standard name then codes "standard " ++ stream else escaped_name name
+abbrev pub shown_name : (file_name stream : List ℕ) → List ℕ
+shown_name file_name stream =
+    if is_standard_stream file_name then codes "standard " ++ stream else escaped_name file_name
 
 -- ---- what stopped a run
 
 -- the system's message for an error after a colon, which no contract says; nothing if the error is not known
-abbrev pub IsCause : Option Error → List ℕ → Type 0
-IsCause None cause = cause ≡ []
-IsCause (Some error) cause = (message : List ℕ) × (cause ≡ codes ": " ++ message)
+abbrev pub IsCauseSuffix : Option Error → (cause : List ℕ) → Type 0
+IsCauseSuffix None cause = cause ≡ []
+IsCauseSuffix (Some error) cause = (message : List ℕ) × (cause ≡ codes ": " ++ message)
 
 -- where a message begins: with the program's name, or that of a file
-abbrev pub message_prefix : List ℕ → List ℕ
-message_prefix name = if is_standard name then codes "bson" else escaped_name name
+abbrev pub message_prefix : (file_name : List ℕ) → List ℕ
+message_prefix file_name = if is_standard_stream file_name then codes "bson" else escaped_name file_name
 
 -- for a line also its number, as editors have it after a file's name
-abbrev pub line_location : List ℕ → ℕ → List ℕ
-line_location name number =
-    if is_standard name then codes "bson: line " ++ decimal number else escaped_name name ++ codes ":" ++ decimal number
+abbrev pub line_location : (file_name : List ℕ) → (line_number : ℕ) → List ℕ
+line_location file_name line_number =
+    if is_standard_stream file_name then codes "bson: line " ++ decimal line_number
+    else escaped_name file_name ++ codes ":" ++ decimal line_number
 
 -- the beginning of a message for a text on the line of this number, or for the one text of a file (0)
-abbrev pub text_location : List ℕ → ℕ → List ℕ
-text_location name number = if number == 0 then message_prefix name else line_location name number
+abbrev pub text_location : (file_name : List ℕ) → (line_number : ℕ) → List ℕ
+text_location file_name line_number =
+    if line_number == 0 then message_prefix file_name else line_location file_name line_number
 
 -- the message for a text that is rejected
-abbrev pub text_message : List ℕ → ℕ → conversion.Error → (place : List ℕ) → List ℕ
-text_message name number fault place = text_location name number ++ codes ": " ++ error_message fault ++ place
+abbrev pub text_message : (file_name : List ℕ) → (line_number : ℕ) → conversion.Error → (position_message : List ℕ)
+    → List ℕ
+text_message file_name line_number fault position_message =
+    text_location file_name line_number ++ codes ": " ++ error_message fault ++ position_message
 
 -- a fault with its document, or that of a stream alone
-abbrev pub document_error_message : ℕ → ℕ → RunFault → List ℕ
-document_error_message number start run_fault.CannotRead = documents.run_fault_message run_fault.CannotRead
-document_error_message number start run_fault.CannotWrite = documents.run_fault_message run_fault.CannotWrite
-document_error_message number start fault = diagnostic_of number start fault
+abbrev pub document_error_message : (document_number offset : ℕ) → RunFault → List ℕ
+document_error_message document_number offset run_fault.CannotRead = documents.run_fault_message run_fault.CannotRead
+document_error_message document_number offset run_fault.CannotWrite = documents.run_fault_message run_fault.CannotWrite
+document_error_message document_number offset fault = diagnostic_of document_number offset fault
 
-abbrev pub document_message : List ℕ → RunEnd → List ℕ
-document_message name end = message_prefix name ++ codes ": " ++ trim_end (document_error_message end.number end.start end.fault)
+abbrev pub document_message : (file_name : List ℕ) → RunEnd → List ℕ
+document_message file_name run_end =
+    message_prefix file_name ++ codes ": "
+    ++ trim_end (document_error_message run_end.number run_end.start run_end.fault)
 
 -- a file can't be read or written
-abbrev pub IsUnusable : (verb name stream : List ℕ) → Option Error → List ℕ → Type 0
-IsUnusable verb name stream error line =
-    (cause : List ℕ) × IsCause error cause × (line ≡ codes "bson: cannot " ++ verb ++ shown_name name stream ++ cause)
+abbrev pub IsFileFailureMessage : (verb file_name stream : List ℕ) → Option Error → (line : List ℕ) → Type 0
+IsFileFailureMessage verb file_name stream error line =
+    (cause : List ℕ) × IsCauseSuffix error cause
+    × (line ≡ codes "bson: cannot " ++ verb ++ shown_name file_name stream ++ cause)
 
 -- the line for what stopped the run
-abbrev pub IsFailureMessage : RunFailure → List ℕ → Type 0
-IsFailureMessage (failure.Input name error) line = IsUnusable (codes "read ") name.now (codes "input") error line
-IsFailureMessage (failure.Output name error) line = IsUnusable (codes "write ") name.now (codes "output") error line
-IsFailureMessage (failure.Both name) line =
-    line ≡ codes "bson: " ++ shown_name name.now (codes "input") ++ codes " is both an input and the output"
-IsFailureMessage failure.Terminal line =
+abbrev pub IsFailureMessage : RunFailure → (line : List ℕ) → Type 0
+IsFailureMessage (failure.Input file_name error) line =
+    IsFileFailureMessage (codes "read ") file_name.now (codes "input") error line
+IsFailureMessage (failure.Output file_name error) line =
+    IsFileFailureMessage (codes "write ") file_name.now (codes "output") error line
+IsFailureMessage (failure.InputIsOutput file_name) line =
+    line ≡ codes "bson: " ++ shown_name file_name.now (codes "input") ++ codes " is both an input and the output"
+IsFailureMessage failure.OutputIsTerminal line =
     line ≡ codes "bson: BSON bytes are not written to a terminal; give -o FILE, or a pipe"
-IsFailureMessage (failure.Text name number fault place) line = line ≡ text_message name.now number fault (string_bytes place)
-IsFailureMessage (failure.Document name end) line = line ≡ document_message name.now end
+IsFailureMessage (failure.Text file_name line_number fault position_message) line =
+    line ≡ text_message file_name.now line_number fault (string_bytes position_message)
+IsFailureMessage (failure.Document file_name run_end) line = line ≡ document_message file_name.now run_end
 
 -- ---- diagnostics
 
 -- the lines, each with the newline that ends it, except the last
-abbrev pub split_lines : List ℕ → List (List ℕ)
+abbrev pub split_lines : (bytes : List ℕ) → List (List ℕ)
 split_lines [] = []
-split_lines (x ∷ xs) = if x == 10 then (10 ∷ []) ∷ split_lines xs else prepend_to_first_line x (split_lines xs)
+split_lines (first_byte ∷ other_bytes) =
+    if first_byte == 10 then (10 ∷ []) ∷ split_lines other_bytes
+    else prepend_to_first_line first_byte (split_lines other_bytes)
 
 -- the beginning of a diagnostic on a line
 abbrev pub line_prefix : List ℕ
 line_prefix = codes "bson: line "
 
 -- a diagnostic after a file's name: for a line its number, a colon before it, otherwise the diagnostic
-abbrev pub with_file_name : (name diagnostic : List ℕ) → List ℕ
-with_file_name name diagnostic =
-    name ++ (if starts_with nat_eq diagnostic line_prefix then codes ":" ++ drop (length line_prefix) diagnostic else codes ": " ++ diagnostic)
+abbrev pub with_file_name : (file_name diagnostic : List ℕ) → List ℕ
+with_file_name file_name diagnostic =
+    file_name ++ (if starts_with nat_eq diagnostic line_prefix then codes ":" ++ drop (length line_prefix) diagnostic
+    else codes ": " ++ diagnostic)
 
-abbrev pub with_file_names : (name diagnostics : List ℕ) → List ℕ
-with_file_names name diagnostics = flat_map (with_file_name name) (split_lines diagnostics)
+abbrev pub with_file_names : (file_name diagnostics : List ℕ) → List ℕ
+with_file_names file_name diagnostics = flat_map (with_file_name file_name) (split_lines diagnostics)
 
 -- ---- for private clauses
 
 -- the length of the first line
-abbrev pub line_len : List ℕ → ℕ
+abbrev pub line_len : (bytes : List ℕ) → ℕ
 line_len [] = 0
-line_len (x ∷ xs) = if x == 10 then 1 else suc (line_len xs)
+line_len (first_byte ∷ other_bytes) = if first_byte == 10 then 1 else suc (line_len other_bytes)

@@ -9,36 +9,39 @@ use Rattle.bson.specs.Form.TheVariants as forms
 use Rattle.bson_convert.specs.declared.mode.Mode.TheVariants.{Canonical, Relaxed, Show}
 use Rattle.bson_run.specs.declared.task.Task.{Task}
 use Rattle.bson_run.specs.declared.task.Task.TheVariants as task
-use Rattle.bson_program.specs.Messages.{with_file_names, message_prefix, is_standard}
+use Rattle.bson_program.specs.Messages.{with_file_names, message_prefix, is_standard_stream}
 use Rattle.bson_program.specs.declared.invocation.Input as invocation
 use Rattle.bson_program.specs.declared.invocation.Input.TheVariants.{Documents}
 use Rattle.bson_program.specs.declared.invocation.Invocation.{Invocation}
-use Rattle.bson_program.specs.declared.output.Part.{Part}
+use Rattle.bson_program.specs.declared.output.PartialFile.{PartialFile}
 use Rattle.bson_program.specs.declared.run.RunFailure.{RunFailure}
 use Rattle.bson_program.specs.declared.run.RunFailure.TheVariants.{Input, Output}
 
 -- the file of this name can't be read
-abbrev pub IsInputFailure : (name : List ℕ) → RunFailure → Type 0
-IsInputFailure name (Input it error) = it.now ≡ name
-IsInputFailure name failure = ⊥
+abbrev pub IsInputFailure : (file_name : List ℕ) → RunFailure → Type 0
+IsInputFailure file_name (Input failed_name error) = failed_name.now ≡ file_name
+IsInputFailure file_name failure = ⊥
 
 -- ---- writers
 
 -- the writer that failed: that of diagnostics, if the cause of its failure is kept, or else the output
 abbrev pub IsWriterFailure : Invocation → (diagnostics_error output_error : Option Error) → RunFailure → Type 0
-IsWriterFailure invocation diagnostics_error output_error (Output name error) = MatchOption diagnostics_error
-    ((name.now ≡ string_bytes invocation.output) × (error ≡ output_error)) (λ cause. (name.now ≡ codes "-") × (error ≡ Some cause))
+IsWriterFailure invocation diagnostics_error output_error (Output file_name error) = MatchOption diagnostics_error
+    ((file_name.now ≡ string_bytes invocation.output) × (error ≡ output_error)) (λ cause. (file_name.now ≡ codes "-")
+    × (error ≡ Some cause))
 IsWriterFailure invocation diagnostics_error output_error failure = ⊥
 
 -- the name before diagnostics: that of their file, or for documents of standard input that of the program
-abbrev pub IsDiagnosticsPrefix : invocation.Input → (name : List ℕ) → Option (String Global) → Type 0
-IsDiagnosticsPrefix input name None = (is_standard name ≡ true) × (input ≢ Documents)
-IsDiagnosticsPrefix input name (Some title) = (string_bytes title ≡ message_prefix name) × (is_standard name ≡ true → input ≡ Documents)
+abbrev pub IsDiagnosticsPrefix : invocation.Input → (file_name : List ℕ) → Option (String Global) → Type 0
+IsDiagnosticsPrefix input file_name None = (is_standard_stream file_name ≡ true) × (input ≢ Documents)
+IsDiagnosticsPrefix input file_name (Some diagnostics_prefix) =
+    (string_bytes diagnostics_prefix ≡ message_prefix file_name)
+    × (is_standard_stream file_name ≡ true → input ≡ Documents)
 
 -- the diagnostics for a file of this name
 abbrev pub diagnostics_of_file : Option (String Global) → (diagnostics : List ℕ) → List ℕ
 diagnostics_of_file None diagnostics = diagnostics
-diagnostics_of_file (Some name) diagnostics = with_file_names (string_bytes name) diagnostics
+diagnostics_of_file (Some file_name) diagnostics = with_file_names (string_bytes file_name) diagnostics
 
 -- ---- documents
 
@@ -47,10 +50,12 @@ abbrev pub document_line : Task → documents.Line
 document_line (task.Write Canonical) = line.Text forms.Canonical
 document_line (task.Write Relaxed) = line.Text forms.Relaxed
 document_line (task.Write Show) = line.Shown
-document_line other = line.Nothing
+document_line other_task = line.Nothing
 
 -- ---- files
 
 -- the part has the path of the file that it replaces, and a number
-abbrev pub IsNumberedPart : Part → Type 0
-IsNumberedPart part = (n : ℕ) × (string_bytes part.path ≡ string_bytes part.file ++ codes "." ++ decimal n ++ codes ".part")
+abbrev pub IsPartialFilePath : PartialFile → Type 0
+IsPartialFilePath partial_file = (part_number : ℕ)
+    × (string_bytes partial_file.path
+    ≡ string_bytes partial_file.final_path ++ codes "." ++ decimal part_number ++ codes ".part")

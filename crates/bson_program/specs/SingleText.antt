@@ -5,7 +5,7 @@ use Rattle.bson.specs.declared.extjson.options.Options.{Options}
 use Rattle.bson_convert.specs.Convert.{IsRejectedIn, IsUncanonicalIn, newline}
 use Rattle.bson_run.specs.Encode.{Encodes, IsEncodeErrorBy}
 use Rattle.bson_run.specs.InOrder.{ConvertsBy}
-use Rattle.bson_run.specs.Lines.{ChecksIn}
+use Rattle.bson_run.specs.Lines.{CriterionAccepts}
 use Rattle.bson_run.specs.Indent.{mode_of, ConvertsIndented}
 use Rattle.bson_run.specs.Preprocessed.{IsPreprocessedAs, IsPreprocessingError}
 use Rattle.bson_convert.specs.declared.error.Error.{Error}
@@ -23,33 +23,35 @@ use Rattle.bson_program.specs.declared.invocation.Invocation.{Invocation}
 -- ---- what a text gives
 
 -- the output in the mode, with spaces that of its form over several lines
-abbrev pub WritesIndented : Options → (spaces : Option ℕ) → Mode → (text output : List ℕ) → Type 0
+abbrev pub WritesIndented : Options → (indent_width : Option ℕ) → Mode → (text output : List ℕ) → Type 0
 WritesIndented options None mode text output = ConvertsBy options.key_order options mode text output
-WritesIndented options (Some n) Show text output = ConvertsBy options.key_order options Show text output
-WritesIndented options (Some n) mode text output =
-    (form : _) × (mode ≡ mode_of form) × ConvertsIndented options.key_order options form n text output
+WritesIndented options (Some indent_width) Show text output = ConvertsBy options.key_order options Show text output
+WritesIndented options (Some indent_width) mode text output =
+    (form : _) × (mode ≡ mode_of form) × ConvertsIndented options.key_order options form indent_width text output
 
 -- the bytes before a newline at their end
-abbrev pub without_newline : List ℕ → List ℕ
+abbrev pub without_newline : (bytes : List ℕ) → List ℕ
 without_newline bytes = if ends_with nat_eq bytes newline then take (length bytes - 1) bytes else bytes
 
 -- the part of a text that the criterion checks; a newline may follow a canonical text
-abbrev pub checked_part : Criterion → List ℕ → List ℕ
+abbrev pub checked_part : Criterion → (text : List ℕ) → List ℕ
 checked_part Valid text = text
 checked_part criterion.Canonical text = without_newline text
 
 -- nothing, of a text that the criterion accepts
 abbrev pub ChecksText : Options → Criterion → (text output : List ℕ) → Type 0
-ChecksText options criterion text output = ChecksIn options criterion (checked_part criterion text) × (output ≡ [])
+ChecksText options criterion text output = CriterionAccepts options criterion (checked_part criterion text)
+    × (output ≡ [])
 
 -- why it accepts none
-abbrev pub IsCheckFailure : Options → Criterion → Error → List ℕ → Type 0
+abbrev pub IsCheckFailure : Options → Criterion → Error → (text : List ℕ) → Type 0
 IsCheckFailure options Valid fault text = IsRejectedIn options fault text
 IsCheckFailure options criterion.Canonical fault text = IsUncanonicalIn options fault (without_newline text)
 
 -- what is written of a text that was preprocessed
 abbrev pub WritesPreprocessed : Invocation → InnerTask → (text output : List ℕ) → Type 0
-WritesPreprocessed invocation (inner_task.Write mode) text output = WritesIndented invocation.options invocation.indent mode text output
+WritesPreprocessed invocation (inner_task.Write mode) text output =
+    WritesIndented invocation.options invocation.indent mode text output
 WritesPreprocessed invocation inner_task.Check text output = ChecksText invocation.options Valid text output
 
 -- what is written of a text
@@ -58,12 +60,15 @@ WritesOutput invocation (Write mode) text output = WritesIndented invocation.opt
 WritesOutput invocation (Check criterion) text output = ChecksText invocation.options criterion text output
 WritesOutput invocation Encode text output = Encodes invocation.options.key_order invocation.options text output
 WritesOutput invocation (Preprocessed preprocessing inner_task) text output =
-    (preprocessed : List ℕ) × IsPreprocessedAs preprocessing text preprocessed × WritesPreprocessed invocation inner_task preprocessed output
+    (preprocessed : List ℕ) × IsPreprocessedAs preprocessing text preprocessed
+    × WritesPreprocessed invocation inner_task preprocessed output
 
 -- why nothing is: the text is refused, or what is read in its place
-abbrev pub IsTextRejected : Options → Task → Error → List ℕ → Type 0
+abbrev pub IsTextRejected : Options → Task → Error → (text : List ℕ) → Type 0
 IsTextRejected options (Check criterion) fault text = IsCheckFailure options criterion fault text
 IsTextRejected options Encode fault text = IsEncodeErrorBy options.key_order options fault text
 IsTextRejected options (Preprocessed preprocessing inner_task) fault text =
-    IsPreprocessingError preprocessing fault text ⊎ ((preprocessed : List ℕ) × IsPreprocessedAs preprocessing text preprocessed × IsRejectedIn options fault preprocessed)
+    IsPreprocessingError preprocessing fault text
+    ⊎ ((preprocessed : List ℕ) × IsPreprocessedAs preprocessing text preprocessed
+    × IsRejectedIn options fault preprocessed)
 IsTextRejected options task fault text = IsRejectedIn options fault text

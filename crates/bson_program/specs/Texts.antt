@@ -16,7 +16,7 @@ use Rattle.bson_run.specs.declared.accepted.Accepted.{Accepted}
 use Rattle.bson_run.specs.declared.task.Criterion.TheVariants as criterion
 use Rattle.bson_run.specs.declared.task.Task.{Task}
 use Rattle.bson_run.specs.declared.task.Task.TheVariants.{Check}
-use Rattle.bson_program.specs.Messages.{is_standard}
+use Rattle.bson_program.specs.Messages.{is_standard_stream}
 use Rattle.bson_program.specs.SingleText.{IsTextRejected, WritesOutput}
 use Rattle.bson_program.specs.declared.invocation.Invocation.{Invocation}
 use Rattle.bson_program.specs.declared.run.RunFailure.{RunFailure}
@@ -25,19 +25,21 @@ use Rattle.bson_program.specs.declared.run.RunFailure.TheVariants.{Input, Output
 -- ---- the bytes of an input
 
 -- a named file may begin with a byte order mark, unless its text has to be canonical
-abbrev pub mark_for : Task → List ℕ
-mark_for (Check criterion.Canonical) = []
-mark_for task = 239 ∷ 187 ∷ 191 ∷ []
+abbrev pub byte_order_mark_for : Task → List ℕ
+byte_order_mark_for (Check criterion.Canonical) = []
+byte_order_mark_for task = 239 ∷ 187 ∷ 191 ∷ []
 
-abbrev pub mark_of : Invocation → (name : List ℕ) → List ℕ
-mark_of invocation name = if is_standard name then [] else mark_for invocation.task
+abbrev pub byte_order_mark_of : Invocation → (file_name : List ℕ) → List ℕ
+byte_order_mark_of invocation file_name =
+    if is_standard_stream file_name then [] else byte_order_mark_for invocation.task
 
-abbrev pub after_mark : (mark bytes : List ℕ) → List ℕ
-after_mark mark bytes = if starts_with nat_eq bytes mark then drop (length mark) bytes else bytes
+abbrev pub after_byte_order_mark : (byte_order_mark bytes : List ℕ) → List ℕ
+after_byte_order_mark byte_order_mark bytes =
+    if starts_with nat_eq bytes byte_order_mark then drop (length byte_order_mark) bytes else bytes
 
 -- the bytes after the mark
-abbrev pub content_of : Invocation → (name bytes : List ℕ) → List ℕ
-content_of invocation name bytes = after_mark (mark_of invocation name) bytes
+abbrev pub content_of : Invocation → (file_name bytes : List ℕ) → List ℕ
+content_of invocation file_name bytes = after_byte_order_mark (byte_order_mark_of invocation file_name) bytes
 
 -- ---- what they give
 
@@ -54,19 +56,22 @@ is_sequence invocation content =
 
 -- they are read as a sequence: they are not one JSON text
 pub record IsSequence (invocation : Invocation) (content : List ℕ) : Type 0 where
-  pub not_one : IsTextRejected invocation.options invocation.task NotJson content
+  pub not_single_text : IsTextRejected invocation.options invocation.task NotJson content
   pub several : is_sequence invocation content ≡ true
 
 -- the outputs of texts, one after the other
-pub data AreWritten (invocation : Invocation) : (texts : List (List ℕ)) → (output : List ℕ) → Type 0 where
-  no_texts : AreWritten invocation [] []
-  one_more : {texts : List (List ℕ)} {written : List ℕ} (text output : List ℕ) → AreWritten invocation texts written
-      → WritesOutput invocation invocation.task text output → AreWritten invocation (texts ++ text ∷ []) (written ++ output)
+pub data AreTextOutputs (invocation : Invocation) : (texts : List (List ℕ)) → (output : List ℕ) → Type 0 where
+  no_texts : AreTextOutputs invocation [] []
+  one_more_text : {texts : List (List ℕ)} {written : List ℕ} (text output : List ℕ)
+      → AreTextOutputs invocation texts written
+      → WritesOutput invocation invocation.task text output
+      → AreTextOutputs invocation (texts ++ text ∷ []) (written ++ output)
 
 -- the output of the one text, or those of the sequence
-abbrev pub GivesTexts : Invocation → (content output : List ℕ) → Type 0
-GivesTexts invocation content output =
-    WritesOutput invocation invocation.task content output ⊎ (IsSequence invocation content × AreWritten invocation (texts_in content) output)
+abbrev pub HasOutputOfTexts : Invocation → (content output : List ℕ) → Type 0
+HasOutputOfTexts invocation content output =
+    WritesOutput invocation invocation.task content output
+    ⊎ (IsSequence invocation content × AreTextOutputs invocation (texts_in content) output)
 
 -- ---- a run
 --
@@ -74,118 +79,141 @@ GivesTexts invocation content output =
 -- before and after the run: None if they are not known.
 
 -- all was read, and what the bytes give was written
-pub record TextsDone (invocation : Invocation) (name : List ℕ) (before after output_before output_after : Option (List ℕ)) : Type 0 where
+pub record ConvertsTexts (invocation : Invocation) (file_name : List ℕ)
+    (before after output_before output_after : Option (List ℕ)) : Type 0 where
   pub bytes : List ℕ
   pub output : List ℕ
-  pub all : ReadsAll before after bytes
-  pub gives : GivesTexts invocation (content_of invocation name bytes) output
+  pub reads_all : ReadsAll before after bytes
+  pub writes_output : HasOutputOfTexts invocation (content_of invocation file_name bytes) output
   pub utf8 : WritesText invocation.task → IsUtf8 output
   pub written : Appends output_before output_after output
 
 -- the text has this output
-pub record HasOneOutput (invocation : Invocation) (text output : List ℕ) : Type 0 where
-  pub gives : WritesOutput invocation invocation.task text output
+pub record HasTextOutput (invocation : Invocation) (text output : List ℕ) : Type 0 where
+  pub writes_output : WritesOutput invocation invocation.task text output
   pub utf8 : WritesText invocation.task → IsUtf8 output
 
 -- the line on which a text of a sequence begins, and none for a text that is all bytes
-abbrev pub begin_line : (content : List ℕ) → (start : ℕ) → (text : List ℕ) → ℕ
-begin_line content start text = if length text == length content then 0
-    else suc (count_by (λ x. x == 10) (take (min start (length content)) content))
+abbrev pub text_start_line : (content : List ℕ) → (start : ℕ) → (text : List ℕ) → ℕ
+text_start_line content start text = if length text == length content then 0
+    else suc (count_by (λ byte. byte == 10) (take (min start (length content)) content))
 
 -- if bytes are not JSON the line is that of the error, and a text that is not canonical differs on the first
-abbrev pub HasLine : Error → (content : List ℕ) → (start : ℕ) → (text : List ℕ) → (number : ℕ) → Type 0
-HasLine NotJson content start text number = Unit {0}
-HasLine (NotCanonical column) content start text number = number ≡ 1
-HasLine OutOfMemory content start text number = number ≡ 0
-HasLine fault content start text number = number ≡ begin_line content start text
+abbrev pub IsErrorLine : Error → (content : List ℕ) → (start : ℕ) → (text : List ℕ) → (line_number : ℕ) → Type 0
+IsErrorLine NotJson content start text line_number = Unit {0}
+IsErrorLine (NotCanonical column) content start text line_number = line_number ≡ 1
+IsErrorLine OutOfMemory content start text line_number = line_number ≡ 0
+IsErrorLine fault content start text line_number = line_number ≡ text_start_line content start text
 
 -- the text was rejected, and nothing of it was written; the message says where its error is
-abbrev pub TextFails : Invocation → Error → (place : List ℕ) → (number : ℕ) → (content : List ℕ) → (start : ℕ) → (text : List ℕ) → Type 0
-TextFails invocation OutOfMemory place number content start text = (number ≡ 0) × (place ≡ [])
-TextFails invocation fault place number content start text = IsTextRejected invocation.options invocation.task fault text × IsPositionMessage text fault place
-    × HasLine fault content start text number
+abbrev pub IsTextFailure : Invocation → Error → (position_message : List ℕ) → (line_number : ℕ) → (content : List ℕ)
+    → (start : ℕ) → (text : List ℕ) → Type 0
+IsTextFailure invocation OutOfMemory position_message line_number content start text = (line_number ≡ 0)
+    × (position_message ≡ [])
+IsTextFailure invocation fault position_message line_number content start text =
+    IsTextRejected invocation.options invocation.task fault text × IsPositionMessage text fault position_message
+    × IsErrorLine fault content start text line_number
 
 -- what each failure at a text says of it
-abbrev pub TextStops : Invocation → RunFailure → (name content : List ℕ) → (start : ℕ) → (text : List ℕ) → (output_before output_after : Option (List ℕ)) → Type 0
-TextStops invocation (Output it error) name content start text output_before output_after =
-    (it.now ≡ string_bytes invocation.output) × ((output : List ℕ) × HasOneOutput invocation text output)
-TextStops invocation (Text it number fault place) name content start text output_before output_after =
-    (it.now ≡ name) × TextFails invocation fault (string_bytes place) number content start text × Keeps output_before output_after
-TextStops invocation other name content start text output_before output_after = ⊥
+abbrev pub FailsAtText : Invocation → RunFailure → (file_name content : List ℕ) → (start : ℕ) → (text : List ℕ)
+    → (output_before output_after : Option (List ℕ)) → Type 0
+FailsAtText invocation (Output failed_name error) file_name content start text output_before output_after =
+    (failed_name.now ≡ string_bytes invocation.output) × ((output : List ℕ) × HasTextOutput invocation text output)
+FailsAtText invocation
+    (Text failed_name line_number fault position_message) file_name content start text output_before output_after =
+    (failed_name.now ≡ file_name)
+    × IsTextFailure invocation fault (string_bytes position_message) line_number content start text
+    × Keeps output_before output_after
+FailsAtText invocation failure file_name content start text output_before output_after = ⊥
 
 abbrev pub IsNotJson : RunFailure → Type 0
-IsNotJson (Text it number NotJson place) = Unit {0}
-IsNotJson other = ⊥
+IsNotJson (Text failed_name line_number NotJson position_message) = Unit {0}
+IsNotJson failure = ⊥
 
 -- all bytes are the text; if they are not JSON, they are not a sequence either
-pub record IsOnlyText (invocation : Invocation) (failure : RunFailure) (content text written : List ℕ) (start : ℕ) : Type 0 where
-  pub whole : text ≡ content
-  pub first : start ≡ 0
-  pub nothing : written ≡ []
-  pub alone : IsNotJson failure → is_sequence invocation content ≡ false
+pub record IsWholeInput (invocation : Invocation) (failure : RunFailure) (content text written : List ℕ)
+    (start : ℕ) : Type 0 where
+  pub is_content : text ≡ content
+  pub starts_at_zero : start ≡ 0
+  pub nothing_written : written ≡ []
+  pub not_sequence : IsNotJson failure → is_sequence invocation content ≡ false
 
 -- the text is one of a sequence, and the outputs of those before it were written
-pub record IsInSequence (invocation : Invocation) (content text written : List ℕ) (start : ℕ) : Type 0 where
-  pub done : List (List ℕ)
-  pub rest : List (List ℕ)
+pub record IsTextOfSequence (invocation : Invocation) (content text written : List ℕ) (start : ℕ) : Type 0 where
+  pub texts_before : List (List ℕ)
+  pub texts_after : List (List ℕ)
   pub sequence : IsSequence invocation content
-  pub texts : texts_in content ≡ done ++ text ∷ rest
-  pub begins : take (length text) (drop start content) ≡ text
-  pub outputs : AreWritten invocation done written
+  pub texts : texts_in content ≡ texts_before ++ text ∷ texts_after
+  pub is_text_at_start : take (length text) (drop start content) ≡ text
+  pub outputs : AreTextOutputs invocation texts_before written
 
 -- the text at which a run stops, and what was written before it
-pub record StopsAt (invocation : Invocation) (failure : RunFailure) (name content : List ℕ) (output_before output_after : Option (List ℕ)) : Type 0 where
+pub record StopsAt (invocation : Invocation) (failure : RunFailure) (file_name content : List ℕ)
+    (output_before output_after : Option (List ℕ)) : Type 0 where
   pub text : List ℕ
   pub start : ℕ
   pub written : List ℕ
   pub output_between : Option (List ℕ)
-  pub is : IsOnlyText invocation failure content text written start ⊎ IsInSequence invocation content text written start
-  pub before : Appends output_before output_between written
-  pub stops : TextStops invocation failure name content start text output_between output_after
+  pub input_text : IsWholeInput invocation failure content text written start
+      ⊎ IsTextOfSequence invocation content text written start
+  pub written_before : Appends output_before output_between written
+  pub fails_at_text : FailsAtText invocation failure file_name content start text output_between output_after
 
 -- all was read before the run stopped
-pub record ReadsAndStops (invocation : Invocation) (failure : RunFailure) (name : List ℕ) (before after output_before output_after : Option (List ℕ)) : Type 0 where
+pub record FailsAfterReading (invocation : Invocation) (failure : RunFailure) (file_name : List ℕ)
+    (before after output_before output_after : Option (List ℕ)) : Type 0 where
   pub bytes : List ℕ
-  pub all : ReadsAll before after bytes
-  pub at : StopsAt invocation failure name (content_of invocation name bytes) output_before output_after
+  pub reads_all : ReadsAll before after bytes
+  pub stops_at : StopsAt invocation failure file_name (content_of invocation file_name bytes) output_before output_after
 
 -- the bytes could not be read, for a reader that failed or for lack of memory
-abbrev pub CannotReadAll : RunFailure → (name : List ℕ) → (output_before output_after : Option (List ℕ)) → Type 0
-CannotReadAll (Input it error) name output_before output_after = (it.now ≡ name) × Keeps output_before output_after
-CannotReadAll (Text it number OutOfMemory place) name output_before output_after =
-    (it.now ≡ name) × (number ≡ 0) × (string_bytes place ≡ []) × Keeps output_before output_after
-CannotReadAll other name output_before output_after = ⊥
+abbrev pub CannotReadInput : RunFailure → (file_name : List ℕ) → (output_before output_after : Option (List ℕ)) → Type 0
+CannotReadInput (Input failed_name error) file_name output_before output_after = (failed_name.now ≡ file_name)
+    × Keeps output_before output_after
+CannotReadInput (Text failed_name line_number OutOfMemory position_message) file_name output_before output_after =
+    (failed_name.now ≡ file_name) × (line_number ≡ 0) × (string_bytes position_message ≡ [])
+    × Keeps output_before output_after
+CannotReadInput failure file_name output_before output_after = ⊥
 
-abbrev pub TextsStop : Invocation → RunFailure → (name : List ℕ) → (before after output_before output_after : Option (List ℕ)) → Type 0
-TextsStop invocation failure name before after output_before output_after =
-    CannotReadAll failure name output_before output_after ⊎ ReadsAndStops invocation failure name before after output_before output_after
+abbrev pub FailsOnInput : Invocation → RunFailure → (file_name : List ℕ)
+    → (before after output_before output_after : Option (List ℕ)) → Type 0
+FailsOnInput invocation failure file_name before after output_before output_after =
+    CannotReadInput failure file_name output_before output_after
+    ⊎ FailsAfterReading invocation failure file_name before after output_before output_after
 
 -- ---- for private clauses
 
 -- what was accepted has an output, which was not written whole; or memory is lacking
-abbrev pub AcceptedStops : Invocation → RunFailure → (name : List ℕ) → Accepted → (output_before output_after : Option (List ℕ)) → Type 0
-AcceptedStops invocation (Output it error) name accepted output_before output_after = (it.now ≡ string_bytes invocation.output)
+abbrev pub CannotWriteAccepted : Invocation → RunFailure → (file_name : List ℕ) → Accepted
+    → (output_before output_after : Option (List ℕ)) → Type 0
+CannotWriteAccepted invocation (Output failed_name error) file_name accepted output_before output_after =
+    (failed_name.now ≡ string_bytes invocation.output)
     × ((output : List ℕ) × Outputs invocation.options accepted output × (IsUtf8Accepted accepted → IsUtf8 output))
-AcceptedStops invocation (Text it number OutOfMemory place) name accepted output_before output_after =
-    (it.now ≡ name) × (number ≡ 0) × (string_bytes place ≡ []) × Keeps output_before output_after
-AcceptedStops invocation other name accepted output_before output_after = ⊥
+CannotWriteAccepted invocation
+    (Text failed_name line_number OutOfMemory position_message) file_name accepted output_before output_after =
+    (failed_name.now ≡ file_name) × (line_number ≡ 0) × (string_bytes position_message ≡ [])
+    × Keeps output_before output_after
+CannotWriteAccepted invocation failure file_name accepted output_before output_after = ⊥
 
 -- what was accepted was written
-pub record WritesAccepted (invocation : Invocation) (accepted : Accepted) (output_before output_after : Option (List ℕ)) : Type 0 where
+pub record WritesAcceptedText (invocation : Invocation) (accepted : Accepted)
+    (output_before output_after : Option (List ℕ)) : Type 0 where
   pub output : List ℕ
   pub outputs : Outputs invocation.options accepted output
   pub utf8 : IsUtf8Accepted accepted → IsUtf8 output
   pub written : Appends output_before output_after output
 
 -- the outputs of all texts were written
-pub record WritesAll (invocation : Invocation) (content : List ℕ) (output_before output_after : Option (List ℕ)) : Type 0 where
+pub record WritesAllTexts (invocation : Invocation) (content : List ℕ)
+    (output_before output_after : Option (List ℕ)) : Type 0 where
   pub output : List ℕ
-  pub outputs : AreWritten invocation (texts_in content) output
+  pub outputs : AreTextOutputs invocation (texts_in content) output
   pub utf8 : WritesText invocation.task → IsUtf8 output
   pub written : Appends output_before output_after output
 
 -- the output of a text was written
-pub record IsTextDone (invocation : Invocation) (text : List ℕ) (output_before output_after : Option (List ℕ)) : Type 0 where
+pub record WritesTextOutput (invocation : Invocation) (text : List ℕ)
+    (output_before output_after : Option (List ℕ)) : Type 0 where
   pub output : List ℕ
-  pub has : HasOneOutput invocation text output
+  pub text_output : HasTextOutput invocation text output
   pub written : Appends output_before output_after output

@@ -1,16 +1,16 @@
 //! Which mistake a rejected text makes, and what reads it.
 ghost use Rattle.std.specs.Prelude.{◌≡◌, ◌<◌, ◌⊎◌, IfSome, length, true};
 ghost use Rattle.bson_run.specs.ErrorMessages.{IsSubslice};
-ghost use Rattle.bson_program.specs.Hints.{IsAdvice, IsAdviceFor, IsAdvisedAt, IsReadUpgraded, IsReadWithLegacy, IsSplit};
-ghost use Rattle.bson_program.specs.Hints.{advice_after, advice_at, advice_under};
-ghost use Rattle.bson_program.specs.Hints.{is_canonical, is_comment, is_name, is_not_finite, is_shell_call, is_shell_value};
+ghost use Rattle.bson_program.specs.Hints.{IsAdvice, IsAdviceFor, IsSyntaxAdvice, IsReadUpgraded, IsReadWithLegacy, IsSplit};
+ghost use Rattle.bson_program.specs.Hints.{advice_for_trailing_data, advice_for_bytes, advice_for_rule};
+ghost use Rattle.bson_program.specs.Hints.{is_canonical, is_comment, is_python_or_js_literal, is_not_finite, is_shell_call, is_shell_value};
 ghost use Rattle.bson_program.specs.Hints.{legacy_advice, legacy_preprocessing};
 
-use crate::hints::{has_content, split_line, starts_text};
+use crate::hints::{has_non_whitespace, split_first_line, starts_json_text};
 use crate::invocation::{Input, Invocation};
-use crate::progress::FIRST_BYTES;
+use crate::progress::FIRST_BYTES_LEN;
 use crate::run::RunFailure;
-use crate::single_text::accept;
+use crate::single_text::accept_single_text;
 use crate::texts::{BYTE_ORDER_MARK, reads_several};
 use bson::extjson::{Doubles, Options};
 use bson_codec::run_end::RunFault;
@@ -31,19 +31,19 @@ use std::alloc::Global;
 #[derive(Clone, Copy, PartialEq, Eq)]
 pub enum Advice {
     /// Numbers that `--strict` alone rejects.
-    Doubles,
+    FiniteDoubles,
     /// Several texts, which `--strict` rejects.
     SeveralTexts,
     /// Values as the mongo shell prints them.
-    Shell,
+    MongoShellValue,
     /// `NaN` or an infinity, which are not JSON.
     NotFinite,
     /// Names of Python or JavaScript for values of JSON.
-    Names,
+    PythonOrJsLiterals,
     /// A comment.
     Comment,
     /// Several texts without white space between them, or on a line that may have one.
-    OneLine,
+    SeveralTextsOnOneLine,
     /// A control character in a string.
     ControlCharacter,
     /// Bytes that are not UTF-8.
@@ -61,20 +61,21 @@ pub fn advice_for(
     alloc: Global,
     invocation: &Invocation,
     first_bytes: &[u8],
-    has_double: bool,
-    ended: &Result<Counts, RunFailure<'_>>,
+    has_finite_double: bool,
+    run_result: &Result<Counts, RunFailure<'_>>,
 ) -> Option<Advice>
-    ensures { IfSome result (λ advice. (advice ≡ Advice.Doubles) ⊎ IsAdvice invocation.now first_bytes.now advice) }
+    ensures { IfSome result
+        (λ advice. (advice ≡ Advice.FiniteDoubles) ⊎ IsAdvice invocation.now first_bytes.now advice) }
 {
-    if has_double || ends_at_double(invocation.options, ended) {
-        return Some(Advice::Doubles);
+    if has_finite_double || ends_at_finite_double(invocation.options, run_result) {
+        return Some(Advice::FiniteDoubles);
     }
-    match ended {
+    match run_result {
         Err(RunFailure::Text(_, _, _, _)) => {
             first_advice(
                 alloc,
                 invocation,
-                uncut(invocation.input, unmarked(first_bytes)),
+                without_cut_off_end(invocation.input, without_byte_order_mark(first_bytes)),
             )
         }
         _ => None,
@@ -82,27 +83,27 @@ pub fn advice_for(
 }
 
 // Whether a run ended at a finite double that is read without `--strict`.
-fn ends_at_double(options: Options, ended: &Result<Counts, RunFailure<'_>>) -> bool {
+fn ends_at_finite_double(options: Options, run_result: &Result<Counts, RunFailure<'_>>) -> bool {
     if options.doubles == Doubles::Finite {
         return false;
     }
-    match ended {
-        Err(RunFailure::Text(_, _, Error::NotExtendedJson(place), _)) => is_double(place),
-        Err(RunFailure::Document(_, end)) => end.fault == RunFault::FiniteDouble,
+    match run_result {
+        Err(RunFailure::Text(_, _, Error::NotExtendedJson(place), _)) => is_number_error(place),
+        Err(RunFailure::Document(_, run_end)) => run_end.fault == RunFault::FiniteDouble,
         _ => false,
     }
 }
 
 // Whether a number is wrong only where the specification alone is read.
-fn is_double(place: &Place) -> bool {
+fn is_number_error(place: &Place) -> bool {
     match &place.reason {
-        Reason::WrongShape(words) => *words == NUMBER_MESSAGE,
+        Reason::WrongShape(message) => *message == NUMBER_MESSAGE,
         Reason::BadObjectId(_) => false,
     }
 }
 
 // Returns the bytes after a byte order mark.
-fn unmarked(first_bytes: &[u8]) -> &[u8]
+fn without_byte_order_mark(first_bytes: &[u8]) -> &[u8]
     ensures { IsSubslice result.now first_bytes.now }
 {
     if first_bytes.starts_with(BYTE_ORDER_MARK) {
@@ -113,79 +114,84 @@ fn unmarked(first_bytes: &[u8]) -> &[u8]
 }
 
 // Returns the bytes without the last ones, if more may follow: whole lines, or whole characters.
-fn uncut(input: Input, first_bytes: &[u8]) -> &[u8]
+fn without_cut_off_end(input: Input, first_bytes: &[u8]) -> &[u8]
     ensures { IsSubslice result.now first_bytes.now }
 {
-    if first_bytes.len() < FIRST_BYTES {
+    if first_bytes.len() < FIRST_BYTES_LEN {
         return first_bytes;
     }
-    let last = first_bytes.iter().rev();
-    let cut = match input {
-        Input::Lines => last.take_while(|byte| **byte != b'\n').count(),
-        _ => last.take_while(|byte| !byte.is_ascii()).count(),
+    let reversed_bytes = first_bytes.iter().rev();
+    let cut_off_len = match input {
+        Input::Lines => reversed_bytes.take_while(|byte| **byte != b'\n').count(),
+        _ => reversed_bytes.take_while(|byte| !byte.is_ascii()).count(),
     };
-    &first_bytes[..first_bytes.len().saturating_sub(cut)]
+    &first_bytes[..first_bytes.len().saturating_sub(cut_off_len)]
 }
 
 // Returns what helps with the first text that is rejected.
 fn first_advice(alloc: Global, invocation: &Invocation, first_bytes: &[u8]) -> Option<Advice>
     ensures { IfSome result (IsAdvice invocation.now first_bytes.now) }
 {
-    let mut rest = first_bytes;
-    while !rest.is_empty() {
-        let (text, next) = next_text(invocation, rest);
-        if has_content(text) {
-            if let Err(fault) = accept(alloc, invocation, text) {
-                return advice_of(alloc, invocation, &fault, text);
+    let mut remaining_bytes = first_bytes;
+    while !remaining_bytes.is_empty() {
+        let (text, after_text) = next_text(invocation, remaining_bytes);
+        if has_non_whitespace(text) {
+            if let Err(fault) = accept_single_text(alloc, invocation, text) {
+                return advice_for_error(alloc, invocation, &fault, text);
             }
         }
-        rest = next;
+        remaining_bytes = after_text;
     }
     None
 }
 
 // Returns the next text of an input, and the bytes after it.
-fn next_text<'a>(invocation: &Invocation, rest: &'a [u8]) -> (&'a [u8], &'a [u8])
-    ensures parts { IsSplit rest.now result.0.now result.1.now }
-    ensures shorter { 0 < length rest.now → length result.1.now < length rest.now }
+fn next_text<'a>(invocation: &Invocation, remaining_bytes: &'a [u8]) -> (&'a [u8], &'a [u8])
+    ensures split { IsSplit remaining_bytes.now result.0.now result.1.now }
+    ensures shorter { 0 < length remaining_bytes.now → length result.1.now < length remaining_bytes.now }
 {
     if invocation.input == Input::Lines {
-        return split_line(rest);
+        return split_first_line(remaining_bytes);
     }
     if reads_several(invocation.options.doubles, invocation.task) {
-        return split_text(rest);
+        return split_text(remaining_bytes);
     }
-    (rest, b"")
+    (remaining_bytes, b"")
 }
 
 // Returns what helps with a text that was rejected with this error.
-fn advice_of(alloc: Global, invocation: &Invocation, fault: &Error, text: &[u8]) -> Option<Advice>
+fn advice_for_error(
+    alloc: Global,
+    invocation: &Invocation,
+    fault: &Error,
+    text: &[u8],
+) -> Option<Advice>
     ensures { IfSome result (IsAdviceFor invocation.now fault.now text.now) }
 {
     match fault {
-        Error::NotJson => advice_at_stop(alloc, invocation, text),
-        Error::NotExtendedJson(_) => advice_by_trial(alloc, invocation, text),
+        Error::NotJson => advice_for_syntax_error(alloc, invocation, text),
+        Error::NotExtendedJson(_) => advice_for_value_error(alloc, invocation, text),
         Error::NoBytes(NoBytes::NoDocument) => Some(Advice::NotADocument),
         _ => None,
     }
 }
 
 // Returns what helps with a text that is not JSON.
-fn advice_at_stop(alloc: Global, invocation: &Invocation, text: &[u8]) -> Option<Advice>
-    ensures { IfSome result (IsAdvisedAt invocation.now text.now) }
+fn advice_for_syntax_error(alloc: Global, invocation: &Invocation, text: &[u8]) -> Option<Advice>
+    ensures { IfSome result (IsSyntaxAdvice invocation.now text.now) }
 {
-    let Ok(stop) = syntax_error::SyntaxError::of(alloc, text) else {
+    let Ok(json_error) = syntax_error::SyntaxError::of(alloc, text) else {
         return None;
     };
-    if stop.rule == Rule::TrailingData && is_canonical(invocation.task) {
+    if json_error.rule == Rule::TrailingData && is_canonical(invocation.task) {
         return None;
     }
-    let rest = &text[stop.offset.min(text.len())..];
-    advice_under(
+    let remaining_bytes = &text[json_error.offset.min(text.len())..];
+    advice_for_rule(
         invocation.input,
         invocation.options.doubles,
-        stop.rule,
-        rest,
+        json_error.rule,
+        remaining_bytes,
     )
 }
 
@@ -197,98 +203,110 @@ fn is_canonical(task: Task) -> bool
 }
 
 // Returns what helps by the rule that a text breaks, and the bytes from where it does.
-fn advice_under(input: Input, doubles: Doubles, rule: Rule, rest: &[u8]) -> Option<Advice>
-    ensures { result ≡ advice_under input doubles rule rest.now }
+fn advice_for_rule(
+    input: Input,
+    doubles: Doubles,
+    rule: Rule,
+    remaining_bytes: &[u8],
+) -> Option<Advice>
+    ensures { result ≡ advice_for_rule input doubles rule remaining_bytes.now }
 {
     match rule {
         Rule::Utf8 => Some(Advice::NotUtf8),
         Rule::ControlCharacter => Some(Advice::ControlCharacter),
-        Rule::TrailingData => advice_after(input, doubles, rest),
-        _ => advice_at(rest),
+        Rule::TrailingData => advice_for_trailing_data(input, doubles, remaining_bytes),
+        _ => advice_for_bytes(remaining_bytes),
     }
 }
 
 // Returns what helps by the bytes after a text.
-fn advice_after(input: Input, doubles: Doubles, rest: &[u8]) -> Option<Advice>
-    ensures { result ≡ advice_after input doubles rest.now }
+fn advice_for_trailing_data(
+    input: Input,
+    doubles: Doubles,
+    remaining_bytes: &[u8],
+) -> Option<Advice>
+    ensures { result ≡ advice_for_trailing_data input doubles remaining_bytes.now }
 {
     match (input, doubles) {
         (Input::Text, Doubles::Special) => Some(Advice::SeveralTexts),
-        _ if starts_text(rest) => Some(Advice::OneLine),
-        _ => advice_at(rest),
+        _ if starts_json_text(remaining_bytes) => Some(Advice::SeveralTextsOnOneLine),
+        _ => advice_for_bytes(remaining_bytes),
     }
 }
 
 // Returns what helps by the bytes from where a text is not JSON.
-fn advice_at(rest: &[u8]) -> Option<Advice>
-    ensures { result ≡ advice_at rest.now }
+fn advice_for_bytes(remaining_bytes: &[u8]) -> Option<Advice>
+    ensures { result ≡ advice_for_bytes remaining_bytes.now }
 {
-    if is_comment(rest) {
+    if is_comment(remaining_bytes) {
         return Some(Advice::Comment);
     }
-    if is_shell_call(rest) || is_shell_value(rest) {
-        return Some(Advice::Shell);
+    if is_shell_call(remaining_bytes) || is_shell_value(remaining_bytes) {
+        return Some(Advice::MongoShellValue);
     }
-    if is_not_finite(rest) {
+    if is_not_finite(remaining_bytes) {
         return Some(Advice::NotFinite);
     }
-    if is_name(rest) {
-        return Some(Advice::Names);
+    if is_python_or_js_literal(remaining_bytes) {
+        return Some(Advice::PythonOrJsLiterals);
     }
     None
 }
 
-fn is_comment(rest: &[u8]) -> bool
-    ensures { result ≡ is_comment rest.now }
+fn is_comment(remaining_bytes: &[u8]) -> bool
+    ensures { result ≡ is_comment remaining_bytes.now }
 {
-    rest.starts_with(b"//") || rest.starts_with(b"/*")
+    remaining_bytes.starts_with(b"//") || remaining_bytes.starts_with(b"/*")
 }
 
-fn is_shell_call(rest: &[u8]) -> bool
-    ensures { result ≡ is_shell_call rest.now }
+fn is_shell_call(remaining_bytes: &[u8]) -> bool
+    ensures { result ≡ is_shell_call remaining_bytes.now }
 {
-    rest.starts_with(b"ObjectId(")
-        || rest.starts_with(b"ISODate(")
-        || rest.starts_with(b"NumberLong(")
-        || rest.starts_with(b"NumberInt(")
-        || rest.starts_with(b"NumberDecimal(")
-        || rest.starts_with(b"Timestamp(")
-        || rest.starts_with(b"BinData(")
-        || rest.starts_with(b"UUID(")
-        || rest.starts_with(b"DBRef(")
+    remaining_bytes.starts_with(b"ObjectId(")
+        || remaining_bytes.starts_with(b"ISODate(")
+        || remaining_bytes.starts_with(b"NumberLong(")
+        || remaining_bytes.starts_with(b"NumberInt(")
+        || remaining_bytes.starts_with(b"NumberDecimal(")
+        || remaining_bytes.starts_with(b"Timestamp(")
+        || remaining_bytes.starts_with(b"BinData(")
+        || remaining_bytes.starts_with(b"UUID(")
+        || remaining_bytes.starts_with(b"DBRef(")
 }
 
-fn is_shell_value(rest: &[u8]) -> bool
-    ensures { result ≡ is_shell_value rest.now }
+fn is_shell_value(remaining_bytes: &[u8]) -> bool
+    ensures { result ≡ is_shell_value remaining_bytes.now }
 {
-    rest.starts_with(b"/")
-        || rest.starts_with(b"new ")
-        || rest.starts_with(b"MinKey")
-        || rest.starts_with(b"MaxKey")
-        || rest.starts_with(b"Long(")
-        || rest.starts_with(b"Int32(")
-        || rest.starts_with(b"Double(")
-        || rest.starts_with(b"Decimal128(")
+    remaining_bytes.starts_with(b"/")
+        || remaining_bytes.starts_with(b"new ")
+        || remaining_bytes.starts_with(b"MinKey")
+        || remaining_bytes.starts_with(b"MaxKey")
+        || remaining_bytes.starts_with(b"Long(")
+        || remaining_bytes.starts_with(b"Int32(")
+        || remaining_bytes.starts_with(b"Double(")
+        || remaining_bytes.starts_with(b"Decimal128(")
 }
 
-fn is_not_finite(rest: &[u8]) -> bool
-    ensures { result ≡ is_not_finite rest.now }
+fn is_not_finite(remaining_bytes: &[u8]) -> bool
+    ensures { result ≡ is_not_finite remaining_bytes.now }
 {
-    rest.starts_with(b"NaN") || rest.starts_with(b"Infinity") || rest.starts_with(b"-Infinity")
+    remaining_bytes.starts_with(b"NaN")
+        || remaining_bytes.starts_with(b"Infinity")
+        || remaining_bytes.starts_with(b"-Infinity")
 }
 
-fn is_name(rest: &[u8]) -> bool
-    ensures { result ≡ is_name rest.now }
+fn is_python_or_js_literal(remaining_bytes: &[u8]) -> bool
+    ensures { result ≡ is_python_or_js_literal remaining_bytes.now }
 {
-    rest.starts_with(b"True")
-        || rest.starts_with(b"False")
-        || rest.starts_with(b"None")
-        || rest.starts_with(b"undefined")
+    remaining_bytes.starts_with(b"True")
+        || remaining_bytes.starts_with(b"False")
+        || remaining_bytes.starts_with(b"None")
+        || remaining_bytes.starts_with(b"undefined")
 }
 
 // Returns what helps with a text that is not Extended JSON: `--legacy`, if it reads the text.
-fn advice_by_trial(alloc: Global, invocation: &Invocation, text: &[u8]) -> Option<Advice>
-    ensures { IfSome result (λ advice. (legacy_advice invocation.now.task ≡ advice) × IsReadWithLegacy invocation.now text.now) }
+fn advice_for_value_error(alloc: Global, invocation: &Invocation, text: &[u8]) -> Option<Advice>
+    ensures { IfSome result (λ advice. (legacy_advice invocation.now.task ≡ advice)
+        × IsReadWithLegacy invocation.now text.now) }
 {
     let preprocessing = legacy_preprocessing(invocation.task)?;
     if reads_upgraded(alloc, invocation.options, preprocessing, text) {

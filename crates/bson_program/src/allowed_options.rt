@@ -5,7 +5,7 @@ ghost use Rattle.bson_program.specs.Invocation.{AllOptionsSupported, AreTwoFiles
 ghost use Rattle.bson_run.specs.declared.task.Task.{Task};
 
 use crate::arguments::ArgsSoFar;
-use crate::invocation::{Flag, Input, Purpose, STANDARD, UsageError};
+use crate::invocation::{Flag, Input, Purpose, STDIO, UsageError};
 use bson_convert::mode::Mode;
 use bson_run::task::{Criterion, Task};
 
@@ -18,28 +18,29 @@ pub fn find_option_error(args_so_far: &ArgsSoFar, task: Task) -> Option<UsageErr
         return Some(UsageError::UnsupportedOption(flag, args_so_far.purpose, task));
     }
     if args_so_far.purpose == Purpose::Comparison {
-        two_files(args_so_far)
+        two_files_error(args_so_far)
     } else {
         None
     }
 }
 
 // Returns what is wrong with the files of a comparison.
-fn two_files(args_so_far: &ArgsSoFar) -> Option<UsageError>
-    ensures some { (task : Task) → args_so_far.now.purpose ≡ Purpose.Comparison → IfSome result (IsOptionError args_so_far.now task) }
+fn two_files_error(args_so_far: &ArgsSoFar) -> Option<UsageError>
+    ensures some { (task : Task) → args_so_far.now.purpose ≡ Purpose.Comparison
+        → IfSome result (IsOptionError args_so_far.now task) }
     ensures none { result ≡ None → AreTwoFiles args_so_far.now.inputs }
 {
     let inputs = &args_so_far.inputs;
     if inputs.len() != 2 {
-        return Some(UsageError::TwoFiles);
+        return Some(UsageError::NeedsTwoFiles);
     }
-    if inputs[0].as_str() != STANDARD {
+    if inputs[0].as_str() != STDIO {
         return None;
     }
-    if inputs[1].as_str() != STANDARD {
+    if inputs[1].as_str() != STDIO {
         return None;
     }
-    Some(UsageError::StandardTwice)
+    Some(UsageError::StandardInputTwice)
 }
 
 // Returns the first option that is set, and that the command does not have.
@@ -56,8 +57,8 @@ fn unsupported_option(args_so_far: &ArgsSoFar, task: Task) -> Option<Flag>
     if is_unsupported(Flag::Legacy, args_so_far, task) {
         return Some(Flag::Legacy);
     }
-    if is_unsupported(Flag::NoDoubleKeys, args_so_far, task) {
-        return Some(Flag::NoDoubleKeys);
+    if is_unsupported(Flag::NoDuplicateKeys, args_so_far, task) {
+        return Some(Flag::NoDuplicateKeys);
     }
     if is_unsupported(Flag::Canonical, args_so_far, task) {
         return Some(Flag::Canonical);
@@ -87,7 +88,7 @@ fn is_unsupported(flag: Flag, args_so_far: &ArgsSoFar, task: Task) -> bool
     if purpose_allows(flag, args_so_far.purpose) && command_allows(flag, args_so_far.input, task) {
         false
     } else {
-        args_so_far.has(flag)
+        args_so_far.has_flag(flag)
     }
 }
 
@@ -99,7 +100,7 @@ fn purpose_allows(flag: Flag, purpose: Purpose) -> bool
         Flag::SortKeys | Flag::Indent => purpose == Purpose::Output,
         Flag::KeepGoing | Flag::Jobs | Flag::Output => purpose != Purpose::Comparison,
         Flag::Unordered => purpose == Purpose::Comparison,
-        Flag::Strict | Flag::Legacy | Flag::NoDoubleKeys | Flag::Canonical => true,
+        Flag::Strict | Flag::Legacy | Flag::NoDuplicateKeys | Flag::Canonical => true,
     }
 }
 
@@ -108,12 +109,12 @@ fn command_allows(flag: Flag, input: Input, task: Task) -> bool
     ensures { result ≡ flags.command_allows flag input task }
 {
     match flag {
-        Flag::SortKeys if input == Input::Documents => is_form(task),
+        Flag::SortKeys if input == Input::Documents => writes_form(task),
         Flag::SortKeys | Flag::Output => !is_check(task),
-        Flag::Strict => input != Input::Documents || is_form(task),
-        Flag::Legacy | Flag::NoDoubleKeys => reads_texts(input, task),
+        Flag::Strict => input != Input::Documents || writes_form(task),
+        Flag::Legacy | Flag::NoDuplicateKeys => reads_texts(input, task),
         Flag::Canonical => input != Input::Documents && is_check(task),
-        Flag::Indent => input == Input::Text && is_form(task),
+        Flag::Indent => input == Input::Text && writes_form(task),
         Flag::KeepGoing | Flag::Jobs => input != Input::Text,
         Flag::Unordered => true,
     }
@@ -134,8 +135,8 @@ fn is_check(task: Task) -> bool
 }
 
 // Returns whether a form of Extended JSON is written.
-fn is_form(task: Task) -> bool
-    ensures { result ≡ flags.is_form task }
+fn writes_form(task: Task) -> bool
+    ensures { result ≡ flags.writes_form task }
 {
     match task {
         Task::Write(Mode::Canonical) | Task::Write(Mode::Relaxed) => true,

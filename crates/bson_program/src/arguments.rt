@@ -1,29 +1,29 @@
 //! The arguments after the program's name, parsed one after another.
 ghost use Rattle.std.specs.Prelude.{◌≡◌, ◌⊎◌, None, OnOk, IfOk, IfSome, string_bytes, if◌then◌else◌, vec_len};
 ghost use Rattle.bson_program.specs.Flags.{has_flag};
-ghost use Rattle.bson_program.specs.Invocation.{command_of, input_of, is_text, IsNamed};
-ghost use Rattle.bson_program.specs.Invocation.{IsRequestOf, IsWrongRequest, IsInitial, IsValueInArg, IsNumbered, IsStored, IsParsed, SetsOption, AcceptsArg};
+ghost use Rattle.bson_program.specs.Invocation.{command_of, input_after_arg, is_text, NamesMode};
+ghost use Rattle.bson_program.specs.Invocation.{IsRequestOf, IsInvalidUsageRequest, IsInitialState, IsValueInArg, IsParsedCount, IsParsedOutputFile, IsParsed, SetsOption, AcceptsArg};
 ghost use Rattle.bson_run.specs.TaskNames.{task_name};
 
 use crate::allowed_options::find_option_error;
 use crate::invocation::{
-    Command, Flag, Input, Invocation, Purpose, Request, STANDARD, UsageError, Wrong,
+    Command, Flag, Input, InvalidUsage, Invocation, Purpose, Request, STDIO, UsageError,
 };
 use crate::option_effects::{
-    doubles_of, first_preprocessed, option_without_value, requested_order, requested_preprocessing,
-    set, with_criterion,
+    accepted_doubles, option_without_value, requested_key_order, requested_preprocessing, set_flag,
+    with_criterion, with_preprocessing,
 };
-use crate::option_values::{inputs_of, is_dashed, number, output_in};
+use crate::option_values::{input_files, output_file_in, parse_count, starts_as_option};
 use bson::extjson::Options;
 use bson_convert::mode::Mode;
 use bson_run::task::{OnRefusal, Task};
 use std::alloc::{AllocError, Global};
 
 /// The greatest number of spaces.
-const MOST_SPACES: usize = 16;
+const MAX_INDENT_SPACES: usize = 16;
 
 /// The greatest number of jobs.
-const MOST_JOBS: usize = 9999;
+const MAX_JOBS: usize = 9999;
 
 /// The meaning of the arguments so far.
 #[derive(Drop)]
@@ -35,7 +35,7 @@ pub struct ArgsSoFar {
     pub keeps_going: bool,
     pub sorts_keys: bool,
     pub is_strict: bool,
-    pub is_distinct: bool,
+    pub rejects_duplicates: bool,
     pub is_legacy: bool,
     pub is_canonical: bool,
     pub is_unordered: bool,
@@ -43,21 +43,21 @@ pub struct ArgsSoFar {
     pub jobs: Option<usize>,
     pub output: Option<String>,
     pub inputs: Vec<String>,
-    pub next: Next,
+    pub expected_arg: ExpectedArg,
 }
 
 /// The expected kind of the next argument.
 #[derive(Clone, Copy, PartialEq, Eq)]
-pub enum Next {
-    Any,
+pub enum ExpectedArg {
+    AnyArg,
     /// The file of `-o`.
-    Output,
+    OutputFile,
     /// The number of `--indent`.
-    Indent,
+    IndentWidth,
     /// The number of `--jobs`.
-    Jobs,
+    JobCount,
     /// Not an option.
-    Name,
+    Operand,
 }
 
 /// The kind of an argument.
@@ -68,14 +68,14 @@ pub enum ParsedArg {
     Help,
     Version,
     /// One that is not accepted here.
-    Wrong(UsageError),
+    InvalidUsage(UsageError),
 }
 
 impl ArgsSoFar {
     /// Returns the state before the first argument.
     pub fn new(alloc: Global) -> ArgsSoFar
-        ensures first { IsInitial result }
-        ensures inputs { vec_len result.inputs ≡ 0 }
+        ensures initial_state { IsInitialState result }
+        ensures no_inputs { vec_len result.inputs ≡ 0 }
     {
         ArgsSoFar {
             alloc,
@@ -85,7 +85,7 @@ impl ArgsSoFar {
             keeps_going: false,
             sorts_keys: false,
             is_strict: false,
-            is_distinct: false,
+            rejects_duplicates: false,
             is_legacy: false,
             is_canonical: false,
             is_unordered: false,
@@ -93,7 +93,7 @@ impl ArgsSoFar {
             jobs: None,
             output: None,
             inputs: Vec::new(alloc),
-            next: Next::Any,
+            expected_arg: ExpectedArg::AnyArg,
         }
     }
 
@@ -102,7 +102,7 @@ impl ArgsSoFar {
         ensures { result ≡ command_of self.now.input self.now.task }
     {
         match self.input {
-            Input::Text if self.task.is_none() => Command::All,
+            Input::Text if self.task.is_none() => Command::AllCommands,
             Input::Text => Command::Text,
             Input::Documents => Command::Decode,
             Input::Lines if self.task == Some(Task::Encode) => Command::Encode,
@@ -111,14 +111,14 @@ impl ArgsSoFar {
     }
 
     /// Returns whether the option is set.
-    pub fn has(&self, flag: Flag) -> bool
+    pub fn has_flag(&self, flag: Flag) -> bool
         ensures { result ≡ has_flag flag self.now }
     {
         match flag {
             Flag::SortKeys => self.sorts_keys,
             Flag::Strict => self.is_strict,
             Flag::Legacy => self.is_legacy,
-            Flag::NoDoubleKeys => self.is_distinct,
+            Flag::NoDuplicateKeys => self.rejects_duplicates,
             Flag::Canonical => self.is_canonical,
             Flag::Indent => self.indent.is_some(),
             Flag::KeepGoing => self.keeps_going,
@@ -129,64 +129,64 @@ impl ArgsSoFar {
     }
 
     /// Accepts the next argument, or says why not.
-    pub fn take(&mut self, arg: &str) -> Result<ParsedArg, AllocError>
+    pub fn parse_arg(&mut self, arg: &str) -> Result<ParsedArg, AllocError>
         ensures args_so_far { AcceptsArg arg.now self.old self.new }
-        ensures named_task { IfSome self.new.task (λ named_task. ((self.old.task ≡ Some named_task) × (self.new.purpose ≡ self.old.purpose)) ⊎ IsNamed arg.now self.new.purpose named_task) }
+        ensures named_task { IfSome self.new.task (λ named_task. ((self.old.task ≡ Some named_task) × (self.new.purpose ≡ self.old.purpose)) ⊎ NamesMode arg.now self.new.purpose named_task) }
         ensures parsed { IfOk result (IsParsed self.old arg.now) }
     {
-        match self.next {
-            Next::Any => self.take_any(arg),
-            Next::Output => {
-                self.next = Next::Any;
-                self.take_output(arg)
+        match self.expected_arg {
+            ExpectedArg::AnyArg => self.parse_any_arg(arg),
+            ExpectedArg::OutputFile => {
+                self.expected_arg = ExpectedArg::AnyArg;
+                self.parse_output_file(arg)
             }
-            Next::Indent => {
-                self.next = Next::Any;
-                Ok(self.take_indent(arg))
+            ExpectedArg::IndentWidth => {
+                self.expected_arg = ExpectedArg::AnyArg;
+                Ok(self.parse_indent_value(arg))
             }
-            Next::Jobs => {
-                self.next = Next::Any;
-                Ok(self.take_jobs(arg))
+            ExpectedArg::JobCount => {
+                self.expected_arg = ExpectedArg::AnyArg;
+                Ok(self.parse_jobs_value(arg))
             }
-            Next::Name => self.take_name(arg),
+            ExpectedArg::Operand => self.parse_operand(arg),
         }
     }
 
     // Accepts an argument that is not the value of an option.
-    fn take_any(&mut self, arg: &str) -> Result<ParsedArg, AllocError>
+    fn parse_any_arg(&mut self, arg: &str) -> Result<ParsedArg, AllocError>
         ensures args_so_far { SetsOption arg.now self.old self.new }
-        ensures named_task { IfSome self.new.task (λ named_task. ((self.old.task ≡ Some named_task) × (self.new.purpose ≡ self.old.purpose)) ⊎ IsNamed arg.now self.new.purpose named_task) }
+        ensures named_task { IfSome self.new.task (λ named_task. ((self.old.task ≡ Some named_task) × (self.new.purpose ≡ self.old.purpose)) ⊎ NamesMode arg.now self.new.purpose named_task) }
         ensures parsed { IfOk result (IsParsed self.old arg.now) }
     {
         match arg {
             "--help" | "-h" => Ok(ParsedArg::Help),
             "--version" | "-v" => Ok(ParsedArg::Version),
-            "--" => self.expect(Next::Name),
-            "-o" | "--output" => self.expect(Next::Output),
-            "--indent" => self.expect(Next::Indent),
-            "--jobs" => self.expect(Next::Jobs),
-            "--keep-going" => Ok(set(&mut self.keeps_going, Flag::KeepGoing)),
-            "--sort-keys" => Ok(set(&mut self.sorts_keys, Flag::SortKeys)),
-            "--strict" => Ok(set(&mut self.is_strict, Flag::Strict)),
-            "--no-double-keys" => Ok(set(&mut self.is_distinct, Flag::NoDoubleKeys)),
-            "--legacy" => Ok(set(&mut self.is_legacy, Flag::Legacy)),
-            "--canonical" => Ok(set(&mut self.is_canonical, Flag::Canonical)),
-            "--unordered" => Ok(set(&mut self.is_unordered, Flag::Unordered)),
-            "--doubles" | "--keep-order" => Ok(ParsedArg::Wrong(UsageError::RemovedOption)),
-            "help" => self.take_help(arg),
-            STANDARD | "lines" | "decode" | "encode" | "hash" | "same" => self.take_name(arg),
+            "--" => self.expect_arg(ExpectedArg::Operand),
+            "-o" | "--output" => self.expect_arg(ExpectedArg::OutputFile),
+            "--indent" => self.expect_arg(ExpectedArg::IndentWidth),
+            "--jobs" => self.expect_arg(ExpectedArg::JobCount),
+            "--keep-going" => Ok(set_flag(&mut self.keeps_going, Flag::KeepGoing)),
+            "--sort-keys" => Ok(set_flag(&mut self.sorts_keys, Flag::SortKeys)),
+            "--strict" => Ok(set_flag(&mut self.is_strict, Flag::Strict)),
+            "--no-double-keys" => Ok(set_flag(&mut self.rejects_duplicates, Flag::NoDuplicateKeys)),
+            "--legacy" => Ok(set_flag(&mut self.is_legacy, Flag::Legacy)),
+            "--canonical" => Ok(set_flag(&mut self.is_canonical, Flag::Canonical)),
+            "--unordered" => Ok(set_flag(&mut self.is_unordered, Flag::Unordered)),
+            "--doubles" | "--keep-order" => Ok(ParsedArg::InvalidUsage(UsageError::RemovedOption)),
+            "help" => self.parse_help_arg(arg),
+            STDIO | "lines" | "decode" | "encode" | "hash" | "same" => self.parse_operand(arg),
             _ => {
-                if is_dashed(arg) {
-                    self.take_joined(arg)
+                if starts_as_option(arg) {
+                    self.parse_option_with_value(arg)
                 } else {
-                    self.take_name(arg)
+                    self.parse_operand(arg)
                 }
             }
         }
     }
 
     // Accepts `help`, which is a file after a mode.
-    fn take_help(&mut self, arg: &str) -> Result<ParsedArg, AllocError>
+    fn parse_help_arg(&mut self, arg: &str) -> Result<ParsedArg, AllocError>
         ensures args_so_far { self.new ≡ record self.old { inputs = self.new.inputs } }
         ensures parsed { IfOk result (λ parsed. (parsed ≡ ParsedArg.AcceptedArg) ⊎ ((parsed ≡ ParsedArg.Help) × (self.old.task ≡ None))) }
     {
@@ -198,80 +198,80 @@ impl ArgsSoFar {
     }
 
     // Accepts an option with its value in the same argument.
-    fn take_joined(&mut self, arg: &str) -> Result<ParsedArg, AllocError>
+    fn parse_option_with_value(&mut self, arg: &str) -> Result<ParsedArg, AllocError>
         ensures args_so_far { self.new ≡ record self.old { indent = self.new.indent; jobs = self.new.jobs; output = self.new.output } }
         ensures parsed { IfOk result (IsValueInArg self.old arg.now) }
     {
         if let Some(count) = arg.strip_prefix("--indent=") {
-            return Ok(self.take_indent(count));
+            return Ok(self.parse_indent_value(count));
         }
         if let Some(count) = arg.strip_prefix("--jobs=") {
-            return Ok(self.take_jobs(count));
+            return Ok(self.parse_jobs_value(count));
         }
-        match output_in(arg) {
-            Some(name) => self.take_output(name),
-            None => Ok(ParsedArg::Wrong(UsageError::UnknownOption)),
+        match output_file_in(arg) {
+            Some(file_name) => self.parse_output_file(file_name),
+            None => Ok(ParsedArg::InvalidUsage(UsageError::UnknownOption)),
         }
     }
 
     // Accepts a number of spaces.
-    fn take_indent(&mut self, arg: &str) -> ParsedArg
+    fn parse_indent_value(&mut self, arg: &str) -> ParsedArg
         ensures args_so_far { self.new ≡ record self.old { indent = self.new.indent } }
-        ensures parsed { IsNumbered Flag.Indent 16 self.old arg.now result }
+        ensures parsed { IsParsedCount Flag.Indent 16 self.old arg.now result }
     {
         if self.indent.is_some() {
-            return ParsedArg::Wrong(UsageError::Twice(Flag::Indent));
+            return ParsedArg::InvalidUsage(UsageError::OptionTwice(Flag::Indent));
         }
-        self.indent = number(arg, MOST_SPACES);
+        self.indent = parse_count(arg, MAX_INDENT_SPACES);
         if self.indent.is_some() {
             ParsedArg::AcceptedArg
         } else {
-            ParsedArg::Wrong(UsageError::NoValue(Flag::Indent))
+            ParsedArg::InvalidUsage(UsageError::BadOptionValue(Flag::Indent))
         }
     }
 
     // Accepts a number of jobs.
-    fn take_jobs(&mut self, arg: &str) -> ParsedArg
+    fn parse_jobs_value(&mut self, arg: &str) -> ParsedArg
         ensures args_so_far { self.new ≡ record self.old { jobs = self.new.jobs } }
-        ensures parsed { IsNumbered Flag.Jobs 9999 self.old arg.now result }
+        ensures parsed { IsParsedCount Flag.Jobs 9999 self.old arg.now result }
     {
         if self.jobs.is_some() {
-            return ParsedArg::Wrong(UsageError::Twice(Flag::Jobs));
+            return ParsedArg::InvalidUsage(UsageError::OptionTwice(Flag::Jobs));
         }
-        self.jobs = number(arg, MOST_JOBS);
+        self.jobs = parse_count(arg, MAX_JOBS);
         if self.jobs.is_some() {
             ParsedArg::AcceptedArg
         } else {
-            ParsedArg::Wrong(UsageError::NoValue(Flag::Jobs))
+            ParsedArg::InvalidUsage(UsageError::BadOptionValue(Flag::Jobs))
         }
     }
 
     // Waits for the value of an option.
-    fn expect(&mut self, next: Next) -> Result<ParsedArg, AllocError>
-        ensures args_so_far { self.new ≡ record self.old { next = next } }
-        ensures arg { result ≡ Ok ParsedArg.AcceptedArg }
+    fn expect_arg(&mut self, expected_arg: ExpectedArg) -> Result<ParsedArg, AllocError>
+        ensures args_so_far { self.new ≡ record self.old { expected_arg = expected_arg } }
+        ensures accepted { result ≡ Ok ParsedArg.AcceptedArg }
     {
-        self.next = next;
+        self.expected_arg = expected_arg;
         Ok(ParsedArg::AcceptedArg)
     }
 
-    fn take_output(&mut self, name: &str) -> Result<ParsedArg, AllocError>
+    fn parse_output_file(&mut self, file_name: &str) -> Result<ParsedArg, AllocError>
         ensures args_so_far { self.new ≡ record self.old { output = self.new.output } }
         ensures output { OnOk result (IfSome self.new.output
-            (λ file. (self.old.output ≡ Some file) ⊎ (string_bytes file ≡ name.now))) }
-        ensures parsed { IfOk result (IsStored self.old) }
+            (λ file. (self.old.output ≡ Some file) ⊎ (string_bytes file ≡ file_name.now))) }
+        ensures parsed { IfOk result (IsParsedOutputFile self.old) }
     {
         if self.output.is_some() {
-            return Ok(ParsedArg::Wrong(UsageError::Twice(Flag::Output)));
+            return Ok(ParsedArg::InvalidUsage(UsageError::OptionTwice(Flag::Output)));
         }
-        self.output = Some(String::from_str(self.alloc, name)?);
+        self.output = Some(String::from_str(self.alloc, file_name)?);
         Ok(ParsedArg::AcceptedArg)
     }
 
     // Accepts a command or a mode, and after them files.
-    fn take_name(&mut self, arg: &str) -> Result<ParsedArg, AllocError>
-        ensures args_so_far { self.new ≡ record self.old { task = self.new.task; purpose = self.new.purpose; input = input_of arg.now self.old; inputs = self.new.inputs } }
-        ensures named_task { IfSome self.new.task (λ named_task. ((self.old.task ≡ Some named_task) × (self.new.purpose ≡ self.old.purpose)) ⊎ IsNamed arg.now self.new.purpose named_task) }
+    fn parse_operand(&mut self, arg: &str) -> Result<ParsedArg, AllocError>
+        ensures args_so_far { self.new ≡ record self.old { task = self.new.task; purpose = self.new.purpose; input = input_after_arg arg.now self.old; inputs = self.new.inputs } }
+        ensures named_task { IfSome self.new.task (λ named_task. ((self.old.task ≡ Some named_task) × (self.new.purpose ≡ self.old.purpose)) ⊎ NamesMode arg.now self.new.purpose named_task) }
         ensures parsed { IfOk result (IsParsed self.old arg.now) }
     {
         if self.task.is_some() {
@@ -279,33 +279,33 @@ impl ArgsSoFar {
             return Ok(ParsedArg::AcceptedArg);
         }
         match arg {
-            "lines" => Ok(self.take_command(Input::Lines, None)),
-            "decode" => Ok(self.take_command(Input::Documents, None)),
-            "encode" => Ok(self.take_command(Input::Lines, Some(Task::Encode))),
-            "hash" => Ok(self.take_purpose(Purpose::Digests)),
-            "same" => Ok(self.take_purpose(Purpose::Comparison)),
-            _ => Ok(self.take_mode(arg)),
+            "lines" => Ok(self.parse_command_arg(Input::Lines, None)),
+            "decode" => Ok(self.parse_command_arg(Input::Documents, None)),
+            "encode" => Ok(self.parse_command_arg(Input::Lines, Some(Task::Encode))),
+            "hash" => Ok(self.parse_purpose_arg(Purpose::Digests)),
+            "same" => Ok(self.parse_purpose_arg(Purpose::Comparison)),
+            _ => Ok(self.parse_mode_arg(arg)),
         }
     }
 
     // Accepts the name of a command, which comes first.
-    fn take_command(&mut self, input: Input, task: Option<Task>) -> ParsedArg
+    fn parse_command_arg(&mut self, input: Input, task: Option<Task>) -> ParsedArg
         ensures args_so_far { self.new ≡ record self.old { input = input; purpose = Purpose.Output; task = task } }
-        ensures parsed { result ≡ (if is_text self.old.input then ParsedArg.AcceptedArg else ParsedArg.Wrong UsageError.UnknownMode) }
+        ensures parsed { result ≡ (if is_text self.old.input then ParsedArg.AcceptedArg else ParsedArg.InvalidUsage UsageError.UnknownMode) }
     {
-        let is_first = self.input == Input::Text;
+        let is_first_command = self.input == Input::Text;
         self.input = input;
         self.purpose = Purpose::Output;
         self.task = task;
-        if is_first {
+        if is_first_command {
             ParsedArg::AcceptedArg
         } else {
-            ParsedArg::Wrong(UsageError::UnknownMode)
+            ParsedArg::InvalidUsage(UsageError::UnknownMode)
         }
     }
 
     // Accepts a mode in which the sorted canonical text of each value is read.
-    fn take_purpose(&mut self, purpose: Purpose) -> ParsedArg
+    fn parse_purpose_arg(&mut self, purpose: Purpose) -> ParsedArg
         ensures args_so_far { self.new ≡ record self.old { task = Some (Task.Write Mode.Canonical); purpose = purpose } }
         ensures parsed { result ≡ ParsedArg.AcceptedArg }
     {
@@ -315,34 +315,35 @@ impl ArgsSoFar {
     }
 
     // Accepts a mode.
-    fn take_mode(&mut self, arg: &str) -> ParsedArg
+    fn parse_mode_arg(&mut self, arg: &str) -> ParsedArg
         ensures args_so_far { self.new ≡ record self.old { task = self.new.task; purpose = Purpose.Output } }
         ensures named_task { IfSome self.new.task (λ named_task. arg.now ≡ task_name named_task) }
-        ensures parsed { (result ≡ ParsedArg.AcceptedArg) ⊎ ((result ≡ ParsedArg.Wrong UsageError.UnknownMode) × ((task : Task) → arg.now ≡ task_name task → ⊥)) }
+        ensures parsed { (result ≡ ParsedArg.AcceptedArg) ⊎ ((result ≡ ParsedArg.InvalidUsage UsageError.UnknownMode)
+            × ((task : Task) → arg.now ≡ task_name task → ⊥)) }
     {
         self.purpose = Purpose::Output;
         self.task = Task::from_name(arg);
         if self.task.is_some() {
             ParsedArg::AcceptedArg
         } else {
-            ParsedArg::Wrong(UsageError::UnknownMode)
+            ParsedArg::InvalidUsage(UsageError::UnknownMode)
         }
     }
 
     /// Returns what all arguments request.
-    pub fn answer(self) -> Result<Request, AllocError>
+    pub fn into_request(self) -> Result<Request, AllocError>
         ensures { IfOk result (IsRequestOf self) }
     {
         let command = self.command();
-        if let Some(flag) = option_without_value(self.next) {
-            return Ok(wrong(self.alloc, UsageError::NoValue(flag), command));
+        if let Some(flag) = option_without_value(self.expected_arg) {
+            return Ok(invalid_usage_request(self.alloc, UsageError::BadOptionValue(flag), command));
         }
         let Some(named_task) = self.task else {
-            return Ok(wrong(self.alloc, UsageError::NoMode, command));
+            return Ok(invalid_usage_request(self.alloc, UsageError::NoMode, command));
         };
         let task = with_criterion(self.is_canonical, named_task);
         if let Some(usage_error) = find_option_error(&self, task) {
-            return Ok(wrong(self.alloc, usage_error, command));
+            return Ok(invalid_usage_request(self.alloc, usage_error, command));
         }
         let ArgsSoFar {
             alloc,
@@ -351,7 +352,7 @@ impl ArgsSoFar {
             input,
             sorts_keys,
             is_strict,
-            is_distinct,
+            rejects_duplicates,
             is_legacy,
             is_unordered,
             indent,
@@ -360,17 +361,17 @@ impl ArgsSoFar {
             ..
         } = self;
         let output = match output {
-            Some(name) => name,
-            None => String::from_str(alloc, STANDARD)?,
+            Some(file_name) => file_name,
+            None => String::from_str(alloc, STDIO)?,
         };
         Ok(Request::Run(Invocation {
-            task: match requested_preprocessing(is_distinct, is_legacy) {
-                Some(preprocessing) => first_preprocessed(preprocessing, task),
+            task: match requested_preprocessing(rejects_duplicates, is_legacy) {
+                Some(preprocessing) => with_preprocessing(preprocessing, task),
                 None => task,
             },
             options: Options {
-                doubles: doubles_of(is_strict),
-                key_order: requested_order(purpose, sorts_keys, is_strict),
+                doubles: accepted_doubles(is_strict),
+                key_order: requested_key_order(purpose, sorts_keys, is_strict),
             },
             on_refusal: if keeps_going {
                 OnRefusal::KeepGoing
@@ -382,16 +383,16 @@ impl ArgsSoFar {
             input,
             indent,
             output,
-            inputs: inputs_of(alloc, inputs)?,
+            inputs: input_files(alloc, inputs)?,
         }))
     }
 }
 
 // Returns what is wrong with all arguments.
-fn wrong(alloc: Global, usage_error: UsageError, command: Command) -> Request
-    ensures { IsWrongRequest usage_error command result }
+fn invalid_usage_request(alloc: Global, usage_error: UsageError, command: Command) -> Request
+    ensures { IsInvalidUsageRequest usage_error command result }
 {
-    Request::Wrong(Wrong {
+    Request::InvalidUsage(InvalidUsage {
         usage_error,
         command,
         arg: String::new(alloc),

@@ -1,10 +1,10 @@
 //! A comparison of the values of two files.
 use crate::compare_outputs::{Difference, compare_outputs, difference_line};
-use crate::invocation::{Input, Invocation, STANDARD};
+use crate::invocation::{Input, Invocation, STDIO};
 use crate::messages::show_name;
 use crate::progress::Progress;
-use crate::run::{RunFailure, run_one, total, try_input};
-use crate::streams::{Sink, Target};
+use crate::run::{RunFailure, check_input_file, run_file, total_size};
+use crate::streams::{OutputTarget, OutputWriter};
 use bson_convert::error;
 use std::alloc::{AllocError, Global};
 
@@ -16,69 +16,81 @@ pub fn compare_files<'a>(
     invocation: &'a Invocation,
     hints: &mut Vec<String>,
 ) -> Result<Option<Difference>, RunFailure<'a>> {
-    for name in invocation.inputs.iter() {
-        try_input(rt, invocation, name.as_str())?;
+    for file_name in invocation.inputs.iter() {
+        check_input_file(rt, invocation, file_name.as_str())?;
     }
     let progress = Progress::new(
         rt,
-        total(rt, invocation),
+        total_size(rt, invocation),
         invocation.input != Input::Documents,
     );
-    let difference = compare(rt, invocation, &progress, hints);
+    let difference = compare_inputs(rt, invocation, &progress, hints);
     progress.clear();
     difference
 }
 
-fn compare<'a>(
+fn compare_inputs<'a>(
     rt: &HostRuntime,
     invocation: &'a Invocation,
     progress: &Progress<'_>,
     hints: &mut Vec<String>,
 ) -> Result<Option<Difference>, RunFailure<'a>> {
-    let (name, other) = (name_at(invocation, 0), name_at(invocation, 1));
-    let first = output_of(rt, invocation, name, progress, hints)?;
-    let second = output_of(rt, invocation, other, progress, hints)?;
-    match compare_outputs(rt.alloc(), invocation.is_unordered, &first, &second) {
+    let (first_name, second_name) = (input_name_at(invocation, 0), input_name_at(invocation, 1));
+    let first_output = output_of_file(rt, invocation, first_name, progress, hints)?;
+    let second_output = output_of_file(rt, invocation, second_name, progress, hints)?;
+    match compare_outputs(
+        rt.alloc(),
+        invocation.is_unordered,
+        &first_output,
+        &second_output,
+    ) {
         Ok(difference) => Ok(difference),
-        Err(_) => Err(out_of_memory(rt.alloc(), name)),
+        Err(_) => Err(out_of_memory(rt.alloc(), first_name)),
     }
 }
 
 // Returns the output of one file.
-fn output_of<'a>(
+fn output_of_file<'a>(
     rt: &HostRuntime,
     invocation: &'a Invocation,
-    name: &'a str,
+    file_name: &'a str,
     progress: &Progress<'_>,
     hints: &mut Vec<String>,
 ) -> Result<Vec<u8>, RunFailure<'a>> {
-    let mut sink = Sink::new(Target::Memory(Vec::new(rt.alloc())));
-    match run_one(rt, invocation, name, &mut sink, progress, hints) {
-        Ok(_) => Ok(sink.target.into_memory(rt.alloc())),
-        Err(RunFailure::Output(name, _)) => Err(out_of_memory(rt.alloc(), name)),
+    let mut output_writer = OutputWriter::new(OutputTarget::Memory(Vec::new(rt.alloc())));
+    match run_file(
+        rt,
+        invocation,
+        file_name,
+        &mut output_writer,
+        progress,
+        hints,
+    ) {
+        Ok(_) => Ok(output_writer.target.into_memory(rt.alloc())),
+        Err(RunFailure::Output(file_name, _)) => Err(out_of_memory(rt.alloc(), file_name)),
         Err(failure) => Err(failure),
     }
 }
 
-fn out_of_memory(alloc: Global, name: &str) -> RunFailure<'_> {
-    RunFailure::Text(name, 0, error::Error::OutOfMemory, String::new(alloc))
+fn out_of_memory(alloc: Global, file_name: &str) -> RunFailure<'_> {
+    RunFailure::Text(file_name, 0, error::Error::OutOfMemory, String::new(alloc))
 }
 
 // Returns the name of the first file (0) or of the second (1).
-fn name_at(invocation: &Invocation, at: usize) -> &str {
-    match invocation.inputs.get(at) {
-        Some(name) => name.as_str(),
-        None => STANDARD,
+fn input_name_at(invocation: &Invocation, input_index: usize) -> &str {
+    match invocation.inputs.get(input_index) {
+        Some(file_name) => file_name.as_str(),
+        None => STDIO,
     }
 }
 
 /// Returns the line that says how the two files differ.
-pub fn line_for(
+pub fn difference_line_for(
     alloc: Global,
     invocation: &Invocation,
     difference: Difference,
 ) -> Result<String, AllocError> {
-    let first = show_name(alloc, name_at(invocation, 0), "input")?;
-    let second = show_name(alloc, name_at(invocation, 1), "input")?;
-    difference_line(alloc, &first, &second, difference)
+    let first_name = show_name(alloc, input_name_at(invocation, 0), "input")?;
+    let second_name = show_name(alloc, input_name_at(invocation, 1), "input")?;
+    difference_line(alloc, &first_name, &second_name, difference)
 }

@@ -2,7 +2,7 @@
 ghost use Rattle.std.specs.Prelude.{◌≡◌, IfOk, IfSome, None, map, string_bytes};
 ghost use Rattle.std.specs.List.Sorted.{IsPermutation};
 ghost use Rattle.bson_program.specs.Messages.{split_lines};
-ghost use Rattle.bson_program.specs.Comparison.{counted, difference_message, IsComparison, IsDifference, IsUnorderedDifference};
+ghost use Rattle.bson_program.specs.Comparison.{value_count_text, difference_message, IsComparison, IsDifference, IsUnorderedDifference};
 
 use crate::messages::line_len;
 use std::alloc::{AllocError, Global};
@@ -11,11 +11,11 @@ use std::alloc::{AllocError, Global};
 #[derive(Clone, Copy, PartialEq, Eq)]
 pub enum Difference {
     /// The lines of this number, from 1, are the first that differ.
-    At(usize),
+    AtValue(usize),
     /// One output ends earlier: how many lines each has.
-    Counts(usize, usize),
+    UnequalCounts(usize, usize),
     /// Both outputs have this number of lines, but not the same lines.
-    Lines(usize),
+    EqualCounts(usize),
 }
 
 /// Returns how two outputs differ, or `None` if they have the same lines. If they are unordered, the
@@ -23,47 +23,49 @@ pub enum Difference {
 pub fn compare_outputs(
     alloc: Global,
     is_unordered: bool,
-    first: &[u8],
-    second: &[u8],
+    first_output: &[u8],
+    second_output: &[u8],
 ) -> Result<Option<Difference>, AllocError>
-    ensures { IfOk result (IsComparison is_unordered (split_lines first.now) (split_lines second.now)) }
+    ensures { IfOk result (IsComparison is_unordered (split_lines first_output.now) (split_lines second_output.now)) }
 {
-    let mut first = lines_of(alloc, first)?;
-    let mut second = lines_of(alloc, second)?;
+    let mut first_lines = lines_of(alloc, first_output)?;
+    let mut second_lines = lines_of(alloc, second_output)?;
     if is_unordered {
-        Ok(compare_unordered(&mut first, &mut second))
+        Ok(compare_unordered(&mut first_lines, &mut second_lines))
     } else {
-        Ok(compare(&first, &second))
+        Ok(compare_lines(&first_lines, &second_lines))
     }
 }
 
 /// Returns the line that says how two files differ, by the names that messages show.
 pub fn difference_line(
     alloc: Global,
-    first: &str,
-    second: &str,
+    first_name: &str,
+    second_name: &str,
     difference: Difference,
 ) -> Result<String, AllocError>
-    ensures { IfOk result (λ line. string_bytes line ≡ difference_message first.now second.now difference) }
+    ensures { IfOk result (λ line. string_bytes line ≡ difference_message first_name.now second_name.now difference) }
 {
     match difference {
-        Difference::At(number) => {
-            format!(in alloc; "bson: {first} and {second} differ at value {number}")
+        Difference::AtValue(value_number) => {
+            format!(in alloc; "bson: {first_name} and {second_name} differ at value {value_number}")
         }
-        Difference::Counts(count, other) => {
-            let values = counted(alloc, count)?;
-            format!(in alloc; "bson: {first} has {values}, and {second} has {other}")
+        Difference::UnequalCounts(first_count, second_count) => {
+            let values = value_count_text(alloc, first_count)?;
+            format!(in alloc;
+                "bson: {first_name} has {values}, and {second_name} has {second_count}"
+            )
         }
-        Difference::Lines(count) => {
-            let values = counted(alloc, count)?;
-            format!(in alloc; "bson: {first} and {second} differ: each has {values}")
+        Difference::EqualCounts(count) => {
+            let values = value_count_text(alloc, count)?;
+            format!(in alloc; "bson: {first_name} and {second_name} differ: each has {values}")
         }
     }
 }
 
 // Returns a number of values for a message.
-fn counted(alloc: Global, count: usize) -> Result<String, AllocError>
-    ensures { IfOk result (λ words. string_bytes words ≡ counted count) }
+fn value_count_text(alloc: Global, count: usize) -> Result<String, AllocError>
+    ensures { IfOk result (λ value_count. string_bytes value_count ≡ value_count_text count) }
 {
     if count == 1 {
         String::from_str(alloc, "1 value")
@@ -77,45 +79,48 @@ fn lines_of(alloc: Global, output: &[u8]) -> Result<Vec<&[u8]>, AllocError>
     ensures { IfOk result (λ lines. map (λ line. line.now) lines.items ≡ split_lines output.now) }
 {
     let mut lines = Vec::new(alloc);
-    let mut rest = output;
-    while !rest.is_empty() {
-        let (line, others) = rest.split_at(line_len(rest));
+    let mut remaining_bytes = output;
+    while !remaining_bytes.is_empty() {
+        let (line, after_line) = remaining_bytes.split_at(line_len(remaining_bytes));
         lines.push(line)?;
-        rest = others;
+        remaining_bytes = after_line;
     }
     Ok(lines)
 }
 
 // Returns the first difference between the lines of two outputs.
-fn compare(first: &[&[u8]], second: &[&[u8]]) -> Option<Difference>
-    ensures none { result ≡ None → map (λ line. line.now) first.now ≡ map (λ line. line.now) second.now }
-    ensures some { IfSome result (IsDifference (map (λ line. line.now) first.now) (map (λ line. line.now) second.now)) }
+fn compare_lines(first_lines: &[&[u8]], second_lines: &[&[u8]]) -> Option<Difference>
+    ensures none { result ≡ None → map (λ line. line.now) first_lines.now ≡ map (λ line. line.now) second_lines.now }
+    ensures some { IfSome result
+        (IsDifference (map (λ line. line.now) first_lines.now) (map (λ line. line.now) second_lines.now)) }
 {
-    for at in 0..first.len().min(second.len()) {
-        if first[at] != second[at] {
-            return Some(Difference::At(at + 1));
+    for line_index in 0..first_lines.len().min(second_lines.len()) {
+        if first_lines[line_index] != second_lines[line_index] {
+            return Some(Difference::AtValue(line_index + 1));
         }
     }
-    if first.len() == second.len() {
+    if first_lines.len() == second_lines.len() {
         None
     } else {
-        Some(Difference::Counts(first.len(), second.len()))
+        Some(Difference::UnequalCounts(first_lines.len(), second_lines.len()))
     }
 }
 
 // Returns the difference between the lines of two outputs, whose order does not matter. It sorts the
 // lines.
-fn compare_unordered(first: &mut [&[u8]], second: &mut [&[u8]]) -> Option<Difference>
-    ensures none { result ≡ None → IsPermutation (map (λ line. line.now) first.old) (map (λ line. line.now) second.old) }
-    ensures some { IfSome result (IsUnorderedDifference (map (λ line. line.now) first.old) (map (λ line. line.now) second.old)) }
+fn compare_unordered(first_lines: &mut [&[u8]], second_lines: &mut [&[u8]]) -> Option<Difference>
+    ensures none { result ≡ None
+        → IsPermutation (map (λ line. line.now) first_lines.old) (map (λ line. line.now) second_lines.old) }
+    ensures some { IfSome result
+        (IsUnorderedDifference (map (λ line. line.now) first_lines.old) (map (λ line. line.now) second_lines.old)) }
 {
-    if first.len() != second.len() {
-        return Some(Difference::Counts(first.len(), second.len()));
+    if first_lines.len() != second_lines.len() {
+        return Some(Difference::UnequalCounts(first_lines.len(), second_lines.len()));
     }
-    first.sort_unstable();
-    second.sort_unstable();
-    match compare(first, second) {
-        Some(_) => Some(Difference::Lines(first.len())),
+    first_lines.sort_unstable();
+    second_lines.sort_unstable();
+    match compare_lines(first_lines, second_lines) {
+        Some(_) => Some(Difference::EqualCounts(first_lines.len())),
         None => None,
     }
 }

@@ -9,8 +9,8 @@ ghost use Rattle.bson_program.specs.RunFailures.{document_line};
 
 use crate::invocation::Invocation;
 use crate::progress::{CountingReader, DiagnosticsWriter};
-use crate::run::{RunFailure, write_stop};
-use crate::streams::{Sink, Source};
+use crate::run::{RunFailure, writer_failure};
+use crate::streams::{InputReader, OutputWriter};
 use bson::extjson::Form;
 use bson_codec::de::DEPTH;
 use bson_codec::documents::{DocumentCounts, Line, Run, run_documents};
@@ -23,37 +23,43 @@ use std::io::{BufReader, BufWriter, Read, Write};
 use std::rt::Stderr;
 
 /// As much as is read or written at once.
-const BLOCK: usize = 65536;
+const BUFFER_SIZE: usize = 65536;
 
 /// Writes a line of each document of a file. If the run keeps going, a document at which it ends
 /// counts as one that was rejected.
 pub fn run_dump<'a>(
     rt: &HostRuntime,
     invocation: &'a Invocation,
-    name: &'a str,
-    reader: &mut CountingReader<'_, Source>,
-    sink: &mut Sink,
-    report: &mut DiagnosticsWriter<'_, Stderr>,
+    file_name: &'a str,
+    reader: &mut CountingReader<'_, InputReader>,
+    output_writer: &mut OutputWriter,
+    diagnostics_writer: &mut DiagnosticsWriter<'_, Stderr>,
 ) -> Result<Counts, RunFailure<'a>> {
-    match in_blocks(rt.alloc(), run_of(invocation), reader, sink, report) {
+    match run_buffered(
+        rt.alloc(),
+        run_settings(invocation),
+        reader,
+        output_writer,
+        diagnostics_writer,
+    ) {
         Ok(counts) => Ok(Counts {
             lines: counts.documents,
             refused: counts.refused,
         }),
-        Err(end) => Err(match end.fault {
-            RunFault::CannotRead => RunFailure::Input(name, reader.error),
-            RunFault::CannotWrite => write_stop(invocation, sink, report),
-            _ => RunFailure::Document(name, end),
+        Err(run_end) => Err(match run_end.fault {
+            RunFault::CannotRead => RunFailure::Input(file_name, reader.error),
+            RunFault::CannotWrite => writer_failure(invocation, output_writer, diagnostics_writer),
+            _ => RunFailure::Document(file_name, run_end),
         }),
     }
 }
 
 // Returns the settings for each document.
-fn run_of(invocation: &Invocation) -> Run
+fn run_settings(invocation: &Invocation) -> Run
     ensures depth { result.depth ≡ DEPTH }
     ensures options { result.options ≡ invocation.now.options }
     ensures line { result.line ≡ document_line invocation.now.task }
-    ensures refusal { IsTrue result.keep_going ↔ (invocation.now.on_refusal ≡ OnRefusal.KeepGoing) }
+    ensures keeps_going { IsTrue result.keep_going ↔ (invocation.now.on_refusal ≡ OnRefusal.KeepGoing) }
 {
     Run {
         depth: DEPTH,
@@ -77,20 +83,20 @@ fn document_line(task: Task) -> Line
 }
 
 // Runs over blocks of bytes.
-fn in_blocks<R: Read, W: Write, T: Write>(
+fn run_buffered<R: Read, W: Write, T: Write>(
     alloc: Global,
     run: Run,
     reader: &mut R,
     writer: &mut W,
-    report: &mut T,
+    diagnostics_writer: &mut T,
 ) -> Result<DocumentCounts, RunEnd> {
-    let Ok(mut reader) = BufReader::with_capacity(alloc, BLOCK, reader) else {
+    let Ok(mut reader) = BufReader::with_capacity(alloc, BUFFER_SIZE, reader) else {
         return Err(end_before_first_document(RunFault::OutOfMemory));
     };
-    let Ok(mut writer) = BufWriter::with_capacity(alloc, BLOCK, writer) else {
+    let Ok(mut writer) = BufWriter::with_capacity(alloc, BUFFER_SIZE, writer) else {
         return Err(end_before_first_document(RunFault::OutOfMemory));
     };
-    run_whole(alloc, run, &mut reader, &mut writer, report)
+    run_and_flush(alloc, run, &mut reader, &mut writer, diagnostics_writer)
 }
 
 // A run that ended before its first document.
@@ -107,54 +113,57 @@ fn end_before_first_document(fault: RunFault) -> RunEnd
 
 // Runs over the documents. Where it returns counts, or ends at a document, the last block was
 // written too.
-fn run_whole<R: Read, W: Write + Drop, T: Write>(
+fn run_and_flush<R: Read, W: Write + Drop, T: Write>(
     alloc: Global,
     run: Run,
     reader: &mut R,
     writer: &mut BufWriter<W>,
-    report: &mut T,
+    diagnostics_writer: &mut T,
 ) -> Result<DocumentCounts, RunEnd>
     requires { writer_buffer writer.old ≡ [] }
     ensures done { IfOk result (λ counts. IsDoneDump run (R.remaining reader.old) (R.remaining reader.new)
         (W.contents (writer_inner writer.old)) (W.contents (writer_inner writer.new))
-        (T.contents report.old) (T.contents report.new) counts.documents counts.refused) }
-    ensures ended { IfErr result (λ end. IsFaultOfDocument end.fault → (run.keep_going ≡ false)
+        (T.contents diagnostics_writer.old) (T.contents diagnostics_writer.new) counts.documents counts.refused) }
+    ensures stops { IfErr result (λ run_end. IsFaultOfDocument run_end.fault → (run.keep_going ≡ false)
         × EndsAt run (R.remaining reader.old) (R.remaining reader.new)
         (W.contents (writer_inner writer.old)) (W.contents (writer_inner writer.new))
-        (T.contents report.old) (T.contents report.new) end.fault end.number end.refused end.start) }
+        (T.contents diagnostics_writer.old)
+        (T.contents diagnostics_writer.new) run_end.fault run_end.number run_end.refused run_end.start) }
 {
-    let ended = run_documents(alloc, run, reader, writer, report);
+    let run_result = run_documents(alloc, run, reader, writer, diagnostics_writer);
     let Ok(()) = writer.flush() else {
         return Err(end_before_first_document(RunFault::CannotWrite));
     };
-    match ended {
+    match run_result {
         Ok(counts) => Ok(counts),
-        Err(end) if run.keep_going => report_end(alloc, end, report),
-        Err(end) => Err(end),
+        Err(run_end) if run.keep_going => report_end(alloc, run_end, diagnostics_writer),
+        Err(run_end) => Err(run_end),
     }
 }
 
 // Reports the document at which a run that keeps going ended, as those that it passed over.
 fn report_end<T: Write>(
     alloc: Global,
-    end: RunEnd,
-    report: &mut T,
+    run_end: RunEnd,
+    diagnostics_writer: &mut T,
 ) -> Result<DocumentCounts, RunEnd>
-    ensures reports_appended { IfOk result (λ counts. IsFaultOfDocument end.fault
-        × Appends (T.contents report.old) (T.contents report.new) (diagnostic_of end.number end.start end.fault)
-        × (counts.documents ≡ end.number) × (counts.refused ≡ end.refused + 1)) }
-    ensures fails { IfErr result (λ it. IsFaultOfDocument it.fault → ⊥) }
+    ensures reports_appended { IfOk result (λ counts. IsFaultOfDocument run_end.fault
+        × Appends (T.contents diagnostics_writer.old) (T.contents diagnostics_writer.new)
+        (diagnostic_of run_end.number run_end.start run_end.fault)
+        × (counts.documents ≡ run_end.number) × (counts.refused ≡ run_end.refused + 1)) }
+    ensures fails { IfErr result (λ error. IsFaultOfDocument error.fault → ⊥) }
 {
-    match end.fault {
+    match run_end.fault {
         RunFault::Malformed { .. } | RunFault::FiniteDouble => {}
-        RunFault::CannotRead | RunFault::CannotWrite | RunFault::OutOfMemory => return Err(end),
+        RunFault::CannotRead | RunFault::CannotWrite | RunFault::OutOfMemory => return Err(run_end),
     }
-    let (Some(refused), Ok(diagnostic)) = (end.refused.checked_add(1), end.to_line(alloc)) else {
+    let (Some(refused), Ok(diagnostic)) = (run_end.refused.checked_add(1), run_end.to_line(alloc))
+    else {
         return Err(end_before_first_document(RunFault::OutOfMemory));
     };
-    match report.write_all(diagnostic.as_bytes()) {
+    match diagnostics_writer.write_all(diagnostic.as_bytes()) {
         Ok(()) => Ok(DocumentCounts {
-            documents: end.number,
+            documents: run_end.number,
             refused,
         }),
         Err(_) => Err(end_before_first_document(RunFault::CannotWrite)),

@@ -9,18 +9,18 @@ pub const VERSION: &str = "bson 0.3.0";
 /// Returns the help of a command.
 pub fn help_of(command: Command) -> &'static str {
     match command {
-        Command::All => HELP,
-        Command::Text => TEXT,
-        Command::Lines => LINES,
-        Command::Decode => DECODE,
-        Command::Encode => ENCODE,
+        Command::AllCommands => HELP,
+        Command::Text => TEXT_HELP,
+        Command::Lines => LINES_HELP,
+        Command::Decode => DECODE_HELP,
+        Command::Encode => ENCODE_HELP,
     }
 }
 
 /// Returns the usage of a command.
 pub fn usage_of(command: Command) -> &'static str {
     match command {
-        Command::All => USAGE,
+        Command::AllCommands => USAGE,
         Command::Text => {
             "usage: bson canonical|relaxed|show|check|hash [OPTION ..] [FILE ..]
        bson same [OPTION ..] FILE FILE"
@@ -45,7 +45,7 @@ pub const USAGE: &str = "usage: bson canonical|relaxed|show|check|hash [OPTION .
        bson encode [OPTION ..] [FILE ..]";
 
 /// The help of `canonical`, `relaxed`, `show`, `check`, `hash` and `same`.
-const TEXT: &str = "usage: bson canonical|relaxed|show|check|hash [OPTION ..] [FILE ..]
+const TEXT_HELP: &str = "usage: bson canonical|relaxed|show|check|hash [OPTION ..] [FILE ..]
        bson same [OPTION ..] FILE FILE
 
 Reads JSON documents from each FILE or standard input as MongoDB Extended JSON v2: one document, or several with white
@@ -70,7 +70,7 @@ space between. For each it writes one line:
 `bson --help` says more of each option, and lists the statuses.";
 
 /// The help of `lines`.
-const LINES: &str = "usage: bson lines canonical|relaxed|show|check|hash [OPTION ..] [FILE ..]
+const LINES_HELP: &str = "usage: bson lines canonical|relaxed|show|check|hash [OPTION ..] [FILE ..]
        bson lines same [OPTION ..] FILE FILE
 
 Reads one JSON document per line, from files or standard input, and writes a line for each. It needs the memory of the
@@ -91,7 +91,8 @@ files, and reports the first difference. Blank lines are counted, and write noth
 `bson --help` says more of each option, and lists the statuses.";
 
 /// The help of `decode`.
-const DECODE: &str = "usage: bson decode canonical|relaxed|show|check|hash [OPTION ..] [FILE ..]
+const DECODE_HELP: &str =
+    "usage: bson decode canonical|relaxed|show|check|hash [OPTION ..] [FILE ..]
        bson decode same [OPTION ..] FILE FILE
 
 Reads concatenated documents of BSON 1.1, as in a dump, and writes a line for each. It needs the memory of the largest
@@ -109,7 +110,7 @@ reported with its number, its offset in the file, and the offset of the error in
 `bson --help` says more of each option, and lists the statuses.";
 
 /// The help of `encode`.
-const ENCODE: &str = "usage: bson encode [OPTION ..] [FILE ..]
+const ENCODE_HELP: &str = "usage: bson encode [OPTION ..] [FILE ..]
 
 Reads one JSON document per line, as `lines` does, and writes their bytes (BSON 1.1) without anything in between. A line
 is rejected if its value is not a document, or if a key or a regular expression has a 0 byte. Each part must have fewer

@@ -10,7 +10,7 @@ use bson_run::task::{InnerTask, OnRefusal, Task};
 use std::alloc::{AllocError, Global};
 
 /// The name of standard input among the files that are read, and of standard output.
-pub const STANDARD: &str = "-";
+pub const STDIO: &str = "-";
 
 /// What the arguments request.
 #[derive(Drop)]
@@ -22,14 +22,14 @@ pub enum Request {
     /// The line of `--version`.
     Version,
     /// Something that the program does not do.
-    Wrong(Wrong),
+    InvalidUsage(InvalidUsage),
 }
 
 /// The commands, each with its usage and its help.
 #[derive(Clone, Copy, PartialEq, Eq)]
 pub enum Command {
     /// Every command: no argument has named one.
-    All,
+    AllCommands,
     /// One document, in a mode.
     Text,
     /// `lines`.
@@ -42,7 +42,7 @@ pub enum Command {
 
 /// An error of the arguments.
 #[derive(Drop)]
-pub struct Wrong {
+pub struct InvalidUsage {
     /// The kind of the error.
     pub usage_error: UsageError,
     /// The command that the arguments before name.
@@ -61,17 +61,17 @@ pub enum UsageError {
     /// An argument is an option of an earlier version, which is the default now.
     RemovedOption,
     /// An option occurs twice.
-    Twice(Flag),
+    OptionTwice(Flag),
     /// An option has no value, or not one that it can have.
-    NoValue(Flag),
+    BadOptionValue(Flag),
     /// The mode does not have an option.
     UnsupportedOption(Flag, Purpose, Task),
     /// No mode is specified.
     NoMode,
     /// A comparison needs two files.
-    TwoFiles,
+    NeedsTwoFiles,
     /// Standard input is named twice.
-    StandardTwice,
+    StandardInputTwice,
     /// An argument is not UTF-8.
     NotUtf8,
 }
@@ -86,7 +86,7 @@ pub enum Flag {
     /// `--legacy`.
     Legacy,
     /// `--no-double-keys`.
-    NoDoubleKeys,
+    NoDuplicateKeys,
     /// `--canonical`.
     Canonical,
     /// `--indent N`.
@@ -148,7 +148,7 @@ pub struct Invocation {
 
 impl Invocation {
     /// Whether BSON bytes are written, and no text.
-    pub fn writes_bytes(&self) -> bool
+    pub fn writes_bson_bytes(&self) -> bool
         ensures { IsTrue result ↔ (self.now.task ≡ Task.Encode) }
     {
         self.task == Task::Encode
@@ -172,18 +172,18 @@ impl Invocation {
 /// Returns what the arguments after the program's name request: a command, a mode, then names of files,
 /// with options anywhere before an argument `--`, each once at most.
 pub fn parse_arguments(alloc: Global, args: Vec<String>) -> Result<Request, AllocError>
-    ensures { IfOk result (λ requested. IsRequestedBy (map string_bytes args.items) requested) }
+    ensures { IfOk result (λ request. IsRequestedBy (map string_bytes args.items) request) }
 {
     let mut args_so_far = ArgsSoFar::new(alloc);
     for arg in args.iter() {
         let command = args_so_far.command();
-        match args_so_far.take(arg.as_str())? {
+        match args_so_far.parse_arg(arg.as_str())? {
             ParsedArg::AcceptedArg => {}
             ParsedArg::Help => return Ok(Request::Help(command)),
             ParsedArg::Version => return Ok(Request::Version),
-            ParsedArg::Wrong(usage_error) => {
+            ParsedArg::InvalidUsage(usage_error) => {
                 let arg = String::from_str(alloc, arg.as_str())?;
-                return Ok(Request::Wrong(Wrong {
+                return Ok(Request::InvalidUsage(InvalidUsage {
                     usage_error,
                     command,
                     arg,
@@ -191,5 +191,5 @@ pub fn parse_arguments(alloc: Global, args: Vec<String>) -> Result<Request, Allo
             }
         }
     }
-    args_so_far.answer()
+    args_so_far.into_request()
 }

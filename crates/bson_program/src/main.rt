@@ -1,5 +1,5 @@
-//! The program that `./bson` runs: it converts one document, the lines of files, or dumps, and writes
-//! dumps, as the arguments of its user request.
+//! The program that `./bson` runs. It converts texts, the lines of files, and dumps, and it writes
+//! dumps, as its arguments request.
 //!
 //! The library `bson_run` converts. This crate has the arguments (`invocation`, `arguments`, `option_values`,
 //! `option_effects`, `allowed_options`), the files (`run`, `streams`, `output`; `texts` for JSON texts with `single_text` for
@@ -30,22 +30,22 @@ mod streams;
 mod texts;
 mod usage_error;
 
-use crate::compare_files::{compare_files, line_for};
+use crate::compare_files::{compare_files, difference_line_for};
 use crate::help_text::{OUT_OF_MEMORY, VERSION, help_of, usage_of};
 use crate::invocation::{
-    Command, Invocation, Purpose, Request, STANDARD, UsageError, Wrong, parse_arguments,
+    Command, InvalidUsage, Invocation, Purpose, Request, STDIO, UsageError, parse_arguments,
 };
-use crate::messages::{failure_message, summary};
+use crate::messages::{counts_summary, failure_message};
 use crate::run::{RunFailure, run};
 use crate::usage_error::usage_error_line;
 use bson_convert::fault::Fault;
-use bson_convert::program::{report_failure, words_given};
+use bson_convert::program::{command_line_arguments, report_failure};
 use std::alloc::AllocError;
 use std::io::ErrorKind;
 use std::process::ExitCode;
 
 /// The status that reports to a shell that nobody reads the output any more: 128, and SIGPIPE.
-const NO_READER: u8 = 141;
+const BROKEN_PIPE_STATUS: u8 = 141;
 
 // Status 0: done, and no line was refused. Status 1: a line was refused, or the run could not go
 // on, which standard error shows. Status 2: wrong arguments, and nothing was read. Status 141:
@@ -57,32 +57,32 @@ fn main(rt: HostRuntime) -> ExitCode {
         Ok(Request::Run(invocation)) => run_invocation(&rt, &invocation),
         Ok(Request::Help(command)) => print_text(&rt, help_of(command)),
         Ok(Request::Version) => print_text(&rt, VERSION),
-        Ok(Request::Wrong(wrong)) => reject(&rt, &wrong),
+        Ok(Request::InvalidUsage(invalid_usage)) => report_usage_error(&rt, &invalid_usage),
         Err(_) => report_failure(&rt, OUT_OF_MEMORY, 1),
     }
 }
 
 // Returns what the arguments ask for.
 fn read_request(rt: &HostRuntime) -> Result<Request, Fault> {
-    let Some(args) = words_given(rt)? else {
-        return Ok(Request::Wrong(Wrong {
+    let Some(args) = command_line_arguments(rt)? else {
+        return Ok(Request::InvalidUsage(InvalidUsage {
             usage_error: UsageError::NotUtf8,
-            command: Command::All,
+            command: Command::AllCommands,
             arg: String::new(rt.alloc()),
         }));
     };
     match parse_arguments(rt.alloc(), args) {
-        Ok(requested) => Ok(requested),
+        Ok(request) => Ok(request),
         Err(_) => Err(Fault::OutOfMemory),
     }
 }
 
 // Names what is wrong with the arguments, and then shows the usage.
-fn reject(rt: &HostRuntime, wrong: &Wrong) -> ExitCode {
-    match usage_error_line(rt.alloc(), wrong) {
+fn report_usage_error(rt: &HostRuntime, invalid_usage: &InvalidUsage) -> ExitCode {
+    match usage_error_line(rt.alloc(), invalid_usage) {
         Ok(line) => {
             let _ = rt.eprintln(&line);
-            report_failure(rt, usage_of(wrong.command), 2)
+            report_failure(rt, usage_of(invalid_usage.command), 2)
         }
         Err(_) => report_failure(rt, OUT_OF_MEMORY, 1),
     }
@@ -93,11 +93,15 @@ fn run_invocation(rt: &HostRuntime, invocation: &Invocation) -> ExitCode {
     let mut hints = Vec::new(rt.alloc());
     let status = match run(rt, invocation, &mut hints) {
         Ok(counts) if counts.refused == 0 => ExitCode::SUCCESS,
-        Ok(counts) => end_with(rt, summary(rt.alloc(), invocation.input, counts), 1),
+        Ok(counts) => report_with_status(
+            rt,
+            counts_summary(rt.alloc(), invocation.input, counts),
+            1,
+        ),
         Err(RunFailure::Output(_, Some(error))) if error.kind() == ErrorKind::BrokenPipe => {
-            ExitCode::from(NO_READER)
+            ExitCode::from(BROKEN_PIPE_STATUS)
         }
-        Err(failure) => end_with(rt, failure_message(rt.alloc(), failure), 1),
+        Err(failure) => report_with_status(rt, failure_message(rt.alloc(), failure), 1),
     };
     print_hints(rt, &hints);
     status
@@ -108,8 +112,12 @@ fn compare_invocation(rt: &HostRuntime, invocation: &Invocation) -> ExitCode {
     let mut hints = Vec::new(rt.alloc());
     let status = match compare_files(rt, invocation, &mut hints) {
         Ok(None) => ExitCode::SUCCESS,
-        Ok(Some(difference)) => end_with(rt, line_for(rt.alloc(), invocation, difference), 1),
-        Err(failure) => end_with(rt, failure_message(rt.alloc(), failure), 2),
+        Ok(Some(difference)) => report_with_status(
+            rt,
+            difference_line_for(rt.alloc(), invocation, difference),
+            1,
+        ),
+        Err(failure) => report_with_status(rt, failure_message(rt.alloc(), failure), 2),
     };
     print_hints(rt, &hints);
     status
@@ -122,7 +130,7 @@ fn print_hints(rt: &HostRuntime, hints: &Vec<String>) {
 }
 
 // Prints the line on standard error, and returns this status.
-fn end_with(rt: &HostRuntime, line: Result<String, AllocError>, status: u8) -> ExitCode {
+fn report_with_status(rt: &HostRuntime, line: Result<String, AllocError>, status: u8) -> ExitCode {
     match line {
         Ok(line) => report_failure(rt, &line, status),
         Err(_) => report_failure(rt, OUT_OF_MEMORY, status),
@@ -133,10 +141,10 @@ fn end_with(rt: &HostRuntime, line: Result<String, AllocError>, status: u8) -> E
 fn print_text(rt: &HostRuntime, text: &str) -> ExitCode {
     match rt.println(text) {
         Ok(()) => ExitCode::SUCCESS,
-        Err(error) if error.kind() == ErrorKind::BrokenPipe => ExitCode::from(NO_READER),
-        Err(error) => end_with(
+        Err(error) if error.kind() == ErrorKind::BrokenPipe => ExitCode::from(BROKEN_PIPE_STATUS),
+        Err(error) => report_with_status(
             rt,
-            failure_message(rt.alloc(), RunFailure::Output(STANDARD, Some(error))),
+            failure_message(rt.alloc(), RunFailure::Output(STDIO, Some(error))),
             1,
         ),
     }

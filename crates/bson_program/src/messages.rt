@@ -1,10 +1,10 @@
 //! The lines on standard error.
 ghost use Rattle.std.specs.Prelude.{◌≡◌, ◌==◌, ◌++◌, IfOk, OnOk, position, string_bytes};
 ghost use Rattle.bson_program.specs.Messages.{with_file_names, document_error_message, escaped_name, message_prefix};
-ghost use Rattle.bson_program.specs.Messages.{input_kind, line_location, line_len, printable, shown_name, summary_of};
-ghost use Rattle.bson_program.specs.Messages.{text_location, text_message, document_message, with_file_name, IsCause, IsFailureMessage};
+ghost use Rattle.bson_program.specs.Messages.{input_kind, line_location, line_len, printable, shown_name, counts_summary};
+ghost use Rattle.bson_program.specs.Messages.{text_location, text_message, document_message, with_file_name, IsCauseSuffix, IsFailureMessage};
 
-use crate::invocation::{Input, STANDARD};
+use crate::invocation::{Input, STDIO};
 use crate::run::RunFailure;
 use bson_codec::run_end::{RunEnd, RunFault};
 use bson_convert::error;
@@ -16,18 +16,22 @@ use std::io::Error;
 const DIAGNOSTIC_PREFIX: &[u8] = b"bson: line ";
 
 /// The error if bytes would go to a terminal.
-const TERMINAL: &str = "bson: BSON bytes are not written to a terminal; give -o FILE, or a pipe";
+const TERMINAL_MESSAGE: &str =
+    "bson: BSON bytes are not written to a terminal; give -o FILE, or a pipe";
 
 /// How many lines or documents there were, and how many were refused.
-pub fn summary(alloc: Global, input: Input, counts: Counts) -> Result<String, AllocError>
-    ensures { IfOk result (λ line. string_bytes line ≡ summary_of input counts.lines counts.refused) }
+pub fn counts_summary(alloc: Global, input: Input, counts: Counts) -> Result<String, AllocError>
+    ensures { IfOk result (λ line. string_bytes line ≡ counts_summary input counts.lines counts.refused) }
 {
-    let what = kind_of(input);
-    format!(in alloc; "bson: {} {what}, {} refused", counts.lines, counts.refused)
+    let kind_name = input_kind_name(input);
+    format!(in alloc;
+        "bson: {} {kind_name}, {} refused",
+        counts.lines, counts.refused
+    )
 }
 
 // Returns the name of the parts of the input.
-fn kind_of(input: Input) -> &'static str
+fn input_kind_name(input: Input) -> &'static str
     ensures { result.now ≡ input_kind input }
 {
     match input {
@@ -41,134 +45,152 @@ pub fn failure_message(alloc: Global, failure: RunFailure<'_>) -> Result<String,
     ensures { IfOk result (λ line. IsFailureMessage failure.entry (string_bytes line)) }
 {
     match failure {
-        RunFailure::Input(name, error) => {
-            let (name, cause) = (show_name(alloc, name, "input")?, cause_of(alloc, error)?);
-            format!(in alloc; "bson: cannot read {name}{cause}")
+        RunFailure::Input(file_name, error) => {
+            let (file_name, cause) = (
+                show_name(alloc, file_name, "input")?,
+                cause_suffix(alloc, error)?,
+            );
+            format!(in alloc; "bson: cannot read {file_name}{cause}")
         }
-        RunFailure::Output(name, error) => {
-            let (name, cause) = (show_name(alloc, name, "output")?, cause_of(alloc, error)?);
-            format!(in alloc; "bson: cannot write {name}{cause}")
+        RunFailure::Output(file_name, error) => {
+            let (file_name, cause) = (
+                show_name(alloc, file_name, "output")?,
+                cause_suffix(alloc, error)?,
+            );
+            format!(in alloc; "bson: cannot write {file_name}{cause}")
         }
-        RunFailure::Both(name) => {
-            let name = show_name(alloc, name, "input")?;
-            format!(in alloc; "bson: {name} is both an input and the output")
+        RunFailure::InputIsOutput(file_name) => {
+            let file_name = show_name(alloc, file_name, "input")?;
+            format!(in alloc; "bson: {file_name} is both an input and the output")
         }
-        RunFailure::Terminal => String::from_str(alloc, TERMINAL),
-        RunFailure::Text(name, number, fault, place) => at_text(
-            alloc, name, number, &fault, &place,
+        RunFailure::OutputIsTerminal => String::from_str(alloc, TERMINAL_MESSAGE),
+        RunFailure::Text(file_name, line_number, fault, position_message) => text_failure_line(
+            alloc,
+            file_name,
+            line_number,
+            &fault,
+            &position_message,
         ),
-        RunFailure::Document(name, end) => at_document(alloc, name, end),
+        RunFailure::Document(file_name, run_end) => document_failure_line(
+            alloc, file_name, run_end,
+        ),
     }
 }
 
 // At which document the run stopped, and why.
-fn at_document(alloc: Global, name: &str, end: RunEnd) -> Result<String, AllocError>
-    ensures { IfOk result (λ line. string_bytes line ≡ document_message name.now end) }
+fn document_failure_line(
+    alloc: Global,
+    file_name: &str,
+    run_end: RunEnd,
+) -> Result<String, AllocError>
+    ensures { IfOk result (λ line. string_bytes line ≡ document_message file_name.now run_end) }
 {
-    let message = document_error_message(alloc, end)?;
-    let prefix = message_prefix(alloc, name)?;
+    let message = document_error_message(alloc, run_end)?;
+    let prefix = message_prefix(alloc, file_name)?;
     let message = message.trim_end();
     format!(in alloc; "{prefix}: {message}")
 }
 
 // Why it stopped there; of a stream alone without the document.
-fn document_error_message(alloc: Global, end: RunEnd) -> Result<String, AllocError>
-    ensures { IfOk result (λ message. string_bytes message ≡ document_error_message end.number end.start end.fault) }
+fn document_error_message(alloc: Global, run_end: RunEnd) -> Result<String, AllocError>
+    ensures { IfOk result
+        (λ message. string_bytes message ≡ document_error_message run_end.number run_end.start run_end.fault) }
 {
-    match end.fault {
+    match run_end.fault {
         RunFault::CannotRead | RunFault::CannotWrite => String::from_str(
             alloc,
-            end.fault.message(),
+            run_end.fault.message(),
         ),
-        _ => end.to_line(alloc),
+        _ => run_end.to_line(alloc),
     }
 }
 
-// Why a text was refused, and where in it.
-fn at_text(
+// Returns the message for a rejected text.
+fn text_failure_line(
     alloc: Global,
-    name: &str,
-    number: u64,
+    file_name: &str,
+    line_number: u64,
     fault: &error::Error,
-    place: &str,
+    position_message: &str,
 ) -> Result<String, AllocError>
-    ensures { IfOk result (λ line. string_bytes line ≡ text_message name.now number fault.now place.now) }
+    ensures { IfOk result
+        (λ line. string_bytes line ≡ text_message file_name.now line_number fault.now position_message.now) }
 {
     let message = fault.message();
-    let prefix = text_location(alloc, name, number)?;
-    format!(in alloc; "{prefix}: {message}{place}")
+    let prefix = text_location(alloc, file_name, line_number)?;
+    format!(in alloc; "{prefix}: {message}{position_message}")
 }
 
 // Returns the beginning of a message: for a text on a line with its number.
-fn text_location(alloc: Global, name: &str, number: u64) -> Result<String, AllocError>
-    ensures { IfOk result (λ prefix. string_bytes prefix ≡ text_location name.now number) }
+fn text_location(alloc: Global, file_name: &str, line_number: u64) -> Result<String, AllocError>
+    ensures { IfOk result (λ prefix. string_bytes prefix ≡ text_location file_name.now line_number) }
 {
-    if number == 0 {
-        message_prefix(alloc, name)
+    if line_number == 0 {
+        message_prefix(alloc, file_name)
     } else {
-        line_location(alloc, name, number)
+        line_location(alloc, file_name, line_number)
     }
 }
 
 /// Returns the beginning of a message: the file's name, or that of the program.
-pub fn message_prefix(alloc: Global, name: &str) -> Result<String, AllocError>
-    ensures { IfOk result (λ prefix. string_bytes prefix ≡ message_prefix name.now) }
+pub fn message_prefix(alloc: Global, file_name: &str) -> Result<String, AllocError>
+    ensures { IfOk result (λ prefix. string_bytes prefix ≡ message_prefix file_name.now) }
 {
-    if name == STANDARD {
+    if file_name == STDIO {
         return String::from_str(alloc, "bson");
     }
-    escape_name(alloc, name)
+    escape_name(alloc, file_name)
 }
 
 // The same with the number of a line.
-fn line_location(alloc: Global, name: &str, number: u64) -> Result<String, AllocError>
-    ensures { IfOk result (λ prefix. string_bytes prefix ≡ line_location name.now number) }
+fn line_location(alloc: Global, file_name: &str, line_number: u64) -> Result<String, AllocError>
+    ensures { IfOk result (λ prefix. string_bytes prefix ≡ line_location file_name.now line_number) }
 {
-    if name == STANDARD {
-        return format!(in alloc; "bson: line {number}");
+    if file_name == STDIO {
+        return format!(in alloc; "bson: line {line_number}");
     }
-    let name = escape_name(alloc, name)?;
-    format!(in alloc; "{name}:{number}")
+    let file_name = escape_name(alloc, file_name)?;
+    format!(in alloc; "{file_name}:{line_number}")
 }
 
 /// A file as messages name it.
-pub fn show_name(alloc: Global, name: &str, stream: &str) -> Result<String, AllocError>
-    ensures { IfOk result (λ shown. string_bytes shown ≡ shown_name name.now stream.now) }
+pub fn show_name(alloc: Global, file_name: &str, stream: &str) -> Result<String, AllocError>
+    ensures { IfOk result (λ shown. string_bytes shown ≡ shown_name file_name.now stream.now) }
 {
-    if name == STANDARD {
+    if file_name == STDIO {
         return format!(in alloc; "standard {stream}");
     }
-    escape_name(alloc, name)
+    escape_name(alloc, file_name)
 }
 
 /// Returns a name on one line, that steers no terminal.
-pub fn escape_name(alloc: Global, name: &str) -> Result<String, AllocError>
-    ensures { IfOk result (λ escaped. string_bytes escaped ≡ escaped_name name.now) }
+pub fn escape_name(alloc: Global, unescaped: &str) -> Result<String, AllocError>
+    ensures { IfOk result (λ escaped. string_bytes escaped ≡ escaped_name unescaped.now) }
 {
     let mut escaped = String::new(alloc);
-    for letter in name.chars() {
-        push_printable(&mut escaped, letter)?;
+    for character in unescaped.chars() {
+        push_printable(&mut escaped, character)?;
     }
     Ok(escaped)
 }
 
 // Appends a character, or its escape if it would break a line or control a terminal.
-fn push_printable(text: &mut String, letter: char) -> Result<(), AllocError>
-    ensures { OnOk result (string_bytes text.new ≡ string_bytes text.old ++ printable letter) }
+fn push_printable(text: &mut String, character: char) -> Result<(), AllocError>
+    ensures { OnOk result (string_bytes text.new ≡ string_bytes text.old ++ printable character) }
 {
-    let is_unprintable = letter.is_control() || letter == '\u{2028}' || letter == '\u{2029}';
-    if !is_unprintable {
-        return text.push(letter);
+    let needs_escape = character.is_control() || character == '\u{2028}' || character == '\u{2029}';
+    if !needs_escape {
+        return text.push(character);
     }
-    for part in letter.escape_default() {
-        text.push(part)?;
+    for escaped_char in character.escape_default() {
+        text.push(escaped_char)?;
     }
     Ok(())
 }
 
 // Returns the system's message for an error, after a colon.
-fn cause_of(alloc: Global, error: Option<Error>) -> Result<String, AllocError>
-    ensures { IfOk result (λ cause. IsCause error (string_bytes cause)) }
+fn cause_suffix(alloc: Global, error: Option<Error>) -> Result<String, AllocError>
+    ensures { IfOk result (λ cause. IsCauseSuffix error (string_bytes cause)) }
 {
     let Some(error) = error else {
         return Ok(String::new(alloc));
@@ -182,45 +204,55 @@ fn cause_of(alloc: Global, error: Option<Error>) -> Result<String, AllocError>
 
 /// Returns diagnostics on lines, with a file's name and the line's number in front, as editors and grep have
 /// them; on documents, with the name in front.
-pub fn add_file_name(alloc: Global, name: &str, diagnostics: &[u8]) -> Result<Vec<u8>, AllocError>
-    ensures { IfOk result (λ named. named.items ≡ with_file_names name.now diagnostics.now) }
+pub fn add_file_name(
+    alloc: Global,
+    file_name: &str,
+    diagnostics: &[u8],
+) -> Result<Vec<u8>, AllocError>
+    ensures { IfOk result
+        (λ named_diagnostics. named_diagnostics.items ≡ with_file_names file_name.now diagnostics.now) }
 {
-    let mut named = Vec::new(alloc);
-    let mut rest = diagnostics;
-    while !rest.is_empty() {
-        let (diagnostic, others) = rest.split_at(line_len(rest));
-        push_named(&mut named, name, diagnostic)?;
-        rest = others;
+    let mut named_diagnostics = Vec::new(alloc);
+    let mut remaining_bytes = diagnostics;
+    while !remaining_bytes.is_empty() {
+        let (diagnostic, after_line) = remaining_bytes.split_at(line_len(remaining_bytes));
+        push_named_diagnostic(&mut named_diagnostics, file_name, diagnostic)?;
+        remaining_bytes = after_line;
     }
-    Ok(named)
+    Ok(named_diagnostics)
 }
 
 /// Returns the length of the first line, with the newline after it.
 pub fn line_len(bytes: &[u8]) -> usize
     ensures { result ≡ line_len bytes.now }
 {
-    match newline_at(bytes) {
-        Some(at) => at + 1,
+    match first_newline(bytes) {
+        Some(newline_offset) => newline_offset + 1,
         None => bytes.len(),
     }
 }
 
 // Returns the offset of the first newline.
-fn newline_at(bytes: &[u8]) -> Option<usize>
+fn first_newline(bytes: &[u8]) -> Option<usize>
     ensures { result ≡ position (λ byte. byte == 10) bytes.now }
 {
     bytes.iter().position(|byte| *byte == b'\n')
 }
 
 // Appends a diagnostic after the name.
-fn push_named(named: &mut Vec<u8>, name: &str, diagnostic: &[u8]) -> Result<(), AllocError>
-    ensures { OnOk result (named.new.items ≡ named.old.items ++ with_file_name name.now diagnostic.now) }
+fn push_named_diagnostic(
+    named_diagnostics: &mut Vec<u8>,
+    file_name: &str,
+    diagnostic: &[u8],
+) -> Result<(), AllocError>
+    ensures { OnOk result
+        (named_diagnostics.new.items ≡ named_diagnostics.old.items ++ with_file_name file_name.now diagnostic.now) }
 {
-    named.extend_from_slice(name.as_bytes())?;
+    named_diagnostics.extend_from_slice(file_name.as_bytes())?;
     if diagnostic.starts_with(DIAGNOSTIC_PREFIX) {
-        named.push(b':')?;
-        return named.extend_from_slice(&diagnostic[DIAGNOSTIC_PREFIX.len()..]);
+        named_diagnostics.push(b':')?;
+        return named_diagnostics.extend_from_slice(&diagnostic[DIAGNOSTIC_PREFIX.len()..]);
     }
-    named.extend_from_slice(b": ")?;
-    named.extend_from_slice(diagnostic)
+    named_diagnostics.extend_from_slice(b": ")?;
+    named_diagnostics.extend_from_slice(diagnostic)
 }

@@ -1,57 +1,57 @@
 //! The values of options, and the files.
 ghost use Rattle.std.specs.Prelude.{◌≡◌, ◌<◌, ◌≤◌, ◌==◌, ◌||◌, ℕ, List, None, IfOk, IfSome, map, string_bytes, slice_index};
 ghost use Rattle.std.specs.Fmt.{decimal};
-ghost use Rattle.bson_program.specs.Invocation.{or_standard, IsOutputOption, IsInvalidCount};
+ghost use Rattle.bson_program.specs.Invocation.{or_standard_input, IsOutputOption, IsInvalidCount};
 
-use crate::invocation::STANDARD;
+use crate::invocation::STDIO;
 use std::alloc::{AllocError, Global};
 
 /// Returns the files that are read: standard input if none is named.
-pub fn inputs_of(alloc: Global, mut names: Vec<String>) -> Result<Vec<String>, AllocError>
+pub fn input_files(alloc: Global, mut file_names: Vec<String>) -> Result<Vec<String>, AllocError>
     ensures { IfOk result
-        (λ inputs. map string_bytes inputs.items ≡ or_standard (map string_bytes names.items)) }
+        (λ inputs. map string_bytes inputs.items ≡ or_standard_input (map string_bytes file_names.items)) }
 {
-    if names.is_empty() {
-        names.push(String::from_str(alloc, STANDARD)?)?;
+    if file_names.is_empty() {
+        file_names.push(String::from_str(alloc, STDIO)?)?;
     }
-    Ok(names)
+    Ok(file_names)
 }
 
-/// Returns the number from 1 to the greatest, with no sign and no zero before it.
-pub fn number(arg: &str, most: usize) -> Option<usize>
-    ensures some { IfSome result (λ count. (arg.now ≡ decimal count) × (0 < count) × (count ≤ most)) }
-    ensures none { result ≡ None → IsInvalidCount most arg.now }
+/// Parses a number from 1 to the maximum, with no sign and no zero before it.
+pub fn parse_count(arg: &str, maximum: usize) -> Option<usize>
+    ensures some { IfSome result (λ count. (arg.now ≡ decimal count) × (0 < count) × (count ≤ maximum)) }
+    ensures none { result ≡ None → IsInvalidCount maximum arg.now }
 {
-    if begins_otherwise(arg) {
+    if starts_with_sign_or_zero(arg) {
         return None;
     }
     match arg.parse::<usize>() {
-        Ok(count) if count <= most => Some(count),
+        Ok(count) if count <= maximum => Some(count),
         _ => None,
     }
 }
 
 // Returns whether a sign or a zero is before a number.
-fn begins_otherwise(arg: &str) -> bool
+fn starts_with_sign_or_zero(arg: &str) -> bool
     ensures { result ≡ ((slice_index arg.now 0 == 43) || (slice_index arg.now 0 == 48)) }
 {
     arg.starts_with('+') || arg.starts_with('0')
 }
 
 /// Returns whether an argument begins as an option.
-pub fn is_dashed(arg: &str) -> bool
+pub fn starts_as_option(arg: &str) -> bool
     ensures { result ≡ (slice_index arg.now 0 == 45) }
 {
     arg.starts_with('-')
 }
 
 /// Returns the file in an argument that has its option too.
-pub fn output_in(arg: &str) -> Option<&str>
+pub fn output_file_in(arg: &str) -> Option<&str>
     ensures some { IfSome result (λ file. IsOutputOption file.now arg.now) }
     ensures none { result ≡ None → (file : List ℕ) → IsOutputOption file arg.now → ⊥ }
 {
-    if let Some(name) = arg.strip_prefix("--output=") {
-        return Some(name);
+    if let Some(file_name) = arg.strip_prefix("--output=") {
+        return Some(file_name);
     }
     arg.strip_prefix("-o")
 }

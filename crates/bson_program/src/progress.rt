@@ -11,43 +11,43 @@ use std::time::{Duration, Instant};
 use std::{io, str};
 
 /// Milliseconds from one line to the next.
-const LEAST_PAUSE: u64 = 100;
+const MIN_UPDATE_INTERVAL: u64 = 100;
 
 /// Clears the terminal's line.
-const CLEARED: &str = "\r\x1b[K";
+const CLEAR_LINE: &str = "\r\x1b[K";
 
 /// Diagnostics have these texts for a number that is not a 64-bit integer, and for a document with a finite double.
-const NO_INTEGER: &str = " (not a 64-bit integer; found ";
+const NOT_AN_INTEGER_MESSAGE: &str = " (not a 64-bit integer; found ";
 
-const FINITE_DOUBLE: &str = ": a finite double";
+const FINITE_DOUBLE_MESSAGE: &str = ": a finite double";
 
 /// How far a run is.
 #[derive(Drop)]
 pub struct Progress<'a> {
     rt: &'a HostRuntime,
     /// The total size of the files, or none if no progress is shown.
-    total: Option<u64>,
+    total_size: Option<u64>,
     /// Whether they have lines.
     has_lines: bool,
-    read: Cell<u64>,
-    lines: Cell<u64>,
-    refused: Cell<u64>,
+    bytes_read: Cell<u64>,
+    line_count: Cell<u64>,
+    refused_count: Cell<u64>,
     last_shown: Cell<Option<Instant>>,
     is_shown: Cell<bool>,
 }
 
 impl<'a> Progress<'a> {
-    pub fn new(rt: &'a HostRuntime, total: Option<u64>, has_lines: bool) -> Progress<'a>
-        ensures total { result.total ≡ total }
-        ensures lines { result.has_lines ≡ has_lines }
+    pub fn new(rt: &'a HostRuntime, total_size: Option<u64>, has_lines: bool) -> Progress<'a>
+        ensures total_size { result.total_size ≡ total_size }
+        ensures has_lines { result.has_lines ≡ has_lines }
     {
         Progress {
             rt,
-            total,
+            total_size,
             has_lines,
-            read: Cell::new(0),
-            lines: Cell::new(0),
-            refused: Cell::new(0),
+            bytes_read: Cell::new(0),
+            line_count: Cell::new(0),
+            refused_count: Cell::new(0),
             last_shown: Cell::new(None),
             is_shown: Cell::new(false),
         }
@@ -55,34 +55,36 @@ impl<'a> Progress<'a> {
 
     // Counts bytes that were read.
     fn add_bytes(&self, bytes: &[u8]) {
-        if let Some(total) = self.total {
-            self.read
-                .set(self.read.get().saturating_add(bytes.len() as u64));
-            self.lines
-                .set(self.lines.get().saturating_add(newlines(bytes)));
-            self.show(total);
+        if let Some(total_size) = self.total_size {
+            self.bytes_read
+                .set(self.bytes_read.get().saturating_add(bytes.len() as u64));
+            self.line_count
+                .set(self.line_count.get().saturating_add(newline_count(bytes)));
+            self.show_progress(total_size);
         }
     }
 
     // Writes the line anew, unless it was written a moment ago.
-    fn show(&self, total: u64) {
+    fn show_progress(&self, total_size: u64) {
         let Ok(now) = Instant::now(self.rt) else {
             return;
         };
         if let Some(last_shown) = self.last_shown.get() {
-            if now.duration_since(last_shown) < Duration::from_millis(LEAST_PAUSE) {
+            if now.duration_since(last_shown) < Duration::from_millis(MIN_UPDATE_INTERVAL) {
                 return;
             }
         }
         self.last_shown.set(Some(now));
         self.is_shown.set(true);
-        let (read, of) = (self.read.get() / 1_000_000, total / 1_000_000);
-        let refused = self.refused.get();
+        let (read_mb, total_mb) = (self.bytes_read.get() / 1_000_000, total_size / 1_000_000);
+        let refused_count = self.refused_count.get();
         if self.has_lines {
-            let lines = self.lines.get();
-            let _ = eprint!(self.rt; "\r{read} of {of} MB, {lines} lines, {refused} refused\x1b[K");
+            let line_count = self.line_count.get();
+            let _ = eprint!(self.rt;
+                "\r{read_mb} of {total_mb} MB, {line_count} lines, {refused_count} refused\x1b[K"
+            );
         } else {
-            let _ = eprint!(self.rt; "\r{read} of {of} MB, {refused} refused\x1b[K");
+            let _ = eprint!(self.rt; "\r{read_mb} of {total_mb} MB, {refused_count} refused\x1b[K");
         }
     }
 
@@ -91,27 +93,27 @@ impl<'a> Progress<'a> {
         if self.is_shown.get() {
             self.is_shown.set(false);
             self.last_shown.set(None);
-            let _ = eprint!(self.rt; "{CLEARED}");
+            let _ = eprint!(self.rt; "{CLEAR_LINE}");
         }
     }
 }
 
 // Whether diagnostics mention a number that is read without `--strict`.
-fn reports_double(diagnostics: &[u8]) -> bool {
+fn reports_finite_double(diagnostics: &[u8]) -> bool {
     match str::from_utf8(diagnostics) {
-        Ok(text) => text.contains(NO_INTEGER) || text.contains(FINITE_DOUBLE),
+        Ok(text) => text.contains(NOT_AN_INTEGER_MESSAGE) || text.contains(FINITE_DOUBLE_MESSAGE),
         Err(_) => false,
     }
 }
 
-fn newlines(bytes: &[u8]) -> u64
+fn newline_count(bytes: &[u8]) -> u64
     ensures { result ≡ count_by (λ byte. byte == 10) bytes.now }
 {
     bytes.iter().filter(|byte| **byte == b'\n').count() as u64
 }
 
 /// As many first bytes of an input are kept, or a few more.
-pub const FIRST_BYTES: usize = 65536;
+pub const FIRST_BYTES_LEN: usize = 65536;
 
 /// A reader whose bytes count as progress, which keeps the first bytes, and why a read failed.
 #[derive(Drop)]
@@ -123,9 +125,9 @@ pub struct CountingReader<'a, R> {
 }
 
 impl<R> CountingReader<'_, R> {
-    // Keeps bytes that are among the first. Where memory is wanting there are fewer.
-    fn keep(&mut self, bytes: &[u8]) {
-        if self.first_bytes.len() < FIRST_BYTES {
+    // Keeps bytes that are among the first. If memory is lacking there are fewer.
+    fn keep_first_bytes(&mut self, bytes: &[u8]) {
+        if self.first_bytes.len() < FIRST_BYTES_LEN {
             let _ = self.first_bytes.extend_from_slice(bytes);
         }
     }
@@ -136,7 +138,7 @@ impl<R: Read> Read for CountingReader<'_, R> {
         match self.reader.read(buf) {
             Ok(count) => {
                 self.progress.add_bytes(&buf[..count]);
-                self.keep(&buf[..count]);
+                self.keep_first_bytes(&buf[..count]);
                 Ok(count)
             }
             Err(error) => {
@@ -153,22 +155,22 @@ impl<R: Read> Read for CountingReader<'_, R> {
 pub struct DiagnosticsWriter<'a, T> {
     pub alloc: Global,
     pub writer: T,
-    pub name: Option<String>,
+    pub file_name: Option<String>,
     pub progress: &'a Progress<'a>,
-    pub has_double: bool,
+    pub has_finite_double: bool,
     pub error: Option<io::Error>,
 }
 
 impl<T: Write> DiagnosticsWriter<'_, T> {
     // Writes whole diagnostics.
-    fn put(&mut self, diagnostics: &[u8]) -> io::Result<()>
+    fn write_diagnostics(&mut self, diagnostics: &[u8]) -> io::Result<()>
         ensures { OnOk result (Appends (T.contents self.old.writer) (T.contents self.new.writer)
-            (diagnostics_of_file self.old.name diagnostics.now)) }
+            (diagnostics_of_file self.old.file_name diagnostics.now)) }
     {
-        match &self.name {
+        match &self.file_name {
             None => self.writer.write_all(diagnostics),
-            Some(name) => {
-                let diagnostics = add_file_name(self.alloc, name.as_str(), diagnostics)?;
+            Some(file_name) => {
+                let diagnostics = add_file_name(self.alloc, file_name.as_str(), diagnostics)?;
                 self.writer.write_all(&diagnostics)
             }
         }
@@ -178,13 +180,13 @@ impl<T: Write> DiagnosticsWriter<'_, T> {
 impl<T: Write> Write for DiagnosticsWriter<'_, T> {
     fn write(&mut self, buf: &[u8]) -> io::Result<usize> {
         self.progress.clear();
-        self.has_double = self.has_double || reports_double(buf);
-        match self.put(buf) {
+        self.has_finite_double = self.has_finite_double || reports_finite_double(buf);
+        match self.write_diagnostics(buf) {
             Ok(()) => {
-                let refused = self.progress.refused.get();
+                let refused_count = self.progress.refused_count.get();
                 self.progress
-                    .refused
-                    .set(refused.saturating_add(newlines(buf)));
+                    .refused_count
+                    .set(refused_count.saturating_add(newline_count(buf)));
                 Ok(buf.len())
             }
             Err(error) => {

@@ -4,8 +4,8 @@ ghost use Rattle.bson_program.specs.Hints.{IsHelpFor, advice_text, hint_line, is
 ghost use Rattle.bson_program.specs.Hints.{sorts_keys, preprocessing_options, hint_text};
 
 use crate::advice::Advice;
-use crate::hints::{Hint, Rejected, hint_for};
-use crate::invocation::{Input, Invocation, Purpose, STANDARD};
+use crate::hints::{Hint, RejectedInput, hint_for};
+use crate::invocation::{Input, Invocation, Purpose, STDIO};
 use crate::messages::show_name;
 use crate::run::RunFailure;
 use crate::usage_error::mode_arg;
@@ -16,68 +16,71 @@ use bson_run::lines::Counts;
 use bson_run::task::{Preprocessing, Task};
 use std::alloc::{AllocError, Global};
 
-const ARCHIVE: &str = "is an archive of mongodump; mongodump without '--archive' writes dumps";
+const ARCHIVE_MESSAGE: &str =
+    "is an archive of mongodump; mongodump without '--archive' writes dumps";
 
-const UTF_16: &str = "is UTF-16, and JSON is UTF-8; give it through 'iconv -f UTF-16 -t UTF-8'";
+const UTF_16_MESSAGE: &str =
+    "is UTF-16, and JSON is UTF-8; give it through 'iconv -f UTF-16 -t UTF-8'";
 
-const UTF_16_LITTLE_ENDIAN: &str =
+const UTF_16_LITTLE_ENDIAN_MESSAGE: &str =
     "is UTF-16, and JSON is UTF-8; give it through 'iconv -f UTF-16LE -t UTF-8'";
 
-const UTF_16_BIG_ENDIAN: &str =
+const UTF_16_BIG_ENDIAN_MESSAGE: &str =
     "is UTF-16, and JSON is UTF-8; give it through 'iconv -f UTF-16BE -t UTF-8'";
 
-const SHELL: &str =
+const SHELL_VALUES_MESSAGE: &str =
     "has values of the mongo shell, such as ObjectId(..) for {\"$oid\": ..}; EJSON.stringify writes Extended JSON";
 
-const NOT_FINITE: &str =
+const NOT_FINITE_MESSAGE: &str =
     "has NaN or Infinity, which JSON does not have; write {\"$numberDouble\": \"NaN\"}";
 
-const CONTROL_CHARACTER: &str =
+const CONTROL_CHARACTER_MESSAGE: &str =
     "has a control character in a string; write a tab as \\t, a newline as \\n, any other as \\u0001";
 
-const NOT_UTF_8: &str =
+const NOT_UTF_8_MESSAGE: &str =
     "is not UTF-8; if it is Latin-1, give it through 'iconv -f latin1 -t utf-8'";
 
-const LEGACY_TO_ENCODE: &str =
+const LEGACY_TO_ENCODE_MESSAGE: &str =
     "has Extended JSON v1; './bson lines canonical --legacy' makes lines that encode reads";
 
-const NOT_A_DOCUMENT: &str =
+const NOT_A_DOCUMENT_MESSAGE: &str =
     "has a value that is not a document, and encode makes bytes of documents alone";
 
-const MARK: &str = "begins with a byte order mark, which only a named file may";
+const BYTE_ORDER_MARK_MESSAGE: &str = "begins with a byte order mark, which only a named file may";
 
 /// Returns the line that helps with an input that was rejected, whose first bytes these are; nothing
 /// where it was not, or where nothing helps.
 pub fn rejection_help(
     alloc: Global,
     invocation: &Invocation,
-    name: &str,
+    file_name: &str,
     first_bytes: &[u8],
     advice: Option<Advice>,
 ) -> Option<String>
-    ensures { IfSome result (λ line. IsHelpFor invocation.now name.now first_bytes.now advice (string_bytes line)) }
+    ensures { IfSome result
+        (λ line. IsHelpFor invocation.now file_name.now first_bytes.now advice (string_bytes line)) }
 {
-    let rejected = Rejected {
+    let rejected_input = RejectedInput {
         input: invocation.input,
-        encodes: invocation.writes_bytes(),
-        is_standard: name == STANDARD,
+        writes_bson_bytes: invocation.writes_bson_bytes(),
+        is_standard_stream: file_name == STDIO,
         advice,
     };
-    let hint = hint_for(rejected, first_bytes)?;
+    let hint = hint_for(rejected_input, first_bytes)?;
     let Ok(command) = reading_command(alloc, invocation) else {
         return None;
     };
-    match hint_line(alloc, name, hint, command.as_str()) {
+    match hint_line(alloc, file_name, hint, command.as_str()) {
         Ok(line) => Some(line),
         Err(_) => None,
     }
 }
 
 /// Whether a run over one file ended with a rejected input, or passed some of it over.
-pub fn is_rejected(ended: &Result<Counts, RunFailure<'_>>) -> bool
-    ensures { result ≡ is_rejected ended.now }
+pub fn is_rejected(run_result: &Result<Counts, RunFailure<'_>>) -> bool
+    ensures { result ≡ is_rejected run_result.now }
 {
-    match ended {
+    match run_result {
         Ok(counts) => counts.refused > 0,
         Err(RunFailure::Text(_, _, fault, _)) => {
             !matches!(
@@ -85,9 +88,9 @@ pub fn is_rejected(ended: &Result<Counts, RunFailure<'_>>) -> bool
                 Error::CannotRead | Error::CannotWrite | Error::OutOfMemory
             )
         }
-        Err(RunFailure::Document(_, end)) => {
+        Err(RunFailure::Document(_, run_end)) => {
             matches!(
-                end.fault,
+                run_end.fault,
                 RunFault::Malformed { .. } | RunFault::FiniteDouble
             )
         }
@@ -105,9 +108,9 @@ fn reading_command(alloc: Global, invocation: &Invocation) -> Result<String, All
         sorts_keys(invocation.purpose, options.doubles, options.key_order),
         " --sort-keys",
     );
-    let strict = option_if(is_strict(options.doubles), " --strict");
+    let strict_option = option_if(is_strict(options.doubles), " --strict");
     let preprocessing = preprocessing_options(invocation.task);
-    format!(in alloc; "{mode}{sorts_keys}{strict}{preprocessing}")
+    format!(in alloc; "{mode}{sorts_keys}{strict_option}{preprocessing}")
 }
 
 // The mode of a command that reads the input.
@@ -147,22 +150,27 @@ fn preprocessing_options(task: Task) -> &'static str
 }
 
 // Whether the option that sorts keys is set, and not another that sorts them.
-fn sorts_keys(purpose: Purpose, doubles: Doubles, order: KeyOrder) -> bool
-    ensures { result ≡ sorts_keys purpose doubles order }
+fn sorts_keys(purpose: Purpose, doubles: Doubles, key_order: KeyOrder) -> bool
+    ensures { result ≡ sorts_keys purpose doubles key_order }
 {
-    match (purpose, doubles, order) {
+    match (purpose, doubles, key_order) {
         (Purpose::Output, Doubles::Finite, KeyOrder::Ascending) => true,
         _ => false,
     }
 }
 
 // The line for a hint.
-fn hint_line(alloc: Global, name: &str, hint: Hint, command: &str) -> Result<String, AllocError>
-    ensures { IfOk result (λ line. string_bytes line ≡ hint_line name.now hint command.now) }
+fn hint_line(
+    alloc: Global,
+    file_name: &str,
+    hint: Hint,
+    command: &str,
+) -> Result<String, AllocError>
+    ensures { IfOk result (λ line. string_bytes line ≡ hint_line file_name.now hint command.now) }
 {
     let explanation = write_hint(alloc, hint, command)?;
-    let name = show_name(alloc, name, "input")?;
-    format!(in alloc; "bson: {name} {explanation}")
+    let file_name = show_name(alloc, file_name, "input")?;
+    format!(in alloc; "bson: {file_name} {explanation}")
 }
 
 // Returns the text of a hint: what an input contains instead, and what reads it.
@@ -170,15 +178,15 @@ fn write_hint(alloc: Global, hint: Hint, command: &str) -> Result<String, AllocE
     ensures { IfOk result (λ explanation. string_bytes explanation ≡ hint_text hint command.now) }
 {
     match hint {
-        Hint::Text => {
+        Hint::JsonText => {
             format!(in alloc;
                 "holds text, and no BSON bytes; './bson lines {command}' reads a document per line"
             )
         }
-        Hint::LongTexts => {
+        Hint::MultilineTexts => {
             format!(in alloc; "has texts over several lines; './bson {command}' reads them")
         }
-        Hint::LongTextsToEncode => {
+        Hint::MultilineTextsToEncode => {
             format!(in alloc;
                 "has texts over several lines; './bson {command}' makes a line of each"
             )
@@ -187,15 +195,15 @@ fn write_hint(alloc: Global, hint: Hint, command: &str) -> Result<String, AllocE
         Hint::Zstd => String::from_str(alloc, "is compressed; give it through 'zstd -dc'"),
         Hint::Bzip2 => String::from_str(alloc, "is compressed; give it through 'bzip2 -dc'"),
         Hint::Xz => String::from_str(alloc, "is compressed; give it through 'xz -dc'"),
-        Hint::Archive => String::from_str(alloc, ARCHIVE),
-        Hint::Dump => String::from_str(
+        Hint::MongodumpArchive => String::from_str(alloc, ARCHIVE_MESSAGE),
+        Hint::BsonDocuments => String::from_str(
             alloc,
             "holds BSON bytes, and no text; './bson decode' reads them",
         ),
-        Hint::Utf16 => String::from_str(alloc, UTF_16),
-        Hint::Utf16LittleEndian => String::from_str(alloc, UTF_16_LITTLE_ENDIAN),
-        Hint::Utf16BigEndian => String::from_str(alloc, UTF_16_BIG_ENDIAN),
-        Hint::Mark => String::from_str(alloc, MARK),
+        Hint::Utf16 => String::from_str(alloc, UTF_16_MESSAGE),
+        Hint::Utf16LittleEndian => String::from_str(alloc, UTF_16_LITTLE_ENDIAN_MESSAGE),
+        Hint::Utf16BigEndian => String::from_str(alloc, UTF_16_BIG_ENDIAN_MESSAGE),
+        Hint::ByteOrderMark => String::from_str(alloc, BYTE_ORDER_MARK_MESSAGE),
         Hint::Advised(advice) => String::from_str(alloc, advice_text(advice)),
     }
 }
@@ -205,17 +213,19 @@ fn advice_text(advice: Advice) -> &'static str
     ensures { result.now ≡ advice_text advice }
 {
     match advice {
-        Advice::Doubles => "has numbers that are read without --strict",
+        Advice::FiniteDoubles => "has numbers that are read without --strict",
         Advice::SeveralTexts => "has several texts, which are read without --strict",
-        Advice::Shell => SHELL,
-        Advice::NotFinite => NOT_FINITE,
-        Advice::Names => "has names of Python or JavaScript; JSON has true, false and null",
+        Advice::MongoShellValue => SHELL_VALUES_MESSAGE,
+        Advice::NotFinite => NOT_FINITE_MESSAGE,
+        Advice::PythonOrJsLiterals =>
+            "has names of Python or JavaScript; JSON has true, false and null",
         Advice::Comment => "has a comment, and JSON has none; remove it",
-        Advice::OneLine => "has several texts on one line; write each on a line of its own",
-        Advice::ControlCharacter => CONTROL_CHARACTER,
-        Advice::NotUtf8 => NOT_UTF_8,
+        Advice::SeveralTextsOnOneLine =>
+            "has several texts on one line; write each on a line of its own",
+        Advice::ControlCharacter => CONTROL_CHARACTER_MESSAGE,
+        Advice::NotUtf8 => NOT_UTF_8_MESSAGE,
         Advice::Legacy => "has Extended JSON v1, which is read with --legacy",
-        Advice::LegacyToEncode => LEGACY_TO_ENCODE,
-        Advice::NotADocument => NOT_A_DOCUMENT,
+        Advice::LegacyToEncode => LEGACY_TO_ENCODE_MESSAGE,
+        Advice::NotADocument => NOT_A_DOCUMENT_MESSAGE,
     }
 }

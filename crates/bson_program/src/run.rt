@@ -7,12 +7,12 @@ ghost use Rattle.bson_program.specs.RunFailures.{IsDiagnosticsPrefix, IsInputFai
 use crate::advice::advice_for;
 use crate::digests::hasher_for;
 use crate::dump::run_dump;
-use crate::invocation::{Input, Invocation, STANDARD};
+use crate::invocation::{Input, Invocation, STDIO};
 use crate::messages::message_prefix;
 use crate::output::Output;
 use crate::progress::{CountingReader, DiagnosticsWriter, Progress};
 use crate::rejection_hint::{is_rejected, rejection_help};
-use crate::streams::{Sink, Source};
+use crate::streams::{InputReader, OutputWriter};
 use crate::texts::convert_texts;
 use bson_codec::run_end::RunEnd;
 use bson_convert::error;
@@ -33,9 +33,9 @@ pub enum RunFailure<'a> {
     /// The file can't be written.
     Output(&'a str, Option<Error>),
     /// The file is both an input and the output.
-    Both(&'a str),
+    InputIsOutput(&'a str),
     /// Bytes would go to a terminal.
-    Terminal,
+    OutputIsTerminal,
     /// At a text of the file that is refused: at the line of this number, or at no line (0), why,
     /// and where in the text, as a message.
     Text(&'a str, u64, error::Error, String),
@@ -52,32 +52,32 @@ pub fn run<'a>(
     invocation: &'a Invocation,
     hints: &mut Vec<String>,
 ) -> Result<Counts, RunFailure<'a>> {
-    if invocation.writes_bytes()
-        && invocation.output.as_str() == STANDARD
+    if invocation.writes_bson_bytes()
+        && invocation.output.as_str() == STDIO
         && rt.stdout().is_terminal()
     {
-        return Err(RunFailure::Terminal);
+        return Err(RunFailure::OutputIsTerminal);
     }
-    for name in invocation.inputs.iter() {
-        try_input(rt, invocation, name.as_str())?;
+    for file_name in invocation.inputs.iter() {
+        check_input_file(rt, invocation, file_name.as_str())?;
     }
-    let name = invocation.output.as_str();
-    let mut output = match Output::open(rt, name) {
+    let file_name = invocation.output.as_str();
+    let mut output = match Output::open(rt, file_name) {
         Ok(output) => output,
-        Err(error) => return Err(RunFailure::Output(name, Some(error))),
+        Err(error) => return Err(RunFailure::Output(file_name, Some(error))),
     };
-    output.sink.hasher = hasher_for(rt.alloc(), invocation.purpose);
+    output.output_writer.hasher = hasher_for(rt.alloc(), invocation.purpose);
     let progress = Progress::new(
         rt,
-        total(rt, invocation),
+        total_size(rt, invocation),
         invocation.input != Input::Documents,
     );
-    let counts = run_all(rt, invocation, &mut output.sink, &progress, hints);
+    let counts = run_files(rt, invocation, &mut output.output_writer, &progress, hints);
     progress.clear();
     match counts {
         Ok(counts) => match output.finish(rt) {
             Ok(()) => Ok(counts),
-            Err(error) => Err(RunFailure::Output(name, Some(error))),
+            Err(error) => Err(RunFailure::Output(file_name, Some(error))),
         },
         Err(failure) => {
             output.discard(rt);
@@ -86,118 +86,144 @@ pub fn run<'a>(
     }
 }
 
-fn run_all<'a>(
+fn run_files<'a>(
     rt: &HostRuntime,
     invocation: &'a Invocation,
-    sink: &mut Sink,
+    output_writer: &mut OutputWriter,
     progress: &Progress<'_>,
     hints: &mut Vec<String>,
 ) -> Result<Counts, RunFailure<'a>> {
-    let mut all = Counts {
+    let mut total_counts = Counts {
         lines: 0,
         refused: 0,
     };
-    for name in invocation.inputs.iter() {
-        let counts = run_one(rt, invocation, name.as_str(), sink, progress, hints)?;
-        all.lines = all.lines.saturating_add(counts.lines);
-        all.refused = all.refused.saturating_add(counts.refused);
+    for file_name in invocation.inputs.iter() {
+        let counts = run_file(
+            rt,
+            invocation,
+            file_name.as_str(),
+            output_writer,
+            progress,
+            hints,
+        )?;
+        total_counts.lines = total_counts.lines.saturating_add(counts.lines);
+        total_counts.refused = total_counts.refused.saturating_add(counts.refused);
     }
-    Ok(all)
+    Ok(total_counts)
 }
 
 /// Converts the lines of one file.
-pub fn run_one<'a>(
+pub fn run_file<'a>(
     rt: &HostRuntime,
     invocation: &'a Invocation,
-    name: &'a str,
-    sink: &mut Sink,
+    file_name: &'a str,
+    output_writer: &mut OutputWriter,
     progress: &Progress<'_>,
     hints: &mut Vec<String>,
 ) -> Result<Counts, RunFailure<'a>> {
     let mut reader = CountingReader {
-        reader: source(rt, name)?,
+        reader: open_input(rt, file_name)?,
         progress,
         first_bytes: Vec::new(rt.alloc()),
         error: None,
     };
-    let mut report = DiagnosticsWriter {
+    let mut diagnostics_writer = DiagnosticsWriter {
         alloc: rt.alloc(),
         writer: rt.stderr(),
-        name: title(rt, invocation, name)?,
+        file_name: diagnostics_prefix(rt, invocation, file_name)?,
         progress,
-        has_double: false,
+        has_finite_double: false,
         error: None,
     };
-    let ended = match invocation.input {
-        Input::Lines => run_each(rt, invocation, name, &mut reader, sink, &mut report),
-        Input::Text => run_text(rt, invocation, name, &mut reader, sink),
-        Input::Documents => run_dump(rt, invocation, name, &mut reader, sink, &mut report),
+    let run_result = match invocation.input {
+        Input::Lines => run_over_lines(
+            rt,
+            invocation,
+            file_name,
+            &mut reader,
+            output_writer,
+            &mut diagnostics_writer,
+        ),
+        Input::Text => run_text(rt, invocation, file_name, &mut reader, output_writer),
+        Input::Documents => run_dump(
+            rt,
+            invocation,
+            file_name,
+            &mut reader,
+            output_writer,
+            &mut diagnostics_writer,
+        ),
     };
-    if is_rejected(&ended) {
+    if is_rejected(&run_result) {
         let advice = advice_for(
             rt.alloc(),
             invocation,
             &reader.first_bytes,
-            report.has_double,
-            &ended,
+            diagnostics_writer.has_finite_double,
+            &run_result,
         );
         if let Some(hint) = rejection_help(
             rt.alloc(),
             invocation,
-            name,
+            file_name,
             &reader.first_bytes,
             advice,
         ) {
             let _ = hints.push(hint);
         }
     }
-    ended
+    run_result
 }
 
 // Converts each line of a file.
-fn run_each<'a>(
+fn run_over_lines<'a>(
     rt: &HostRuntime,
     invocation: &'a Invocation,
-    name: &'a str,
-    reader: &mut CountingReader<'_, Source>,
-    sink: &mut Sink,
-    report: &mut DiagnosticsWriter<'_, Stderr>,
+    file_name: &'a str,
+    reader: &mut CountingReader<'_, InputReader>,
+    output_writer: &mut OutputWriter,
+    diagnostics_writer: &mut DiagnosticsWriter<'_, Stderr>,
 ) -> Result<Counts, RunFailure<'a>> {
-    let mut run = LineRun::new(rt.alloc(), invocation.task, invocation.on_refusal);
-    run.options = invocation.options;
-    match run.run(rt.alloc(), reader, sink, report) {
+    let mut line_run = LineRun::new(rt.alloc(), invocation.task, invocation.on_refusal);
+    line_run.options = invocation.options;
+    match line_run.run(rt.alloc(), reader, output_writer, diagnostics_writer) {
         Ok(counts) => Ok(counts),
-        Err(error::Error::CannotRead) => Err(RunFailure::Input(name, reader.error)),
-        Err(error::Error::CannotWrite) => Err(write_stop(invocation, sink, report)),
+        Err(error::Error::CannotRead) => Err(RunFailure::Input(file_name, reader.error)),
+        Err(error::Error::CannotWrite) => Err(writer_failure(
+            invocation,
+            output_writer,
+            diagnostics_writer,
+        )),
         Err(fault) => {
-            let place = place_in(rt.alloc(), &run, &fault);
-            Err(RunFailure::Text(name, run.number(), fault, place))
+            let position_message = position_message_in(rt.alloc(), &line_run, &fault);
+            Err(RunFailure::Text(file_name, line_run.number(), fault, position_message))
         }
     }
 }
 
 // Returns the position of the error in the line at which the run stopped, or nothing if memory for the message
 // is lacking.
-fn place_in(alloc: Global, run: &LineRun, fault: &error::Error) -> String
-    ensures { IsPositionMessage (buffered_text run.now.state) fault.now (string_bytes result) ⊎ (string_bytes result ≡ []) }
+fn position_message_in(alloc: Global, line_run: &LineRun, fault: &error::Error) -> String
+    ensures { IsPositionMessage (buffered_text line_run.now.state) fault.now (string_bytes result)
+        ⊎ (string_bytes result ≡ []) }
 {
-    match run.place(alloc, fault) {
-        Ok(place) => place,
+    match line_run.place(alloc, fault) {
+        Ok(position_message) => position_message,
         Err(_) => String::new(alloc),
     }
 }
 
 /// Returns the failed writer: that of diagnostics, or else the output.
-pub fn write_stop<'a>(
+pub fn writer_failure<'a>(
     invocation: &'a Invocation,
-    sink: &Sink,
-    report: &DiagnosticsWriter<'_, Stderr>,
+    output_writer: &OutputWriter,
+    diagnostics_writer: &DiagnosticsWriter<'_, Stderr>,
 ) -> RunFailure<'a>
-    ensures { IsWriterFailure invocation.now report.now.error sink.now.error result }
+    ensures { IsWriterFailure invocation.now diagnostics_writer.now.error output_writer.now.error result }
 {
-    match report.error {
-        Some(error) => RunFailure::Output(STANDARD, Some(error)),
-        None => RunFailure::Output(invocation.output.as_str(), sink.error),
+    match diagnostics_writer.error {
+        Some(error) => RunFailure::Output(STDIO, Some(error)),
+        None => RunFailure::Output(invocation.output.as_str(), output_writer.error),
     }
 }
 
@@ -205,114 +231,125 @@ pub fn write_stop<'a>(
 fn run_text<'a>(
     rt: &HostRuntime,
     invocation: &'a Invocation,
-    name: &'a str,
-    reader: &mut CountingReader<'_, Source>,
-    sink: &mut Sink,
+    file_name: &'a str,
+    reader: &mut CountingReader<'_, InputReader>,
+    output_writer: &mut OutputWriter,
 ) -> Result<Counts, RunFailure<'a>> {
-    match convert_texts(rt.alloc(), invocation, name, reader, sink) {
+    match convert_texts(rt.alloc(), invocation, file_name, reader, output_writer) {
         Ok(()) => Ok(Counts {
             lines: 1,
             refused: 0,
         }),
-        Err(RunFailure::Input(name, _)) => Err(RunFailure::Input(name, reader.error)),
-        Err(RunFailure::Output(name, _)) => Err(RunFailure::Output(name, sink.error)),
+        Err(RunFailure::Input(file_name, _)) => Err(RunFailure::Input(file_name, reader.error)),
+        Err(RunFailure::Output(file_name, _)) => Err(RunFailure::Output(
+            file_name,
+            output_writer.error,
+        )),
         Err(failure) => Err(failure),
     }
 }
 
 // Opens the input of this name.
-fn source<'a>(rt: &HostRuntime, name: &'a str) -> Result<Source, RunFailure<'a>>
-    ensures { IfErr result (IsInputFailure name.now) }
+fn open_input<'a>(rt: &HostRuntime, file_name: &'a str) -> Result<InputReader, RunFailure<'a>>
+    ensures { IfErr result (IsInputFailure file_name.now) }
 {
-    if name == STANDARD {
-        return Ok(Source::Stdin(rt.stdin()));
+    if file_name == STDIO {
+        return Ok(InputReader::Stdin(rt.stdin()));
     }
-    match File::open(rt, name) {
-        Ok(file) => Ok(Source::File(file)),
-        Err(error) => Err(RunFailure::Input(name, Some(error))),
+    match File::open(rt, file_name) {
+        Ok(file) => Ok(InputReader::File(file)),
+        Err(error) => Err(RunFailure::Input(file_name, Some(error))),
     }
 }
 
 // Returns the name before each diagnostic, or none for lines of standard input.
-fn title<'a>(
+fn diagnostics_prefix<'a>(
     rt: &HostRuntime,
     invocation: &Invocation,
-    name: &'a str,
+    file_name: &'a str,
 ) -> Result<Option<String>, RunFailure<'a>>
-    ensures title { IfOk result (IsDiagnosticsPrefix invocation.now.input name.now) }
-    ensures failure { IfErr result (IsInputFailure name.now) }
+    ensures diagnostics_prefix { IfOk result (IsDiagnosticsPrefix invocation.now.input file_name.now) }
+    ensures failure { IfErr result (IsInputFailure file_name.now) }
 {
-    if name == STANDARD && invocation.input != Input::Documents {
+    if file_name == STDIO && invocation.input != Input::Documents {
         return Ok(None);
     }
-    match message_prefix(rt.alloc(), name) {
-        Ok(title) => Ok(Some(title)),
-        Err(error) => Err(RunFailure::Input(name, Some(Error::from(error)))),
+    match message_prefix(rt.alloc(), file_name) {
+        Ok(diagnostics_prefix) => Ok(Some(diagnostics_prefix)),
+        Err(error) => Err(RunFailure::Input(file_name, Some(Error::from(error)))),
     }
 }
 
 /// A file to read opens, and is none of those that are written.
-pub fn try_input<'a>(
+pub fn check_input_file<'a>(
     rt: &HostRuntime,
     invocation: &Invocation,
-    name: &'a str,
+    file_name: &'a str,
 ) -> Result<(), RunFailure<'a>> {
-    let input = if name == STANDARD {
+    let input_metadata = if file_name == STDIO {
         fs::metadata(rt, "/dev/stdin")
     } else {
-        match File::open(rt, name) {
+        match File::open(rt, file_name) {
             Ok(file) => file.metadata(),
-            Err(error) => return Err(RunFailure::Input(name, Some(error))),
+            Err(error) => return Err(RunFailure::Input(file_name, Some(error))),
         }
     };
-    let Ok(input) = input else {
+    let Ok(input_metadata) = input_metadata else {
         return Ok(());
     };
-    if is_written(rt, &input, "/dev/stderr") {
-        return Err(RunFailure::Both(name));
+    if is_same_file(rt, &input_metadata, "/dev/stderr") {
+        return Err(RunFailure::InputIsOutput(file_name));
     }
-    let output = invocation.output.as_str();
-    let output = if output == STANDARD {
+    let output_name = invocation.output.as_str();
+    let output_name = if output_name == STDIO {
         "/dev/stdout"
     } else {
-        output
+        output_name
     };
-    if !invocation.writes_nothing() && is_written(rt, &input, output) {
-        return Err(RunFailure::Both(name));
+    if !invocation.writes_nothing() && is_same_file(rt, &input_metadata, output_name) {
+        return Err(RunFailure::InputIsOutput(file_name));
     }
     Ok(())
 }
 
 // Whether a file is the one with this name.
-fn is_written(rt: &HostRuntime, file: &Metadata, name: &str) -> bool {
-    match fs::metadata(rt, name) {
-        Ok(output) => { file.is_file() && file.dev() == output.dev() && file.ino() == output.ino() }
+fn is_same_file(rt: &HostRuntime, metadata: &Metadata, file_name: &str) -> bool {
+    match fs::metadata(rt, file_name) {
+        Ok(named_file) => {
+            metadata.is_file()
+                && metadata.dev() == named_file.dev()
+                && metadata.ino() == named_file.ino()
+        }
         Err(_) => false,
     }
 }
 
 /// Returns the total size of the inputs if progress is shown: standard error is a terminal to which no
 /// output goes, and all that is read is files.
-pub fn total(rt: &HostRuntime, invocation: &Invocation) -> Option<u64> {
-    let is_apart = invocation.output.as_str() != STANDARD
+pub fn total_size(rt: &HostRuntime, invocation: &Invocation) -> Option<u64> {
+    let is_output_separate = invocation.output.as_str() != STDIO
         || invocation.writes_nothing()
         || !rt.stdout().is_terminal();
-    if !rt.stderr().is_terminal() || !is_apart {
+    if !rt.stderr().is_terminal() || !is_output_separate {
         return None;
     }
-    let mut total = 0u64;
-    for name in invocation.inputs.iter() {
-        let name = name.as_str();
-        let name = if name == STANDARD { "/dev/stdin" } else { name };
-        total = total.saturating_add(size(rt, name)?);
+    let mut total_size = 0u64;
+    for file_name in invocation.inputs.iter() {
+        let file_name = file_name.as_str();
+        let file_name = if file_name == STDIO {
+            "/dev/stdin"
+        } else {
+            file_name
+        };
+        total_size = total_size.saturating_add(file_size(rt, file_name)?);
     }
-    Some(total)
+    Some(total_size)
 }
 
 // How many bytes a file has.
-fn size(rt: &HostRuntime, name: &str) -> Option<u64> {
-    match fs::metadata(rt, name) {
-        Ok(file) if file.is_file() => Some(file.len()),
+fn file_size(rt: &HostRuntime, file_name: &str) -> Option<u64> {
+    match fs::metadata(rt, file_name) {
+        Ok(metadata) if metadata.is_file() => Some(metadata.len()),
         _ => None,
     }
 }

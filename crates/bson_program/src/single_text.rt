@@ -3,7 +3,7 @@ ghost use Rattle.std.specs.Prelude.{◌≡◌, ◌≢◌, ◌⊎◌, IfOk, IfErr
 ghost use Rattle.bson_convert.specs.Convert.{IsRejectedIn};
 ghost use Rattle.bson_run.specs.Accepted.{HasOutput, IsUtf8Accepted};
 ghost use Rattle.bson_run.specs.Indent.{mode_of};
-ghost use Rattle.bson_run.specs.Lines.{ChecksIn, WritesText};
+ghost use Rattle.bson_run.specs.Lines.{CriterionAccepts, WritesText};
 ghost use Rattle.bson_program.specs.SingleText.{ChecksText, WritesOutput, IsCheckFailure, IsTextRejected, WritesIndented};
 ghost use Rattle.bson_program.specs.SingleText.{WritesPreprocessed, checked_part, without_newline};
 
@@ -22,17 +22,22 @@ use bson_run::task::{Criterion, InnerTask, Task};
 use std::alloc::Global;
 
 /// From so many bytes on the memory of a text counts for more than a walk over it.
-const LARGE_TEXT: usize = 1 << 24;
+const LARGE_TEXT_LEN: usize = 1 << 24;
 
 /// Returns what one text gives.
-pub fn accept(alloc: Global, invocation: &Invocation, bytes: &[u8]) -> Result<Accepted, Error>
-    ensures ok { IfOk result (HasOutput invocation.now.options (WritesOutput invocation.now invocation.now.task bytes.now)) }
+pub fn accept_single_text(
+    alloc: Global,
+    invocation: &Invocation,
+    bytes: &[u8],
+) -> Result<Accepted, Error>
+    ensures ok { IfOk result
+        (HasOutput invocation.now.options (WritesOutput invocation.now invocation.now.task bytes.now)) }
     ensures utf8 { WritesText invocation.now.task → IfOk result IsUtf8Accepted }
     ensures fault { IfErr result (λ fault. IsTextRejected invocation.now.options invocation.now.task fault bytes.now) }
 {
     match invocation.task {
         Task::Write(mode) => accept_text(alloc, invocation, mode, bytes),
-        Task::Check(criterion) => check(alloc, invocation, criterion, bytes),
+        Task::Check(criterion) => check_text(alloc, invocation, criterion, bytes),
         Task::Encode => Ok(Accepted::Output(encode(alloc, invocation.options, bytes)?)),
         Task::Preprocessed(preprocessing, inner_task) => match preprocess_text(
             alloc,
@@ -53,17 +58,18 @@ fn accept_upgraded(
     inner_task: InnerTask,
     upgraded: String,
 ) -> Result<Accepted, Error>
-    ensures ok { IfOk result (HasOutput invocation.now.options (WritesPreprocessed invocation.now inner_task (string_bytes upgraded))) }
+    ensures ok { IfOk result
+        (HasOutput invocation.now.options (WritesPreprocessed invocation.now inner_task (string_bytes upgraded))) }
     ensures utf8 { IfOk result IsUtf8Accepted }
     ensures fault { IfErr result (λ fault. IsRejectedIn invocation.now.options fault (string_bytes upgraded)) }
 {
-    if upgraded.len() < LARGE_TEXT || invocation.indent.is_some() {
+    if upgraded.len() < LARGE_TEXT_LEN || invocation.indent.is_some() {
         return accept_preprocessed(alloc, invocation, inner_task, upgraded.as_bytes());
     }
     refuse(alloc, invocation.options, upgraded.as_str())?;
     match inner_task {
         InnerTask::Write(mode) => Ok(Accepted::Normalized(mode, upgraded)),
-        InnerTask::Check => check(alloc, invocation, Criterion::Valid, upgraded.as_bytes()),
+        InnerTask::Check => check_text(alloc, invocation, Criterion::Valid, upgraded.as_bytes()),
     }
 }
 
@@ -74,13 +80,14 @@ fn accept_preprocessed(
     inner_task: InnerTask,
     bytes: &[u8],
 ) -> Result<Accepted, Error>
-    ensures ok { IfOk result (HasOutput invocation.now.options (WritesPreprocessed invocation.now inner_task bytes.now)) }
+    ensures ok { IfOk result
+        (HasOutput invocation.now.options (WritesPreprocessed invocation.now inner_task bytes.now)) }
     ensures utf8 { IfOk result IsUtf8Accepted }
     ensures fault { IfErr result (λ fault. IsRejectedIn invocation.now.options fault bytes.now) }
 {
     match inner_task {
         InnerTask::Write(mode) => accept_text(alloc, invocation, mode, bytes),
-        InnerTask::Check => check(alloc, invocation, Criterion::Valid, bytes),
+        InnerTask::Check => check_text(alloc, invocation, Criterion::Valid, bytes),
     }
 }
 
@@ -91,27 +98,30 @@ fn accept_text(
     mode: Mode,
     bytes: &[u8],
 ) -> Result<Accepted, Error>
-    ensures ok { IfOk result (HasOutput invocation.now.options (WritesIndented invocation.now.options invocation.now.indent mode bytes.now)) }
+    ensures ok { IfOk result
+        (HasOutput invocation.now.options
+        (WritesIndented invocation.now.options invocation.now.indent mode bytes.now)) }
     ensures utf8 { IfOk result IsUtf8Accepted }
     ensures fault { IfErr result (λ fault. IsRejectedIn invocation.now.options fault bytes.now) }
 {
     let options = invocation.options;
-    match layout(invocation, mode) {
-        Some((form, spaces)) => {
-            Ok(Accepted::Output(convert_indented(alloc, options, form, spaces, bytes)?))
+    match indented_layout(invocation, mode) {
+        Some((form, indent_width)) => {
+            Ok(Accepted::Output(convert_indented(alloc, options, form, indent_width, bytes)?))
         }
         None => Accepted::of(alloc, options, mode, bytes),
     }
 }
 
 // Nothing, of a text that the criterion accepts.
-fn check(
+fn check_text(
     alloc: Global,
     invocation: &Invocation,
     criterion: Criterion,
     bytes: &[u8],
 ) -> Result<Accepted, Error>
-    ensures ok { IfOk result (HasOutput invocation.now.options (ChecksText invocation.now.options criterion bytes.now)) }
+    ensures ok { IfOk result
+        (HasOutput invocation.now.options (ChecksText invocation.now.options criterion bytes.now)) }
     ensures utf8 { IfOk result IsUtf8Accepted }
     ensures fault { IfErr result (λ fault. IsCheckFailure invocation.now.options criterion fault bytes.now) }
 {
@@ -126,7 +136,7 @@ fn check_criterion(
     criterion: Criterion,
     bytes: &[u8],
 ) -> Result<(), Error>
-    ensures ok { OnOk result (ChecksIn options criterion (checked_part criterion bytes.now)) }
+    ensures ok { OnOk result (CriterionAccepts options criterion (checked_part criterion bytes.now)) }
     ensures fault { IfErr result (λ fault. IsCheckFailure options criterion fault bytes.now) }
 {
     match criterion {
@@ -150,15 +160,15 @@ fn strip_newline(bytes: &[u8]) -> &[u8]
 }
 
 // Returns the form that is written over several lines, and the number of spaces.
-fn layout(invocation: &Invocation, mode: Mode) -> Option<(Form, usize)>
-    ensures some { IfSome result (λ laid. (mode ≡ mode_of laid.0) × (mode ≢ Mode.Show)
-        × (invocation.now.indent ≡ Some laid.1)) }
+fn indented_layout(invocation: &Invocation, mode: Mode) -> Option<(Form, usize)>
+    ensures some { IfSome result (λ form_and_width. (mode ≡ mode_of form_and_width.0) × (mode ≢ Mode.Show)
+        × (invocation.now.indent ≡ Some form_and_width.1)) }
     ensures none { result ≡ None → (invocation.now.indent ≡ None) ⊎ (mode ≡ Mode.Show) }
 {
-    let spaces = invocation.indent?;
+    let indent_width = invocation.indent?;
     match mode {
-        Mode::Canonical => Some((Form::Canonical, spaces)),
-        Mode::Relaxed => Some((Form::Relaxed, spaces)),
+        Mode::Canonical => Some((Form::Canonical, indent_width)),
+        Mode::Relaxed => Some((Form::Relaxed, indent_width)),
         Mode::Show => None,
     }
 }

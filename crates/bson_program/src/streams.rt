@@ -12,83 +12,83 @@ use std::rt::{Stdin, Stdout};
 
 /// The input of a run.
 #[derive(Drop)]
-pub enum Source {
+pub enum InputReader {
     Stdin(Stdin),
     File(File),
 }
 
-impl Read for Source {
+impl Read for InputReader {
     fn read(&mut self, buf: &mut [u8]) -> io::Result<usize> {
         match self {
-            Source::Stdin(stdin) => stdin.read(buf),
-            Source::File(file) => file.read(buf),
+            InputReader::Stdin(stdin) => stdin.read(buf),
+            InputReader::File(file) => file.read(buf),
         }
     }
 }
 
 /// The output of a run.
 #[derive(Drop)]
-pub enum Target {
+pub enum OutputTarget {
     Stdout(Stdout),
     File(File),
     Memory(Vec<u8>),
 }
 
-impl Target {
+impl OutputTarget {
     /// Returns what was written to memory, and nothing of any other target.
     pub fn into_memory(self, alloc: Global) -> Vec<u8>
-        ensures { (bytes : Vec ℕ Global) → self ≡ Target.Memory bytes → result ≡ bytes }
+        ensures { (bytes : Vec ℕ Global) → self ≡ OutputTarget.Memory bytes → result ≡ bytes }
     {
         match self {
-            Target::Memory(bytes) => bytes,
-            Target::Stdout(_) | Target::File(_) => Vec::new(alloc),
+            OutputTarget::Memory(bytes) => bytes,
+            OutputTarget::Stdout(_) | OutputTarget::File(_) => Vec::new(alloc),
         }
     }
 
     /// Waits until the system has kept all of a file.
     pub fn sync(&self) -> io::Result<()>
-        ensures { (stdout : Stdout) → self.now ≡ Target.Stdout stdout → IsOk result }
+        ensures { (stdout : Stdout) → self.now ≡ OutputTarget.Stdout stdout → IsOk result }
     {
         match self {
-            Target::Stdout(_) | Target::Memory(_) => Ok(()),
-            Target::File(file) => file.sync_all(),
+            OutputTarget::Stdout(_) | OutputTarget::Memory(_) => Ok(()),
+            OutputTarget::File(file) => file.sync_all(),
         }
     }
 }
 
-impl Write for Target {
+impl Write for OutputTarget {
     fn write(&mut self, buf: &[u8]) -> io::Result<usize> {
         match self {
-            Target::Stdout(stdout) => stdout.write(buf),
-            Target::File(file) => file.write(buf),
-            Target::Memory(bytes) => bytes.write(buf),
+            OutputTarget::Stdout(stdout) => stdout.write(buf),
+            OutputTarget::File(file) => file.write(buf),
+            OutputTarget::Memory(bytes) => bytes.write(buf),
         }
     }
 
     fn flush(&mut self) -> io::Result<()> {
         match self {
-            Target::Stdout(stdout) => stdout.flush(),
-            Target::File(file) => file.flush(),
-            Target::Memory(_) => Ok(()),
+            OutputTarget::Stdout(stdout) => stdout.flush(),
+            OutputTarget::File(file) => file.flush(),
+            OutputTarget::Memory(_) => Ok(()),
         }
     }
 }
 
-/// The same, which keeps why a write failed.
+/// Writes to a target, and keeps why a write failed.
 #[derive(Drop)]
-pub struct Sink {
-    pub target: Target,
+pub struct OutputWriter {
+    pub target: OutputTarget,
     /// If there is a hasher, the digest of each line is written in place of the line.
     pub hasher: Option<LineHasher>,
     pub error: Option<io::Error>,
 }
 
-impl Sink {
-    pub fn new(target: Target) -> Sink
+impl OutputWriter {
+    pub fn new(target: OutputTarget) -> OutputWriter
         ensures target { result.target ≡ target }
         ensures error { result.error ≡ None }
     {
-        Sink {
+        OutputWriter {
             target,
             hasher: None,
             error: None,
@@ -96,7 +96,7 @@ impl Sink {
     }
 
     // Writes the bytes, or the digests of the lines that end in them.
-    fn put(&mut self, bytes: &[u8]) -> io::Result<usize>
+    fn write_or_digest(&mut self, bytes: &[u8]) -> io::Result<usize>
         ensures { WritesAtMost result bytes.now }
     {
         match &mut self.hasher {
@@ -110,9 +110,9 @@ impl Sink {
     }
 }
 
-impl Write for Sink {
+impl Write for OutputWriter {
     fn write(&mut self, buf: &[u8]) -> io::Result<usize> {
-        match self.put(buf) {
+        match self.write_or_digest(buf) {
             Ok(count) => Ok(count),
             Err(error) => {
                 self.error = Some(error);

@@ -2,13 +2,13 @@
 ghost use Rattle.std.specs.Prelude.{◌≡◌, ℕ, List, Option, IfOk, IfErr, OnOk, false, nat_lt, length, string_bytes, true};
 ghost use Rattle.bson_json.specs.Sequence.{texts_in};
 ghost use Rattle.bson_run.specs.ErrorMessages.{IsSyntaxPosition, IsPositionMessage};
-ghost use Rattle.bson_program.specs.Texts.{AcceptedStops, HasLine, IsSequence, IsTextDone, StopsAt, TextStops, TextsDone, TextsStop};
-ghost use Rattle.bson_program.specs.Texts.{IsNotJson, WritesAccepted, WritesAll, content_of, is_sequence, begin_line, mark_of, reads_several};
+ghost use Rattle.bson_program.specs.Texts.{CannotWriteAccepted, IsErrorLine, IsSequence, WritesTextOutput, StopsAt, FailsAtText, ConvertsTexts, FailsOnInput};
+ghost use Rattle.bson_program.specs.Texts.{IsNotJson, WritesAcceptedText, WritesAllTexts, content_of, is_sequence, text_start_line, byte_order_mark_of, reads_several};
 ghost use Rattle.bson_program.specs.SingleText.{IsTextRejected};
 
-use crate::invocation::{Invocation, STANDARD};
+use crate::invocation::{Invocation, STDIO};
 use crate::run::RunFailure;
-use crate::single_text::accept;
+use crate::single_text::accept_single_text;
 use bson::extjson::Doubles;
 use bson_convert::error::Error;
 use bson_convert::fault::Fault;
@@ -53,57 +53,69 @@ impl<'a> InputText<'a> {
 /// texts with white space between. Each text of a sequence is converted and written before the next.
 /// A strict run reads one text, and so does a check of canonical text.
 ///
-/// If a text is rejected, the stop has the line of an error in JSON. For any other error it has the
+/// If a text is rejected, the failure has the line of an error in JSON. For any other error it has the
 /// line on which the text begins, or no line (0) if the text is all bytes. The cause of a failed
 /// reader or writer is known to the reader or writer.
 pub fn convert_texts<'a, R: Read, W: Write>(
     alloc: Global,
     invocation: &'a Invocation,
-    name: &'a str,
+    file_name: &'a str,
     reader: &mut R,
     writer: &mut W,
 ) -> Result<(), RunFailure<'a>>
-    ensures done { OnOk result (TextsDone invocation.now name.now (R.remaining reader.old) (R.remaining reader.new)
+    ensures done { OnOk result
+        (ConvertsTexts invocation.now file_name.now (R.remaining reader.old) (R.remaining reader.new)
         (W.contents writer.old) (W.contents writer.new)) }
-    ensures stops { IfErr result (λ stop. TextsStop invocation.now stop name.now (R.remaining reader.old)
+    ensures stops { IfErr result (λ failure. FailsOnInput invocation.now failure file_name.now (R.remaining reader.old)
         (R.remaining reader.new) (W.contents writer.old) (W.contents writer.new)) }
 {
     let bytes = match read_whole(alloc, reader) {
         Ok(bytes) => bytes,
-        Err(Fault::CannotRead) => return Err(RunFailure::Input(name, None)),
-        Err(_) => return Err(RunFailure::Text(name, 0, Error::OutOfMemory, String::new(alloc))),
+        Err(Fault::CannotRead) => return Err(RunFailure::Input(file_name, None)),
+        Err(_) => return Err(RunFailure::Text(
+            file_name,
+            0,
+            Error::OutOfMemory,
+            String::new(alloc),
+        )),
     };
-    let content = content_of(invocation, name, &bytes);
-    let accepted = match accept(alloc, invocation, content) {
+    let content = content_of(invocation, file_name, &bytes);
+    let accepted = match accept_single_text(alloc, invocation, content) {
         Ok(accepted) => accepted,
         Err(fault) => {
-            if has_several(invocation, &fault, content) {
-                return convert_each(alloc, invocation, name, content, writer);
+            if is_read_as_sequence(invocation, &fault, content) {
+                return convert_sequence(alloc, invocation, file_name, content, writer);
             }
-            return Err(stop_at(alloc, invocation, name, fault, InputText::whole(content)));
+            return Err(text_failure(
+                alloc,
+                invocation,
+                file_name,
+                fault,
+                InputText::whole(content),
+            ));
         }
     };
     drop(bytes);
-    write_accepted(alloc, invocation, name, accepted, writer)
+    write_accepted(alloc, invocation, file_name, accepted, writer)
 }
 
 // Returns the bytes of an input after its byte order mark, if it may have one.
-fn content_of<'a>(invocation: &Invocation, name: &str, bytes: &'a [u8]) -> &'a [u8]
-    ensures { result.now ≡ content_of invocation.now name.now bytes.now }
+fn content_of<'a>(invocation: &Invocation, file_name: &str, bytes: &'a [u8]) -> &'a [u8]
+    ensures { result.now ≡ content_of invocation.now file_name.now bytes.now }
 {
-    let mark = mark_of(invocation, name);
-    if bytes.starts_with(mark) {
-        &bytes[mark.len()..]
+    let byte_order_mark = byte_order_mark_of(invocation, file_name);
+    if bytes.starts_with(byte_order_mark) {
+        &bytes[byte_order_mark.len()..]
     } else {
         bytes
     }
 }
 
 // Returns what may come before the text of an input.
-fn mark_of(invocation: &Invocation, name: &str) -> &'static [u8]
-    ensures { result.now ≡ mark_of invocation.now name.now }
+fn byte_order_mark_of(invocation: &Invocation, file_name: &str) -> &'static [u8]
+    ensures { result.now ≡ byte_order_mark_of invocation.now file_name.now }
 {
-    if name == STANDARD {
+    if file_name == STDIO {
         return b"";
     }
     match invocation.task {
@@ -113,10 +125,10 @@ fn mark_of(invocation: &Invocation, name: &str) -> &'static [u8]
 }
 
 // Returns whether bytes with this error are read as a sequence.
-fn has_several(invocation: &Invocation, fault: &Error, content: &[u8]) -> bool
+fn is_read_as_sequence(invocation: &Invocation, fault: &Error, content: &[u8]) -> bool
     ensures not_json { result ≡ true → fault.now ≡ Error.NotJson }
     ensures several { result ≡ true → is_sequence invocation.now content.now ≡ true }
-    ensures one { result ≡ false → fault.now ≡ Error.NotJson → is_sequence invocation.now content.now ≡ false }
+    ensures not_sequence { result ≡ false → fault.now ≡ Error.NotJson → is_sequence invocation.now content.now ≡ false }
 {
     match fault {
         Error::NotJson => is_sequence(invocation, content),
@@ -129,7 +141,7 @@ fn is_sequence(invocation: &Invocation, content: &[u8]) -> bool
     ensures { result ≡ is_sequence invocation.now content.now }
 {
     if reads_several(invocation.options.doubles, invocation.task) {
-        has_two(content)
+        has_two_texts(content)
     } else {
         false
     }
@@ -146,48 +158,50 @@ pub fn reads_several(doubles: Doubles, task: Task) -> bool
 }
 
 // Returns whether there are two texts or more.
-fn has_two(content: &[u8]) -> bool
+fn has_two_texts(content: &[u8]) -> bool
     ensures { result ≡ nat_lt 1 (length (texts_in content.now)) }
 {
-    let mut rest = content;
-    let mut has_one = false;
-    while !rest.is_empty() {
-        let (text, next) = split_text(rest);
+    let mut remaining_bytes = content;
+    let mut has_first_text = false;
+    while !remaining_bytes.is_empty() {
+        let (text, after_text) = split_text(remaining_bytes);
         if !text.is_empty() {
-            if has_one {
+            if has_first_text {
                 return true;
             }
-            has_one = true;
+            has_first_text = true;
         }
-        rest = next;
+        remaining_bytes = after_text;
     }
     false
 }
 
 // Converts the texts of a sequence.
-fn convert_each<'a, W: Write>(
+fn convert_sequence<'a, W: Write>(
     alloc: Global,
     invocation: &'a Invocation,
-    name: &'a str,
+    file_name: &'a str,
     content: &[u8],
     writer: &mut W,
 ) -> Result<(), RunFailure<'a>>
-    ensures done { OnOk result (WritesAll invocation.now content.now (W.contents writer.old) (W.contents writer.new)) }
-    ensures stops { IsSequence invocation.now content.now → IfErr result (λ stop. StopsAt invocation.now stop name.now content.now
+    ensures done { OnOk result
+        (WritesAllTexts invocation.now content.now (W.contents writer.old) (W.contents writer.new)) }
+    ensures stops { IsSequence invocation.now content.now
+        → IfErr result (λ failure. StopsAt invocation.now failure file_name.now content.now
         (W.contents writer.old) (W.contents writer.new)) }
 {
-    let mut rest = content;
-    while !rest.is_empty() {
-        let (text, next) = split_text(rest);
+    let mut remaining_bytes = content;
+    while !remaining_bytes.is_empty() {
+        let (text, after_text) = split_text(remaining_bytes);
         let input_text = InputText {
             content,
-            start: content.len() - rest.len(),
+            start: content.len() - remaining_bytes.len(),
             text,
         };
         if !text.is_empty() {
-            convert_text(alloc, invocation, name, input_text, writer)?;
+            convert_text(alloc, invocation, file_name, input_text, writer)?;
         }
-        rest = next;
+        remaining_bytes = after_text;
     }
     Ok(())
 }
@@ -196,17 +210,19 @@ fn convert_each<'a, W: Write>(
 fn convert_text<'a, W: Write>(
     alloc: Global,
     invocation: &'a Invocation,
-    name: &'a str,
+    file_name: &'a str,
     input_text: InputText<'_>,
     writer: &mut W,
 ) -> Result<(), RunFailure<'a>>
-    ensures done { OnOk result (IsTextDone invocation.now input_text.entry.text.now (W.contents writer.old) (W.contents writer.new)) }
-    ensures stops { IfErr result (λ stop. TextStops invocation.now stop name.now input_text.entry.content.now input_text.entry.start input_text.entry.text.now
+    ensures done { OnOk result
+        (WritesTextOutput invocation.now input_text.entry.text.now (W.contents writer.old) (W.contents writer.new)) }
+    ensures stops { IfErr result
+        (λ failure. FailsAtText invocation.now failure file_name.now input_text.entry.content.now input_text.entry.start input_text.entry.text.now
         (W.contents writer.old) (W.contents writer.new)) }
 {
-    match accept(alloc, invocation, input_text.text) {
-        Ok(accepted) => write_accepted(alloc, invocation, name, accepted, writer),
-        Err(fault) => Err(stop_at(alloc, invocation, name, fault, input_text)),
+    match accept_single_text(alloc, invocation, input_text.text) {
+        Ok(accepted) => write_accepted(alloc, invocation, file_name, accepted, writer),
+        Err(fault) => Err(text_failure(alloc, invocation, file_name, fault, input_text)),
     }
 }
 
@@ -214,17 +230,18 @@ fn convert_text<'a, W: Write>(
 fn write_accepted<'a, W: Write>(
     alloc: Global,
     invocation: &'a Invocation,
-    name: &'a str,
+    file_name: &'a str,
     accepted: Accepted,
     writer: &mut W,
 ) -> Result<(), RunFailure<'a>>
-    ensures done { OnOk result (WritesAccepted invocation.now accepted (W.contents writer.old) (W.contents writer.new)) }
-    ensures stops { IfErr result (λ stop. AcceptedStops invocation.now stop name.now accepted
+    ensures done { OnOk result
+        (WritesAcceptedText invocation.now accepted (W.contents writer.old) (W.contents writer.new)) }
+    ensures stops { IfErr result (λ failure. CannotWriteAccepted invocation.now failure file_name.now accepted
         (W.contents writer.old) (W.contents writer.new)) }
 {
     // (no other error is possible, since the text was accepted with these options)
     let Ok(output) = accepted.output(alloc, invocation.options) else {
-        return Err(RunFailure::Text(name, 0, Error::OutOfMemory, String::new(alloc)));
+        return Err(RunFailure::Text(file_name, 0, Error::OutOfMemory, String::new(alloc)));
     };
     match writer.write_all(&output) {
         Ok(()) => Ok(()),
@@ -232,67 +249,83 @@ fn write_accepted<'a, W: Write>(
     }
 }
 
-// Returns the stop at a text that was rejected, with its line and the place of the error.
-fn stop_at<'a>(
+// Returns the failure at a text that was rejected, with its line and the place of the error.
+fn text_failure<'a>(
     alloc: Global,
     invocation: &Invocation,
-    name: &'a str,
+    file_name: &'a str,
     fault: Error,
     input_text: InputText<'_>,
 ) -> RunFailure<'a>
-    ensures same { IsNotJson result → fault ≡ Error.NotJson }
-    ensures stops { (output_before : Option (List ℕ)) → IsTextRejected invocation.now.options invocation.now.task fault input_text.entry.text.now
-        → TextStops invocation.now result name.now input_text.entry.content.now input_text.entry.start input_text.entry.text.now output_before output_before }
+    ensures not_json { IsNotJson result → fault ≡ Error.NotJson }
+    ensures stops { (output_before : Option (List ℕ))
+        → IsTextRejected invocation.now.options invocation.now.task fault input_text.entry.text.now
+        → FailsAtText invocation.now result file_name.now input_text.entry.content.now input_text.entry.start input_text.entry.text.now output_before output_before }
 {
-    match place_of(alloc, invocation.task, &fault, input_text) {
-        Ok((line, place)) => RunFailure::Text(name, line, fault, place),
-        Err(_) => RunFailure::Text(name, 0, Error::OutOfMemory, String::new(alloc)),
+    match error_position(alloc, invocation.task, &fault, input_text) {
+        Ok((line_number, position_message)) => RunFailure::Text(
+            file_name,
+            line_number,
+            fault,
+            position_message,
+        ),
+        Err(_) => RunFailure::Text(file_name, 0, Error::OutOfMemory, String::new(alloc)),
     }
 }
 
 // Returns the line of an error, and the message that says where the text is wrong.
-fn place_of(
+fn error_position(
     alloc: Global,
     task: Task,
     fault: &Error,
     input_text: InputText<'_>,
 ) -> Result<(u64, String), AllocError>
-    ensures line { IfOk result (λ at. HasLine fault.now input_text.entry.content.now input_text.entry.start input_text.entry.text.now at.0) }
-    ensures place { IfOk result (λ at. IsPositionMessage input_text.entry.text.now fault.now (string_bytes at.1)) }
+    ensures line_number { IfOk result
+        (λ line_and_message.
+        IsErrorLine fault.now input_text.entry.content.now input_text.entry.start input_text.entry.text.now line_and_message.0) }
+    ensures position_message { IfOk result
+        (λ line_and_message. IsPositionMessage input_text.entry.text.now fault.now (string_bytes line_and_message.1)) }
 {
     match fault {
-        Error::NotJson => syntax_place(alloc, input_text),
+        Error::NotJson => syntax_error_position(alloc, input_text),
         Error::NotCanonical(_) => Ok((1, explain_under(alloc, task, fault, input_text.text)?)),
         Error::OutOfMemory => Ok((0, String::new(alloc))),
         _ => Ok((
-            begin_line(input_text) as u64,
+            text_start_line(input_text) as u64,
             explain_under(alloc, task, fault, input_text.text)?,
         )),
     }
 }
 
 // Returns the line on which the text is not JSON, and the message that says where.
-fn syntax_place(alloc: Global, input_text: InputText<'_>) -> Result<(u64, String), AllocError>
-    ensures { IfOk result (λ at. IsSyntaxPosition input_text.entry.text.now (string_bytes at.1)) }
+fn syntax_error_position(
+    alloc: Global,
+    input_text: InputText<'_>,
+) -> Result<(u64, String), AllocError>
+    ensures { IfOk result
+        (λ line_and_message. IsSyntaxPosition input_text.entry.text.now (string_bytes line_and_message.1)) }
 {
-    let stop = syntax_error::SyntaxError::of(alloc, input_text.text)?;
-    let stop = syntax_error::SyntaxError {
-        offset: input_text.start.saturating_add(stop.offset),
-        ..stop
+    let json_error = syntax_error::SyntaxError::of(alloc, input_text.text)?;
+    let json_error = syntax_error::SyntaxError {
+        offset: input_text.start.saturating_add(json_error.offset),
+        ..json_error
     };
     Ok((
-        stop.line(input_text.content) as u64,
-        stop.message(alloc, input_text.content)?,
+        json_error.line(input_text.content) as u64,
+        json_error.message(alloc, input_text.content)?,
     ))
 }
 
 // Returns the line on which a text of a sequence begins; 0 for a text that is all bytes.
-fn begin_line(input_text: InputText<'_>) -> usize
-    ensures { result ≡ begin_line input_text.entry.content.now input_text.entry.start input_text.entry.text.now }
+fn text_start_line(input_text: InputText<'_>) -> usize
+    ensures { result ≡ text_start_line input_text.entry.content.now input_text.entry.start input_text.entry.text.now }
 {
     if input_text.text.len() == input_text.content.len() {
         return 0;
     }
-    let before = &input_text.content[..input_text.start.min(input_text.content.len())];
-    1 + before.iter().filter(|byte| **byte == b'\n').count()
+    let bytes_before_text = &input_text.content[..input_text.start.min(input_text.content.len())];
+    1 + bytes_before_text
+        .iter()
+        .filter(|byte| **byte == b'\n')
+        .count()
 }

@@ -1,42 +1,48 @@
 //! The messages about arguments that the program does not accept.
 ghost use Rattle.std.specs.Prelude.{◌≡◌, ℕ, List, IfOk, string_bytes};
 ghost use Rattle.bson_program.specs.Flags.{flag_name};
-ghost use Rattle.bson_program.specs.UsageErrors.{command_name, full_name, kind_of_arg, mode_without, see, usage_error_message};
+ghost use Rattle.bson_program.specs.UsageErrors.{command_name, mode_with_command, expected_arg_kind, mode_without_option, see_help, usage_error_message};
 ghost use Rattle.bson_program.specs.Messages.{escaped_name};
 ghost use Rattle.bson_program.specs.Invocation.{mode_arg};
 ghost use Rattle.bson_convert.specs.Messages.{name_of_mode};
 ghost use Rattle.bson_run.specs.TaskNames.{task_name};
 ghost use Rattle.bson_run.specs.declared.task.Task.{Task};
 
-use crate::invocation::{Command, Flag, Purpose, UsageError, Wrong};
+use crate::invocation::{Command, Flag, InvalidUsage, Purpose, UsageError};
 use crate::messages::escape_name;
 use bson_convert::mode::Mode;
 use bson_run::task::{Criterion, InnerTask, Task};
 use std::alloc::{AllocError, Global};
 
 /// Returns the line that names what is wrong with the arguments.
-pub fn usage_error_line(alloc: Global, wrong: &Wrong) -> Result<String, AllocError>
-    ensures { IfOk result (λ line. string_bytes line ≡ usage_error_message wrong.now.command wrong.now.usage_error (string_bytes wrong.now.arg)) }
+pub fn usage_error_line(alloc: Global, invalid_usage: &InvalidUsage) -> Result<String, AllocError>
+    ensures { IfOk result
+        (λ line. string_bytes line
+        ≡ usage_error_message invalid_usage.now.command invalid_usage.now.usage_error
+        (string_bytes invalid_usage.now.arg)) }
 {
-    let command = wrong.command;
-    match wrong.usage_error {
-        UsageError::UnknownOption => unknown_option(alloc, command, wrong.arg.as_str()),
-        UsageError::UnknownMode => unknown_mode(alloc, command, wrong.arg.as_str()),
-        UsageError::RemovedOption => removed_option(alloc, command, wrong.arg.as_str()),
-        UsageError::Twice(flag) => {
+    let command = invalid_usage.command;
+    match invalid_usage.usage_error {
+        UsageError::UnknownOption => unknown_option(alloc, command, invalid_usage.arg.as_str()),
+        UsageError::UnknownMode => unknown_mode(alloc, command, invalid_usage.arg.as_str()),
+        UsageError::RemovedOption => removed_option(alloc, command, invalid_usage.arg.as_str()),
+        UsageError::OptionTwice(flag) => {
             let name = flag_name(flag);
             format!(in alloc; "bson: {name} is given twice")
         }
-        UsageError::NoValue(flag) => no_value(alloc, flag),
+        UsageError::BadOptionValue(flag) => bad_option_value(alloc, flag),
         UsageError::UnsupportedOption(flag, purpose, task) => unsupported_option(
             alloc, command, flag, purpose, task,
         ),
         UsageError::NoMode => {
-            let kind = kind_of_arg(command);
-            format!(in alloc; "bson: no {kind} is given")
+            let expected_kind = expected_arg_kind(command);
+            format!(in alloc; "bson: no {expected_kind} is given")
         }
-        UsageError::TwoFiles => two_files(alloc, command),
-        UsageError::StandardTwice => String::from_str(alloc, "bson: standard input is given twice"),
+        UsageError::NeedsTwoFiles => needs_two_files(alloc, command),
+        UsageError::StandardInputTwice => String::from_str(
+            alloc,
+            "bson: standard input is given twice",
+        ),
         UsageError::NotUtf8 => String::from_str(alloc, "bson: an argument is not UTF-8"),
     }
 }
@@ -45,32 +51,33 @@ pub fn usage_error_line(alloc: Global, wrong: &Wrong) -> Result<String, AllocErr
 fn unknown_option(alloc: Global, command: Command, arg: &str) -> Result<String, AllocError>
     ensures { IfOk result (λ line. string_bytes line ≡ usage_error_message command UsageError.UnknownOption arg.now) }
 {
-    let (arg, see) = (escape_name(alloc, arg)?, see(alloc, command)?);
-    format!(in alloc; "bson: unknown option '{arg}'{see}")
+    let (arg, see_help) = (escape_name(alloc, arg)?, see_help(alloc, command)?);
+    format!(in alloc; "bson: unknown option '{arg}'{see_help}")
 }
 
 // Names an argument that is not a command or a mode.
 fn unknown_mode(alloc: Global, command: Command, arg: &str) -> Result<String, AllocError>
     ensures { IfOk result (λ line. string_bytes line ≡ usage_error_message command UsageError.UnknownMode arg.now) }
 {
-    let kind = kind_of_arg(command);
-    let shown = escape_name(alloc, arg)?;
-    let help = see(alloc, command)?;
-    format!(in alloc; "bson: unknown {kind} '{shown}'{help}")
+    let expected_kind = expected_arg_kind(command);
+    let shown_arg = escape_name(alloc, arg)?;
+    let help = see_help(alloc, command)?;
+    format!(in alloc; "bson: unknown {expected_kind} '{shown_arg}'{help}")
 }
 
 // Names an option of an earlier version.
 fn removed_option(alloc: Global, command: Command, arg: &str) -> Result<String, AllocError>
     ensures { IfOk result (λ line. string_bytes line ≡ usage_error_message command UsageError.RemovedOption arg.now) }
 {
-    let shown = escape_name(alloc, arg)?;
-    let help = see(alloc, command)?;
-    format!(in alloc; "bson: {shown} is the default now{help}")
+    let shown_arg = escape_name(alloc, arg)?;
+    let help = see_help(alloc, command)?;
+    format!(in alloc; "bson: {shown_arg} is the default now{help}")
 }
 
 // Says which value an option needs.
-fn no_value(alloc: Global, flag: Flag) -> Result<String, AllocError>
-    ensures { (command : Command) → (arg : List ℕ) → IfOk result (λ line. string_bytes line ≡ usage_error_message command (UsageError.NoValue flag) arg) }
+fn bad_option_value(alloc: Global, flag: Flag) -> Result<String, AllocError>
+    ensures { (command : Command) → (arg : List ℕ)
+        → IfOk result (λ line. string_bytes line ≡ usage_error_message command (UsageError.BadOptionValue flag) arg) }
 {
     match flag {
         Flag::Indent => String::from_str(alloc, "bson: --indent needs a number from 1 to 16"),
@@ -90,37 +97,40 @@ fn unsupported_option(
     purpose: Purpose,
     task: Task,
 ) -> Result<String, AllocError>
-    ensures { (arg : List ℕ) → IfOk result (λ line. string_bytes line ≡ usage_error_message command (UsageError.UnsupportedOption flag purpose task) arg) }
+    ensures { (arg : List ℕ)
+        → IfOk result
+        (λ line. string_bytes line ≡ usage_error_message command (UsageError.UnsupportedOption flag purpose task) arg) }
 {
-    let name = full_name(alloc, command, mode_without(flag, purpose, task))?;
+    let name = mode_with_command(alloc, command, mode_without_option(flag, purpose, task))?;
     let option = flag_name(flag);
     format!(in alloc; "bson: {name} does not accept {option}")
 }
 
 // Says that a comparison needs two files.
-fn two_files(alloc: Global, command: Command) -> Result<String, AllocError>
-    ensures { (arg : List ℕ) → IfOk result (λ line. string_bytes line ≡ usage_error_message command UsageError.TwoFiles arg) }
+fn needs_two_files(alloc: Global, command: Command) -> Result<String, AllocError>
+    ensures { (arg : List ℕ)
+        → IfOk result (λ line. string_bytes line ≡ usage_error_message command UsageError.NeedsTwoFiles arg) }
 {
-    let name = full_name(alloc, command, "same")?;
+    let name = mode_with_command(alloc, command, "same")?;
     format!(in alloc; "bson: {name} needs two files")
 }
 
 // Says where the help is.
-fn see(alloc: Global, command: Command) -> Result<String, AllocError>
-    ensures { IfOk result (λ text. string_bytes text ≡ see command) }
+fn see_help(alloc: Global, command: Command) -> Result<String, AllocError>
+    ensures { IfOk result (λ text. string_bytes text ≡ see_help command) }
 {
     let name = command_name(command);
     format!(in alloc; " (see {name} --help)")
 }
 
 // Returns a mode with its command.
-fn full_name(alloc: Global, command: Command, mode: &str) -> Result<String, AllocError>
-    ensures { IfOk result (λ name. string_bytes name ≡ full_name command mode.now) }
+fn mode_with_command(alloc: Global, command: Command, mode: &str) -> Result<String, AllocError>
+    ensures { IfOk result (λ name. string_bytes name ≡ mode_with_command command mode.now) }
 {
     match command {
         Command::Lines => format!(in alloc; "lines {mode}"),
         Command::Decode => format!(in alloc; "decode {mode}"),
-        Command::All | Command::Text | Command::Encode => String::from_str(alloc, mode),
+        Command::AllCommands | Command::Text | Command::Encode => String::from_str(alloc, mode),
     }
 }
 
@@ -129,7 +139,7 @@ fn command_name(command: Command) -> &'static str
     ensures { result.now ≡ command_name command }
 {
     match command {
-        Command::All | Command::Text => "bson",
+        Command::AllCommands | Command::Text => "bson",
         Command::Lines => "bson lines",
         Command::Decode => "bson decode",
         Command::Encode => "bson encode",
@@ -137,22 +147,22 @@ fn command_name(command: Command) -> &'static str
 }
 
 // Returns what an argument is expected to be.
-fn kind_of_arg(command: Command) -> &'static str
-    ensures { result.now ≡ kind_of_arg command }
+fn expected_arg_kind(command: Command) -> &'static str
+    ensures { result.now ≡ expected_arg_kind command }
 {
     match command {
-        Command::All => "command",
+        Command::AllCommands => "command",
         _ => "mode",
     }
 }
 
 // Returns the mode that does not have an option, and after it the option because of which it does not.
-fn mode_without(flag: Flag, purpose: Purpose, task: Task) -> &'static str
-    ensures { result.now ≡ mode_without flag purpose task }
+fn mode_without_option(flag: Flag, purpose: Purpose, task: Task) -> &'static str
+    ensures { result.now ≡ mode_without_option flag purpose task }
 {
     match task {
         Task::Check(Criterion::Canonical) if flag != Flag::Canonical => "check --canonical",
-        other => mode_arg(purpose, other),
+        other_task => mode_arg(purpose, other_task),
     }
 }
 
@@ -197,7 +207,7 @@ fn flag_name(flag: Flag) -> &'static str
         Flag::SortKeys => "--sort-keys",
         Flag::Strict => "--strict",
         Flag::Legacy => "--legacy",
-        Flag::NoDoubleKeys => "--no-double-keys",
+        Flag::NoDuplicateKeys => "--no-double-keys",
         Flag::Canonical => "--canonical",
         Flag::Indent => "--indent",
         Flag::KeepGoing => "--keep-going",

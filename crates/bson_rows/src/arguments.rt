@@ -5,7 +5,7 @@ use std::alloc::Global;
 /// Returns the text up to the first space, and the rest after it.
 pub(crate) fn split_at_space(text: &str) -> (&str, &str) {
     match text.split_once(' ') {
-        Some(parts) => parts,
+        Some(word_and_rest) => word_and_rest,
         None => (text, ""),
     }
 }
@@ -13,7 +13,7 @@ pub(crate) fn split_at_space(text: &str) -> (&str, &str) {
 /// Returns the text up to the first colon, and the rest after it.
 pub(crate) fn split_at_colon(text: &str) -> (&str, &str) {
     match text.split_once(':') {
-        Some(parts) => parts,
+        Some(word_and_rest) => word_and_rest,
         None => (text, ""),
     }
 }

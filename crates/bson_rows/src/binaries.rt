@@ -9,34 +9,40 @@ use bson::uuid::{self, Uuid, UuidRepresentation};
 use std::alloc::Global;
 
 /// `uuid parse TEXT`, `uuid to ORDER UUID`, `uuid from ORDER SUBTYPE BYTES`, `uuid value UUID`.
-pub(crate) fn uuid_call(alloc: Global, rest: &str, out: &mut RowOutput) -> RowResult {
-    let (name, text) = split_at_space(rest);
-    match name {
+pub(crate) fn run_uuid_call(
+    alloc: Global,
+    remaining_args: &str,
+    output_line: &mut RowOutput,
+) -> RowResult {
+    let (call_name, text) = split_at_space(remaining_args);
+    match call_name {
         "parse" => {
-            put_uuid(&Uuid::parse_str(text), out);
+            write_uuid(&Uuid::parse_str(text), output_line);
             Ok(())
         }
-        "to" => to_order(alloc, text, out),
-        "from" => from_order(alloc, text, out),
-        "value" => as_value(alloc, text, out),
+        "to" => write_uuid_binary(alloc, text, output_line),
+        "from" => write_uuid_of_binary(alloc, text, output_line),
+        "value" => write_uuid_value(alloc, text, output_line),
         _ => Err(RowError::InvalidRow),
     }
 }
 
-/// Puts the UUID's text, and its bytes.
-fn put_uuid(read: &uuid::Result<Uuid>, out: &mut RowOutput) {
-    match read {
+/// Writes the UUID's text, and its bytes.
+fn write_uuid(parsed_uuid: &uuid::Result<Uuid>, output_line: &mut RowOutput) {
+    match parsed_uuid {
         Ok(id) => {
-            out.write_value(id);
-            out.write_str(" ");
-            out.write_hex(&id.bytes());
+            output_line.write_value(id);
+            output_line.write_str(" ");
+            output_line.write_hex(&id.bytes());
         }
-        Err(error) => out.write_error(error),
+        Err(error) => output_line.write_error(error),
     }
 }
 
-pub(crate) fn order_of(word: &str) -> Result<UuidRepresentation, RowError> {
-    match word {
+pub(crate) fn parse_representation(
+    representation_name: &str,
+) -> Result<UuidRepresentation, RowError> {
+    match representation_name {
         "standard" => Ok(UuidRepresentation::Standard),
         "csharp" => Ok(UuidRepresentation::CSharpLegacy),
         "java" => Ok(UuidRepresentation::JavaLegacy),
@@ -46,97 +52,107 @@ pub(crate) fn order_of(word: &str) -> Result<UuidRepresentation, RowError> {
 }
 
 /// Writes the subtype and the bytes of the binary. `plain` calls `from_uuid`.
-fn to_order(alloc: Global, text: &str, out: &mut RowOutput) -> RowResult {
-    let (word, bytes) = split_at_space(text);
+fn write_uuid_binary(alloc: Global, text: &str, output_line: &mut RowOutput) -> RowResult {
+    let (representation_name, bytes) = split_at_space(text);
     let id = Uuid::from_bytes(parse_16_bytes(bytes)?);
-    if word == "plain" {
-        put_binary(Binary::from_uuid(alloc, id), out);
+    if representation_name == "plain" {
+        write_binary(Binary::from_uuid(alloc, id), output_line);
     } else {
-        let order = order_of(word)?;
-        put_binary(Binary::from_uuid_with_representation(alloc, id, order), out);
+        let uuid_representation = parse_representation(representation_name)?;
+        write_binary(
+            Binary::from_uuid_with_representation(alloc, id, uuid_representation),
+            output_line,
+        );
     }
     Ok(())
 }
 
-/// Puts the subtype by its name, and the bytes.
-pub(crate) fn put_binary<E: CallError>(made: Result<Binary, E>, out: &mut RowOutput) {
-    match made {
+/// Writes the subtype by its name, and the bytes.
+pub(crate) fn write_binary<E: CallError>(created: Result<Binary, E>, output_line: &mut RowOutput) {
+    match created {
         Ok(binary) => {
-            out.write_debug(&binary.subtype);
-            out.write_str(" ");
-            out.write_hex(binary.bytes.as_slice());
+            output_line.write_debug(&binary.subtype);
+            output_line.write_str(" ");
+            output_line.write_hex(binary.bytes.as_slice());
         }
-        Err(error) => out.write_error(&error),
+        Err(error) => output_line.write_error(&error),
     }
 }
 
 /// Writes the UUID of a binary with the subtype's byte and these bytes. `plain` calls `to_uuid`.
-fn from_order(alloc: Global, text: &str, out: &mut RowOutput) -> RowResult {
-    let (word, rest) = split_at_space(text);
-    let binary = binary_of(alloc, rest)?;
-    if word == "plain" {
-        put_uuid(&binary.to_uuid(), out);
+fn write_uuid_of_binary(alloc: Global, text: &str, output_line: &mut RowOutput) -> RowResult {
+    let (representation_name, remaining_args) = split_at_space(text);
+    let binary = parse_binary(alloc, remaining_args)?;
+    if representation_name == "plain" {
+        write_uuid(&binary.to_uuid(), output_line);
     } else {
-        let order = order_of(word)?;
-        put_uuid(&binary.to_uuid_with_representation(order), out);
+        let uuid_representation = parse_representation(representation_name)?;
+        write_uuid(
+            &binary.to_uuid_with_representation(uuid_representation),
+            output_line,
+        );
     }
     Ok(())
 }
 
 /// `SUBTYPE BYTES`.
-pub(crate) fn binary_of(alloc: Global, text: &str) -> Result<Binary, RowError> {
+pub(crate) fn parse_binary(alloc: Global, text: &str) -> Result<Binary, RowError> {
     let (subtype, bytes) = split_at_space(text);
     let subtype = BinarySubtype::from(parse_byte(subtype)?);
     let bytes = parse_bytes(alloc, bytes)?;
     Ok(Binary { subtype, bytes })
 }
 
-fn as_value(alloc: Global, text: &str, out: &mut RowOutput) -> RowResult {
+fn write_uuid_value(alloc: Global, text: &str, output_line: &mut RowOutput) -> RowResult {
     let id = Uuid::from_bytes(parse_16_bytes(text)?);
-    out.write_result(Bson::from_uuid(alloc, id));
+    output_line.write_result(Bson::from_uuid(alloc, id));
     Ok(())
 }
 
 /// `binary base64 TEXT`, `binary base64_as SUBTYPE TEXT`, `binary shown SUBTYPE BYTES`, `binary
 /// clone SUBTYPE BYTES`.
-pub(crate) fn call(alloc: Global, rest: &str, out: &mut RowOutput) -> RowResult {
-    let (name, text) = split_at_space(rest);
-    match name {
-        "shown" => shown(alloc, text, out),
-        "clone" => copied(alloc, text, out),
-        "base64" => base64(alloc, None, text, out),
-        "base64_as" => base64_as(alloc, text, out),
+pub(crate) fn run_call(
+    alloc: Global,
+    remaining_args: &str,
+    output_line: &mut RowOutput,
+) -> RowResult {
+    let (call_name, text) = split_at_space(remaining_args);
+    match call_name {
+        "shown" => write_binary_display(alloc, text, output_line),
+        "clone" => write_binary_copy(alloc, text, output_line),
+        "base64" => decode_base64(alloc, None, text, output_line),
+        "base64_as" => decode_base64_as(alloc, text, output_line),
         _ => Err(RowError::InvalidRow),
     }
 }
 
-fn base64(
+fn decode_base64(
     alloc: Global,
     subtype: Option<BinarySubtype>,
     text: &str,
-    out: &mut RowOutput,
+    output_line: &mut RowOutput,
 ) -> RowResult {
-    put_binary(Binary::from_base64(alloc, text, subtype), out);
+    write_binary(Binary::from_base64(alloc, text, subtype), output_line);
     Ok(())
 }
 
-fn base64_as(alloc: Global, text: &str, out: &mut RowOutput) -> RowResult {
+fn decode_base64_as(alloc: Global, text: &str, output_line: &mut RowOutput) -> RowResult {
     let (subtype, text) = split_at_space(text);
-    base64(
+    decode_base64(
         alloc,
         Some(BinarySubtype::from(parse_byte(subtype)?)),
         text,
-        out,
+        output_line,
     )
 }
 
-fn shown(alloc: Global, text: &str, out: &mut RowOutput) -> RowResult {
-    out.write_value(&binary_of(alloc, text)?);
+fn write_binary_display(alloc: Global, text: &str, output_line: &mut RowOutput) -> RowResult {
+    output_line.write_value(&parse_binary(alloc, text)?);
     Ok(())
 }
 
-fn copied(alloc: Global, text: &str, out: &mut RowOutput) -> RowResult {
-    let binary = binary_of(alloc, text)?;
-    out.write_copy(&binary, binary.clone(alloc));
+fn write_binary_copy(alloc: Global, text: &str, output_line: &mut RowOutput) -> RowResult {
+    let binary = parse_binary(alloc, text)?;
+    output_line.write_copy(&binary, binary.clone(alloc));
     Ok(())
 }

@@ -6,114 +6,139 @@ use crate::row_values::parse_document;
 use bson::Document;
 use bson::extjson::{Doubles, Form, KeyOrder, Options};
 use bson_codec::de::{
-    DEPTH, DuplicateKeys, ReadOptions, Result as Read, is_canonical, is_document,
+    DEPTH, DuplicateKeys, ReadOptions, Result as ReadResult, is_canonical, is_document,
 };
 use bson_codec::documents::{Line, Run, run_documents};
 use bson_codec::run_end::RunFault;
-use bson_codec::ser::Result as Written;
+use bson_codec::ser::Result as WriteOutcome;
 use bson_codec::stream::{from_reader, to_writer};
 use bson_codec::{from_bytes, from_slice, front, front_of_bytes, to_vec};
 use std::alloc::Global;
 
-/// Of a writer, so that it takes no memory.
-const CAPACITY: usize = 4096;
+/// Of a writer, so that it needs no memory.
+const WRITER_CAPACITY: usize = 4096;
 
 /// `bytes read BYTES`, `bytes nested DEPTH BYTES`, `bytes front BYTES`, `bytes again BYTES`, `bytes
 /// once BYTES`, `bytes once_nested DEPTH BYTES`, `bytes once_front BYTES`, `bytes once_again BYTES`,
 /// `bytes check BYTES`, `bytes canonical BYTES`, `bytes from BYTES`, `bytes run BYTES`, `bytes
 /// run_on BYTES`, `bytes dump LINE BYTES`, `bytes write DOCUMENT`, `bytes to DOCUMENT`.
-pub(crate) fn call(alloc: Global, rest: &str, out: &mut RowOutput) -> RowResult {
-    let (name, text) = split_at_space(rest);
-    match name {
-        "write" => write(alloc, text, out),
-        "to" => to(alloc, text, out),
-        "nested" | "once_nested" => nested(alloc, name, text, out),
-        "dump" => dump(alloc, text, out),
-        _ => of_bytes(alloc, name, parse_bytes(alloc, text)?, out),
+pub(crate) fn run_call(
+    alloc: Global,
+    remaining_args: &str,
+    output_line: &mut RowOutput,
+) -> RowResult {
+    let (call_name, text) = split_at_space(remaining_args);
+    match call_name {
+        "write" => write_document_bytes(alloc, text, output_line),
+        "to" => write_to_writer(alloc, text, output_line),
+        "nested" | "once_nested" => read_nested(alloc, call_name, text, output_line),
+        "dump" => write_dump(alloc, text, output_line),
+        _ => run_call_on_bytes(alloc, call_name, parse_bytes(alloc, text)?, output_line),
     }
 }
 
 /// The bytes of the document that the text names.
-fn write(alloc: Global, text: &str, out: &mut RowOutput) -> RowResult {
+fn write_document_bytes(alloc: Global, text: &str, output_line: &mut RowOutput) -> RowResult {
     let document = parse_document(alloc, text)?;
-    put_bytes(to_vec(alloc, &document), out);
+    write_encoding(to_vec(alloc, &document), output_line);
     Ok(())
 }
 
-fn put_bytes(written: Written<Vec<u8>>, out: &mut RowOutput) {
-    match written {
-        Ok(bytes) => out.write_hex(bytes.as_slice()),
-        Err(error) => out.write_error(&error),
+fn write_encoding(encoding: WriteOutcome<Vec<u8>>, output_line: &mut RowOutput) {
+    match encoding {
+        Ok(bytes) => output_line.write_hex(bytes.as_slice()),
+        Err(error) => output_line.write_error(&error),
     }
 }
 
 /// `DEPTH BYTES`: the document, in which so many levels are allowed.
-fn nested(alloc: Global, name: &str, text: &str, out: &mut RowOutput) -> RowResult {
+fn read_nested(
+    alloc: Global,
+    call_name: &str,
+    text: &str,
+    output_line: &mut RowOutput,
+) -> RowResult {
     let (depth, bytes) = split_at_space(text);
     let depth = parse_number::<usize>(depth)?;
     let bytes = parse_bytes(alloc, bytes)?;
     let bytes = bytes.as_slice();
-    if name == "once_nested" {
+    if call_name == "once_nested" {
         let options = ReadOptions {
             depth,
-            ..rejecting_duplicates()
+            ..options_rejecting_duplicates()
         };
-        out.write_result(from_bytes(alloc, options, bytes));
+        output_line.write_result(from_bytes(alloc, options, bytes));
     } else {
-        out.write_result(from_slice(alloc, bytes, depth));
+        output_line.write_result(from_slice(alloc, bytes, depth));
     }
     Ok(())
 }
 
 /// Returns options that reject duplicate keys.
-fn rejecting_duplicates() -> ReadOptions {
+fn options_rejecting_duplicates() -> ReadOptions {
     ReadOptions {
         duplicate_keys: DuplicateKeys::Refuse,
         ..ReadOptions::default()
     }
 }
 
-fn of_bytes(alloc: Global, name: &str, bytes: Vec<u8>, out: &mut RowOutput) -> RowResult {
+fn run_call_on_bytes(
+    alloc: Global,
+    call_name: &str,
+    bytes: Vec<u8>,
+    output_line: &mut RowOutput,
+) -> RowResult {
     let bytes = bytes.as_slice();
-    match name {
-        "read" => out.write_result(from_slice(alloc, bytes, DEPTH)),
-        "front" => put_front(front(alloc, bytes, DEPTH), out),
-        "again" => put_again(alloc, from_slice(alloc, bytes, DEPTH), out),
-        "once" => out.write_result(from_bytes(alloc, rejecting_duplicates(), bytes)),
-        "once_front" => put_front(front_of_bytes(alloc, rejecting_duplicates(), bytes), out),
-        "once_again" => put_again(alloc, from_bytes(alloc, rejecting_duplicates(), bytes), out),
-        "check" => put_checked(is_document(bytes, DEPTH), out),
-        "canonical" => out.write_result(is_canonical(alloc, bytes, DEPTH)),
-        "from" => from(alloc, bytes, out),
-        "run" => return run(alloc, Run::default(), bytes, out),
-        "run_on" => return run(alloc, keep_going_run(), bytes, out),
+    match call_name {
+        "read" => output_line.write_result(from_slice(alloc, bytes, DEPTH)),
+        "front" => write_front(front(alloc, bytes, DEPTH), output_line),
+        "again" => write_reencoding(alloc, from_slice(alloc, bytes, DEPTH), output_line),
+        "once" => output_line.write_result(from_bytes(
+            alloc,
+            options_rejecting_duplicates(),
+            bytes,
+        )),
+        "once_front" => write_front(
+            front_of_bytes(alloc, options_rejecting_duplicates(), bytes),
+            output_line,
+        ),
+        "once_again" => write_reencoding(
+            alloc,
+            from_bytes(alloc, options_rejecting_duplicates(), bytes),
+            output_line,
+        ),
+        "check" => write_check_result(is_document(bytes, DEPTH), output_line),
+        "canonical" => output_line.write_result(is_canonical(alloc, bytes, DEPTH)),
+        "from" => read_from_reader(alloc, bytes, output_line),
+        "run" => return write_run(alloc, Run::default(), bytes, output_line),
+        "run_on" => return write_run(alloc, keep_going_run(), bytes, output_line),
         _ => return Err(RowError::InvalidRow),
     }
     Ok(())
 }
 
-fn put_checked(checked: Read<()>, out: &mut RowOutput) {
-    match checked {
-        Ok(()) => out.write_str("Ok"),
-        Err(error) => out.write_error(&error),
+fn write_check_result(check_result: ReadResult<()>, output_line: &mut RowOutput) {
+    match check_result {
+        Ok(()) => output_line.write_str("Ok"),
+        Err(error) => output_line.write_error(&error),
     }
 }
 
 /// Writes the document that is read from a reader of the bytes, and after a `+` the bytes that remain.
-fn from(alloc: Global, bytes: &[u8], out: &mut RowOutput) {
+fn read_from_reader(alloc: Global, bytes: &[u8], output_line: &mut RowOutput) {
     let mut reader = bytes;
-    out.write_result(from_reader(alloc, &mut reader, DEPTH));
-    out.write_word("+");
-    out.write_hex(reader);
+    output_line.write_result(from_reader(alloc, &mut reader, DEPTH));
+    output_line.write_word("+");
+    output_line.write_hex(reader);
 }
 
 /// The bytes that a writer is given of the document, or why it was given none.
-fn to(alloc: Global, text: &str, out: &mut RowOutput) -> RowResult {
+fn write_to_writer(alloc: Global, text: &str, output_line: &mut RowOutput) -> RowResult {
     let document = parse_document(alloc, text)?;
-    let mut written = Vec::with_capacity(alloc, CAPACITY)?;
-    match to_writer(alloc, &document, &mut written) {
-        Ok(()) => out.write_hex(written.as_slice()),
-        Err(error) => out.write_error(&error),
+    let mut written_bytes = Vec::with_capacity(alloc, WRITER_CAPACITY)?;
+    match to_writer(alloc, &document, &mut written_bytes) {
+        Ok(()) => output_line.write_hex(written_bytes.as_slice()),
+        Err(error) => output_line.write_error(&error),
     }
     Ok(())
 }
@@ -126,7 +151,7 @@ fn keep_going_run() -> Run {
 }
 
 /// `LINE BYTES`: a run that goes on, with finite doubles, and writes this of each document.
-fn dump(alloc: Global, text: &str, out: &mut RowOutput) -> RowResult {
+fn write_dump(alloc: Global, text: &str, output_line: &mut RowOutput) -> RowResult {
     let (line, bytes) = split_at_space(text);
     let (line, key_order) = match line.strip_suffix("_in_order") {
         Some(line) => (line, KeyOrder::AsGiven),
@@ -143,50 +168,56 @@ fn dump(alloc: Global, text: &str, out: &mut RowOutput) -> RowResult {
         doubles: Doubles::Finite,
         key_order,
     };
-    let run_of_it = Run {
+    let run_settings = Run {
         options,
         line,
         ..keep_going_run()
     };
     let bytes = parse_bytes(alloc, bytes)?;
-    run(alloc, run_of_it, bytes.as_slice(), out)
+    write_run(alloc, run_settings, bytes.as_slice(), output_line)
 }
 
 /// Writes the output and the diagnostics of a run over the documents, and how it ended.
-fn run(alloc: Global, run: Run, bytes: &[u8], out: &mut RowOutput) -> RowResult {
+fn write_run(alloc: Global, run: Run, bytes: &[u8], output_line: &mut RowOutput) -> RowResult {
     let mut reader = bytes;
-    let mut written = Vec::with_capacity(alloc, CAPACITY)?;
-    let mut reported = Vec::with_capacity(alloc, CAPACITY)?;
-    let ended = run_documents(alloc, run, &mut reader, &mut written, &mut reported);
-    for text in [written.as_slice(), reported.as_slice()] {
+    let mut written_bytes = Vec::with_capacity(alloc, WRITER_CAPACITY)?;
+    let mut diagnostics_text = Vec::with_capacity(alloc, WRITER_CAPACITY)?;
+    let run_result = run_documents(
+        alloc,
+        run,
+        &mut reader,
+        &mut written_bytes,
+        &mut diagnostics_text,
+    );
+    for text in [written_bytes.as_slice(), diagnostics_text.as_slice()] {
         if let Ok(text) = std::str::from_utf8(text) {
-            out.write_str(text);
+            output_line.write_str(text);
         }
     }
-    match ended {
-        Ok(counts) => out.write_debug(&counts),
-        Err(end) if end.fault == RunFault::OutOfMemory => return Err(RowError::OutOfMemory),
-        Err(end) => out.write_debug(&end),
+    match run_result {
+        Ok(counts) => output_line.write_debug(&counts),
+        Err(run_end) if run_end.fault == RunFault::OutOfMemory => return Err(RowError::OutOfMemory),
+        Err(run_end) => output_line.write_debug(&run_end),
     }
     Ok(())
 }
 
 /// Writes the document, and after a `+` the bytes that follow it.
-fn put_front(read: Read<(Document, &[u8])>, out: &mut RowOutput) {
-    match read {
-        Ok((document, rest)) => {
-            out.write_value(&document);
-            out.write_word("+");
-            out.write_hex(rest);
+fn write_front(read_result: ReadResult<(Document, &[u8])>, output_line: &mut RowOutput) {
+    match read_result {
+        Ok((document, remaining_bytes)) => {
+            output_line.write_value(&document);
+            output_line.write_word("+");
+            output_line.write_hex(remaining_bytes);
         }
-        Err(error) => out.write_error(&error),
+        Err(error) => output_line.write_error(&error),
     }
 }
 
-/// Puts the bytes that the document is written as.
-fn put_again(alloc: Global, read: Read<Document>, out: &mut RowOutput) {
-    match read {
-        Ok(document) => put_bytes(to_vec(alloc, &document), out),
-        Err(error) => out.write_error(&error),
+/// Writes the bytes that the document is written as.
+fn write_reencoding(alloc: Global, read_result: ReadResult<Document>, output_line: &mut RowOutput) {
+    match read_result {
+        Ok(document) => write_encoding(to_vec(alloc, &document), output_line),
+        Err(error) => output_line.write_error(&error),
     }
 }

@@ -6,110 +6,142 @@ use crate::row_values::{parse_document, parse_value};
 use bson::{Array, Bson, DateTime, Decimal128, JavaScriptCodeWithScope, Regex};
 use std::alloc::{AllocError, Global};
 
-pub(crate) fn call(alloc: Global, rest: &str, out: &mut RowOutput) -> RowResult {
-    let (name, text) = split_at_space(rest);
-    match name {
-        "list" | "slice" | "values" => of_list(alloc, name, text, out),
-        "document" | "code" => of_document(alloc, name, text, out),
-        "option" | "clone" => of_value(alloc, name, text, out),
-        "binary" | "pointer" | "id" | "bytes" | "timestamp" => of_part(alloc, name, text, out),
-        "string" => put_made(Bson::string(alloc, text), out),
-        "regex" => of_regex(alloc, text, out),
-        _ => of_text(alloc, name, text, out),
+pub(crate) fn run_call(
+    alloc: Global,
+    remaining_args: &str,
+    output_line: &mut RowOutput,
+) -> RowResult {
+    let (call_name, text) = split_at_space(remaining_args);
+    match call_name {
+        "list" | "slice" | "values" => convert_list(alloc, call_name, text, output_line),
+        "document" | "code" => convert_document(alloc, call_name, text, output_line),
+        "option" | "clone" => convert_value(alloc, call_name, text, output_line),
+        "binary" | "pointer" | "id" | "bytes" | "timestamp" => convert_content(
+            alloc,
+            call_name,
+            text,
+            output_line,
+        ),
+        "string" => write_created(Bson::string(alloc, text), output_line),
+        "regex" => convert_regex(alloc, text, output_line),
+        _ => convert_argument(alloc, call_name, text, output_line),
     }
 }
 
-fn put(value: Bson, out: &mut RowOutput) -> RowResult {
-    out.write_debug(&value.element_type());
-    out.write_item(&value);
+fn write_converted(value: Bson, output_line: &mut RowOutput) -> RowResult {
+    output_line.write_debug(&value.element_type());
+    output_line.write_item(&value);
     Ok(())
 }
 
-fn put_made(made: Result<Bson, AllocError>, out: &mut RowOutput) -> RowResult {
-    match made {
-        Ok(value) => return put(value, out),
-        Err(error) => out.write_error(&error),
+fn write_created(created: Result<Bson, AllocError>, output_line: &mut RowOutput) -> RowResult {
+    match created {
+        Ok(value) => return write_converted(value, output_line),
+        Err(error) => output_line.write_error(&error),
     }
     Ok(())
 }
 
-fn of_text(alloc: Global, name: &str, text: &str, out: &mut RowOutput) -> RowResult {
-    match name {
-        "i32" => put(Bson::from(parse_number::<i32>(text)?), out),
-        "i64" => put(Bson::from(parse_number::<i64>(text)?), out),
-        "u32" => put(Bson::from(parse_number::<u32>(text)?), out),
-        "bool" => put(Bson::from(text == "true"), out),
-        "date" => put(
+fn convert_argument(
+    alloc: Global,
+    call_name: &str,
+    text: &str,
+    output_line: &mut RowOutput,
+) -> RowResult {
+    match call_name {
+        "i32" => write_converted(Bson::from(parse_number::<i32>(text)?), output_line),
+        "i64" => write_converted(Bson::from(parse_number::<i64>(text)?), output_line),
+        "u32" => write_converted(Bson::from(parse_number::<u32>(text)?), output_line),
+        "bool" => write_converted(Bson::from(text == "true"), output_line),
+        "date" => write_converted(
             Bson::from(DateTime::from_millis(parse_number::<i64>(text)?)),
-            out,
+            output_line,
         ),
-        "decimal" => put(
+        "decimal" => write_converted(
             Bson::from(Decimal128::from_bytes(parse_16_bytes(text)?)),
-            out,
+            output_line,
         ),
-        "String" => put(Bson::from(String::from_str(alloc, text)?), out),
-        "nothing" => put(Bson::from_option(None), out),
-        "default" => put(Bson::default(), out),
+        "String" => write_converted(Bson::from(String::from_str(alloc, text)?), output_line),
+        "nothing" => write_converted(Bson::from_option(None), output_line),
+        "default" => write_converted(Bson::default(), output_line),
         _ => Err(RowError::InvalidRow),
     }
 }
 
-fn list_of(alloc: Global, text: &str) -> Result<Array, RowError> {
+fn parse_array(alloc: Global, text: &str) -> Result<Array, RowError> {
     match parse_value(alloc, text)? {
         Bson::Array(list) => Ok(list),
         _ => Err(RowError::InvalidRow),
     }
 }
 
-fn of_list(alloc: Global, name: &str, text: &str, out: &mut RowOutput) -> RowResult {
-    let list = list_of(alloc, text)?;
-    match name {
-        "list" => put(Bson::from(list), out),
-        "slice" => put_made(Bson::from_slice(alloc, list.as_slice()), out),
-        // (the values of a list alone would be collected in its own room)
-        _ => put_made(Bson::from_values(alloc, list.into_iter().chain(None)), out),
+fn convert_list(
+    alloc: Global,
+    call_name: &str,
+    text: &str,
+    output_line: &mut RowOutput,
+) -> RowResult {
+    let list = parse_array(alloc, text)?;
+    match call_name {
+        "list" => write_converted(Bson::from(list), output_line),
+        "slice" => write_created(Bson::from_slice(alloc, list.as_slice()), output_line),
+        // (the values of a list alone would be collected in its own buffer)
+        _ => write_created(
+            Bson::from_values(alloc, list.into_iter().chain(None)),
+            output_line,
+        ),
     }
 }
 
 /// A document, or code `f` with it as the scope, by a copy.
-fn of_document(alloc: Global, name: &str, text: &str, out: &mut RowOutput) -> RowResult {
+fn convert_document(
+    alloc: Global,
+    call_name: &str,
+    text: &str,
+    output_line: &mut RowOutput,
+) -> RowResult {
     let scope = parse_document(alloc, text)?;
-    if name == "document" {
-        return put(Bson::from(scope), out);
+    if call_name == "document" {
+        return write_converted(Bson::from(scope), output_line);
     }
     let code = String::from_str(alloc, "f")?;
-    let made = JavaScriptCodeWithScope { code, scope };
-    let copy = made.clone(alloc);
-    put_copy(made, copy, out)
+    let created = JavaScriptCodeWithScope { code, scope };
+    let copy = created.clone(alloc);
+    write_converted_copy(created, copy, output_line)
 }
 
-/// An option that holds the value, or a copy of the value.
-fn of_value(alloc: Global, name: &str, text: &str, out: &mut RowOutput) -> RowResult {
+/// An option that contains the value, or a copy of the value.
+fn convert_value(
+    alloc: Global,
+    call_name: &str,
+    text: &str,
+    output_line: &mut RowOutput,
+) -> RowResult {
     let value = parse_value(alloc, text)?;
-    if name == "option" {
-        return put(Bson::from_option(Some(value)), out);
+    if call_name == "option" {
+        return write_converted(Bson::from_option(Some(value)), output_line);
     }
     let copy = value.clone(alloc);
-    put_copy(value, copy, out)
+    write_converted_copy(value, copy, output_line)
 }
 
 /// `PATTERN OPTIONS`, by `Regex::new`, and a copy of it.
-fn of_regex(alloc: Global, text: &str, out: &mut RowOutput) -> RowResult {
+fn convert_regex(alloc: Global, text: &str, output_line: &mut RowOutput) -> RowResult {
     let (pattern, options) = split_at_space(text);
     match Regex::new(alloc, pattern, options) {
-        Ok(made) => {
-            let copy = made.clone(alloc);
-            put_copy(made, copy, out)
+        Ok(created) => {
+            let copy = created.clone(alloc);
+            write_converted_copy(created, copy, output_line)
         }
-        Err(error) => put_made(Err(error), out),
+        Err(error) => write_created(Err(error), output_line),
     }
 }
 
-/// Puts the value of a copy, and before it whether it is another one.
-fn put_copy<T: PartialEq + Drop>(
+/// Writes the value of a copy, and before it whether it is another one.
+fn write_converted_copy<T: PartialEq + Drop>(
     value: T,
     copy: Result<T, AllocError>,
-    out: &mut RowOutput,
+    output_line: &mut RowOutput,
 ) -> RowResult
 where
     Bson: From<T>,
@@ -117,22 +149,30 @@ where
     match copy {
         Ok(copy) => {
             if copy != value {
-                out.write_str("another ");
+                output_line.write_str("another ");
             }
-            put(Bson::from(copy), out)
+            write_converted(Bson::from(copy), output_line)
         }
-        Err(error) => put_made(Err(error), out),
+        Err(error) => write_created(Err(error), output_line),
     }
 }
 
-/// The value of what another one holds.
-fn of_part(alloc: Global, name: &str, text: &str, out: &mut RowOutput) -> RowResult {
-    match (name, parse_value(alloc, text)?) {
-        ("binary", Bson::Binary(binary)) => put(Bson::from(binary), out),
-        ("pointer", Bson::DbPointer(pointer)) => put(Bson::from(pointer), out),
-        ("id", Bson::ObjectId(id)) => put(Bson::from(id), out),
-        ("bytes", Bson::ObjectId(id)) => put(Bson::from(id.bytes()), out),
-        ("timestamp", Bson::Timestamp(timestamp)) => put(Bson::from(timestamp), out),
+/// The value of the content of another value.
+fn convert_content(
+    alloc: Global,
+    call_name: &str,
+    text: &str,
+    output_line: &mut RowOutput,
+) -> RowResult {
+    match (call_name, parse_value(alloc, text)?) {
+        ("binary", Bson::Binary(binary)) => write_converted(Bson::from(binary), output_line),
+        ("pointer", Bson::DbPointer(pointer)) => write_converted(Bson::from(pointer), output_line),
+        ("id", Bson::ObjectId(id)) => write_converted(Bson::from(id), output_line),
+        ("bytes", Bson::ObjectId(id)) => write_converted(Bson::from(id.bytes()), output_line),
+        ("timestamp", Bson::Timestamp(timestamp)) => write_converted(
+            Bson::from(timestamp),
+            output_line,
+        ),
         _ => Err(RowError::InvalidRow),
     }
 }

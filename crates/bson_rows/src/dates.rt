@@ -7,16 +7,20 @@ use bson::datetime::{DateTimeBuilder, Day, Month, Year};
 use std::alloc::Global;
 use std::time::Duration;
 
-pub(crate) fn call(alloc: Global, rest: &str, out: &mut RowOutput) -> RowResult {
-    let (name, text) = split_at_space(rest);
-    match name {
-        "read" => put_moment(DateTime::parse_rfc3339_str(text), out),
-        "build" => build(text, out),
-        _ => of_moment(alloc, name, text, out),
+pub(crate) fn run_call(
+    alloc: Global,
+    remaining_args: &str,
+    output_line: &mut RowOutput,
+) -> RowResult {
+    let (call_name, text) = split_at_space(remaining_args);
+    match call_name {
+        "read" => write_date_time(DateTime::parse_rfc3339_str(text), output_line),
+        "build" => build_date_time(text, output_line),
+        _ => run_call_on_date(alloc, call_name, text, output_line),
     }
 }
 
-fn moment(text: &str) -> Result<DateTime, RowError> {
+fn parse_date_time(text: &str) -> Result<DateTime, RowError> {
     match text {
         "MIN" => Ok(DateTime::MIN),
         "MAX" => Ok(DateTime::MAX),
@@ -24,29 +28,39 @@ fn moment(text: &str) -> Result<DateTime, RowError> {
     }
 }
 
-fn put_moment(parsed: bson::datetime::Result<DateTime>, out: &mut RowOutput) -> RowResult {
+fn write_date_time(
+    parsed: bson::datetime::Result<DateTime>,
+    output_line: &mut RowOutput,
+) -> RowResult {
     match parsed {
-        Ok(at) => out.write_display(&at.timestamp_millis()),
-        Err(error) => out.write_error(&error),
+        Ok(date_time) => output_line.write_display(&date_time.timestamp_millis()),
+        Err(error) => output_line.write_error(&error),
     }
     Ok(())
 }
 
 /// The calls on a moment.
-fn of_moment(alloc: Global, name: &str, text: &str, out: &mut RowOutput) -> RowResult {
-    let (at, rest) = split_at_space(text);
-    let at = moment(at)?;
-    match name {
-        "written" => out.write_result(at.try_to_rfc3339_string(alloc)),
-        "shown" => out.write_value(&at),
-        "order" => out.write_ordering(at, moment(rest)?),
-        "since" => put_since(at, moment(rest)?, out),
-        "add_millis" => out.write_display(
-            &at.saturating_add_millis(parse_number::<i64>(rest)?)
+fn run_call_on_date(
+    alloc: Global,
+    call_name: &str,
+    text: &str,
+    output_line: &mut RowOutput,
+) -> RowResult {
+    let (date_time, remaining_args) = split_at_space(text);
+    let date_time = parse_date_time(date_time)?;
+    match call_name {
+        "written" => output_line.write_result(date_time.try_to_rfc3339_string(alloc)),
+        "shown" => output_line.write_value(&date_time),
+        "order" => output_line.write_ordering(date_time, parse_date_time(remaining_args)?),
+        "since" => write_difference(date_time, parse_date_time(remaining_args)?, output_line),
+        "add_millis" => output_line.write_display(
+            &date_time
+                .saturating_add_millis(parse_number::<i64>(remaining_args)?)
                 .timestamp_millis(),
         ),
-        "add_duration" => out.write_display(
-            &at.saturating_add_duration(duration(rest)?)
+        "add_duration" => output_line.write_display(
+            &date_time
+                .saturating_add_duration(parse_duration(remaining_args)?)
                 .timestamp_millis(),
         ),
         _ => return Err(RowError::InvalidRow),
@@ -56,32 +70,32 @@ fn of_moment(alloc: Global, name: &str, text: &str, out: &mut RowOutput) -> RowR
 
 /// `YEAR MONTH DAY` and then any of `hour:H minute:M second:S millisecond:MS`, of which the last
 /// call of each counts.
-fn build(text: &str, out: &mut RowOutput) -> RowResult {
-    let (year, rest) = split_at_space(text);
-    let (month, rest) = split_at_space(rest);
-    let (day, rest) = split_at_space(rest);
+fn build_date_time(text: &str, output_line: &mut RowOutput) -> RowResult {
+    let (year, remaining_args) = split_at_space(text);
+    let (month, remaining_args) = split_at_space(remaining_args);
+    let (day, remaining_args) = split_at_space(remaining_args);
     let mut builder = DateTime::builder()
         .day(parse_number::<u8>(day)?)
         .year(parse_number::<i32>(year)?)
         .month(parse_number::<u8>(month)?);
-    for part in rest.split_whitespace() {
-        builder = with_part(builder, part)?;
+    for unit_and_amount in remaining_args.split_whitespace() {
+        builder = with_time_unit(builder, unit_and_amount)?;
     }
-    put_moment(builder.build(), out)
+    write_date_time(builder.build(), output_line)
 }
 
 type Builder = DateTimeBuilder<Year, Month, Day>;
 
-fn with_part(builder: Builder, part: &str) -> Result<Builder, RowError> {
-    let (name, amount) = split_at_colon(part);
+fn with_time_unit(builder: Builder, unit_and_amount: &str) -> Result<Builder, RowError> {
+    let (unit, amount) = split_at_colon(unit_and_amount);
     let amount = parse_number::<u16>(amount)?;
-    if name == "millisecond" {
+    if unit == "millisecond" {
         return Ok(builder.millisecond(amount));
     }
     let Ok(amount) = u8::try_from(amount) else {
         return Err(RowError::InvalidRow);
     };
-    match name {
+    match unit {
         "hour" => Ok(builder.hour(amount)),
         "minute" => Ok(builder.minute(amount)),
         _ => Ok(builder.second(amount)),
@@ -89,7 +103,7 @@ fn with_part(builder: Builder, part: &str) -> Result<Builder, RowError> {
 }
 
 /// `Nms` or `Nus`.
-fn duration(text: &str) -> Result<Duration, RowError> {
+fn parse_duration(text: &str) -> Result<Duration, RowError> {
     if let Some(micros) = text.strip_suffix("us") {
         return Ok(Duration::from_micros(parse_number::<u64>(micros)?));
     }
@@ -100,16 +114,16 @@ fn duration(text: &str) -> Result<Duration, RowError> {
 }
 
 /// Writes the checked difference, and then the saturating one.
-fn put_since(at: DateTime, earlier: DateTime, out: &mut RowOutput) {
-    match at.checked_duration_since(earlier) {
-        Some(difference) => put_millis(difference, out),
-        None => out.write_str("None"),
+fn write_difference(date_time: DateTime, earlier: DateTime, output_line: &mut RowOutput) {
+    match date_time.checked_duration_since(earlier) {
+        Some(difference) => write_millis(difference, output_line),
+        None => output_line.write_str("None"),
     }
-    out.write_str(", ");
-    put_millis(at.saturating_duration_since(earlier), out);
+    output_line.write_str(", ");
+    write_millis(date_time.saturating_duration_since(earlier), output_line);
 }
 
-fn put_millis(difference: Duration, out: &mut RowOutput) {
-    out.write_display(&difference.as_millis());
-    out.write_str(" ms");
+fn write_millis(difference: Duration, output_line: &mut RowOutput) {
+    output_line.write_display(&difference.as_millis());
+    output_line.write_str(" ms");
 }

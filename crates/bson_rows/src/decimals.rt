@@ -4,32 +4,32 @@ use crate::row_error::{RowError, RowResult};
 use crate::row_output::RowOutput;
 use bson::Decimal128;
 
-pub(crate) fn call(rest: &str, out: &mut RowOutput) -> RowResult {
-    let (name, text) = split_at_space(rest);
-    match name {
-        "read" => out.write_result(text.parse::<Decimal128>()),
-        "bits" => bits(text, out),
-        "print" => return print(text, out),
+pub(crate) fn run_call(remaining_args: &str, output_line: &mut RowOutput) -> RowResult {
+    let (call_name, text) = split_at_space(remaining_args);
+    match call_name {
+        "read" => output_line.write_result(text.parse::<Decimal128>()),
+        "bits" => write_decimal_bytes(text, output_line),
+        "print" => return print_decimal(text, output_line),
         _ => return Err(RowError::InvalidRow),
     }
     Ok(())
 }
 
 /// The 16 bytes of what is read.
-fn bits(text: &str, out: &mut RowOutput) {
+fn write_decimal_bytes(text: &str, output_line: &mut RowOutput) {
     match text.parse::<Decimal128>() {
-        Ok(decimal) => out.write_hex(&decimal.bytes()),
-        Err(error) => out.write_error(&error),
+        Ok(decimal) => output_line.write_hex(&decimal.bytes()),
+        Err(error) => output_line.write_error(&error),
     }
 }
 
 /// What the 16 bytes print as.
-fn print(text: &str, out: &mut RowOutput) -> RowResult {
+fn print_decimal(text: &str, output_line: &mut RowOutput) -> RowResult {
     let bytes = parse_16_bytes(text)?;
     let decimal = Decimal128::from_bytes(bytes);
     if decimal.bytes() != bytes {
-        out.write_str("other bytes ");
+        output_line.write_str("other bytes ");
     }
-    out.write_value(&decimal);
+    output_line.write_value(&decimal);
     Ok(())
 }

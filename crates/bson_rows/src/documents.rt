@@ -14,49 +14,67 @@ use bson::store::Pair;
 use bson::{Bson, Document};
 use std::alloc::Global;
 
-pub(crate) fn call(alloc: Global, rest: &str, out: &mut RowOutput) -> RowResult {
+pub(crate) fn run_call(
+    alloc: Global,
+    remaining_args: &str,
+    output_line: &mut RowOutput,
+) -> RowResult {
     let mut document = Document::new(alloc);
-    let done = run_all(alloc, &mut document, rest, out);
-    out.write_word("-> ");
-    out.write_value(&document);
-    done
+    let run_result = run_commands(alloc, &mut document, remaining_args, output_line);
+    output_line.write_word("-> ");
+    output_line.write_value(&document);
+    run_result
 }
 
-pub(crate) fn entries(alloc: Global, rest: &str, out: &mut RowOutput) -> RowResult {
+pub(crate) fn write_entries(
+    alloc: Global,
+    remaining_args: &str,
+    output_line: &mut RowOutput,
+) -> RowResult {
     let mut entries = Vec::new(alloc);
-    for word in rest.split_whitespace() {
-        let (key, value) = split_at_colon(word);
+    for entry_text in remaining_args.split_whitespace() {
+        let (key, value) = split_at_colon(entry_text);
         let key = String::from_str(alloc, key)?;
         let value = Bson::Int32(parse_number::<i32>(value)?);
         entries.push(Pair { key, value })?;
     }
     match Document::from_entries(alloc, entries) {
         Ok(document) => {
-            out.write_value(&document);
+            output_line.write_value(&document);
             Ok(())
         }
         Err(_) => Err(RowError::OutOfMemory),
     }
 }
 
-fn run_all(alloc: Global, document: &mut Document, rest: &str, out: &mut RowOutput) -> RowResult {
-    for command in rest.split_whitespace() {
-        run(alloc, document, command, out)?;
+fn run_commands(
+    alloc: Global,
+    document: &mut Document,
+    remaining_args: &str,
+    output_line: &mut RowOutput,
+) -> RowResult {
+    for command in remaining_args.split_whitespace() {
+        run_command(alloc, document, command, output_line)?;
     }
     Ok(())
 }
 
-fn run(alloc: Global, document: &mut Document, command: &str, out: &mut RowOutput) -> RowResult {
-    let (name, rest) = split_at_colon(command);
-    match name {
-        "remove" => out.write_option(document.remove(rest)),
-        "get" => out.write_option(document.get(rest)),
+fn run_command(
+    alloc: Global,
+    document: &mut Document,
+    command: &str,
+    output_line: &mut RowOutput,
+) -> RowResult {
+    let (command_name, remaining_args) = split_at_colon(command);
+    match command_name {
+        "remove" => output_line.write_option(document.remove(remaining_args)),
+        "get" => output_line.write_option(document.get(remaining_args)),
         "clear" => document.clear(),
-        "len" => put_len(document, out),
-        "keys" => put_keys(document, out),
-        "values" => put_values(document, out),
-        "clone" => put_copy(document, out),
-        _ => return run_with_number(alloc, document, name, rest, out),
+        "len" => write_len(document, output_line),
+        "keys" => write_keys(document, output_line),
+        "values" => write_values(document, output_line),
+        "clone" => write_document_copy(document, output_line),
+        _ => return run_with_number(alloc, document, command_name, remaining_args, output_line),
     }
     Ok(())
 }
@@ -65,132 +83,161 @@ fn run(alloc: Global, document: &mut Document, command: &str, out: &mut RowOutpu
 fn run_with_number(
     alloc: Global,
     document: &mut Document,
-    name: &str,
-    rest: &str,
-    out: &mut RowOutput,
+    command_name: &str,
+    remaining_args: &str,
+    output_line: &mut RowOutput,
 ) -> RowResult {
-    let (key, value) = split_at_colon(rest);
-    match name {
-        "insert" => insert(alloc, document, key, parse_number::<i32>(value)?, out),
-        "write" => write_value(document, key, parse_number::<i32>(value)?, out),
-        "place" => write_place(
+    let (key, value) = split_at_colon(remaining_args);
+    match command_name {
+        "insert" => insert_value(
+            alloc,
+            document,
+            key,
+            parse_number::<i32>(value)?,
+            output_line,
+        ),
+        "write" => write_value_of_key(document, key, parse_number::<i32>(value)?, output_line),
+        "place" => write_value_at_place(
             document,
             parse_number::<usize>(key)?,
             parse_number::<i32>(value)?,
-            out,
+            output_line,
         ),
-        "write_at" => write_at(
+        "write_at" => write_value_at_index(
             document,
             parse_number::<usize>(key)?,
             parse_number::<i32>(value)?,
-            out,
+            output_line,
         ),
-        _ => of_entry(alloc, document, name, key, value, out),
+        _ => run_entry_command(alloc, document, command_name, key, value, output_line),
     }
 }
 
-fn insert(
+fn insert_value(
     alloc: Global,
     document: &mut Document,
     key: &str,
     value: i32,
-    out: &mut RowOutput,
+    output_line: &mut RowOutput,
 ) -> RowResult {
     let key = String::from_str(alloc, key)?;
     match document.insert(key, Bson::Int32(value)) {
-        Ok(old) => out.write_option(old),
-        Err(error) => out.write_error(&error),
+        Ok(old_value) => output_line.write_option(old_value),
+        Err(error) => output_line.write_error(&error),
     }
     Ok(())
 }
 
-fn set(place: &mut Bson, value: i32) {
+fn set_int32(place: &mut Bson, value: i32) {
     *place = Bson::Int32(value);
 }
 
-fn write_value(document: &mut Document, key: &str, value: i32, out: &mut RowOutput) -> RowResult {
+fn write_value_of_key(
+    document: &mut Document,
+    key: &str,
+    value: i32,
+    output_line: &mut RowOutput,
+) -> RowResult {
     match document.get_mut(key) {
-        Some(place) => set(place, value),
-        None => out.write_word("None"),
+        Some(place) => set_int32(place, value),
+        None => output_line.write_word("None"),
     }
     Ok(())
 }
 
-fn write_at(document: &mut Document, at: usize, value: i32, out: &mut RowOutput) -> RowResult {
-    match document.get_index_mut(at) {
+fn write_value_at_index(
+    document: &mut Document,
+    pair_index: usize,
+    value: i32,
+    output_line: &mut RowOutput,
+) -> RowResult {
+    match document.get_index_mut(pair_index) {
         Some((key, place)) => {
-            set(place, value);
-            out.write_item(key);
+            set_int32(place, value);
+            output_line.write_item(key);
         }
-        None => out.write_word("None"),
+        None => output_line.write_word("None"),
     }
     Ok(())
 }
 
-fn write_place(document: &mut Document, at: usize, value: i32, out: &mut RowOutput) -> RowResult {
-    match document.place_mut(at) {
+fn write_value_at_place(
+    document: &mut Document,
+    pair_index: usize,
+    value: i32,
+    output_line: &mut RowOutput,
+) -> RowResult {
+    match document.place_mut(pair_index) {
         Some(place) => {
-            out.write_item(place.key());
-            set(place.into_value(), value);
+            output_line.write_item(place.key());
+            set_int32(place.into_value(), value);
         }
-        None => out.write_word("None"),
+        None => output_line.write_word("None"),
     }
     Ok(())
 }
 
 /// The commands of an entry: what it lends is the reply, or its key.
-fn of_entry(
+fn run_entry_command(
     alloc: Global,
     document: &mut Document,
-    name: &str,
+    command_name: &str,
     key: &str,
     value: &str,
-    out: &mut RowOutput,
+    output_line: &mut RowOutput,
 ) -> RowResult {
     let key = String::from_str(alloc, key)?;
-    match name {
-        "key" => out.write_word(document.entry(key).key()),
-        "entry" => put_entry(document.entry(key), parse_number::<i32>(value)?, out),
-        "entry_with" => put_entry_with(document.entry(key), parse_number::<i32>(value)?, out),
+    match command_name {
+        "key" => output_line.write_word(document.entry(key).key()),
+        "entry" => insert_entry(
+            document.entry(key),
+            parse_number::<i32>(value)?,
+            output_line,
+        ),
+        "entry_with" => insert_entry_with(
+            document.entry(key),
+            parse_number::<i32>(value)?,
+            output_line,
+        ),
         _ => return Err(RowError::InvalidRow),
     }
     Ok(())
 }
 
-fn put_entry(entry: Entry<'_>, value: i32, out: &mut RowOutput) {
+fn insert_entry(entry: Entry<'_>, value: i32, output_line: &mut RowOutput) {
     match entry.or_insert(Bson::Int32(value)) {
-        Ok(place) => out.write_item(place),
-        Err(error) => out.write_error(&error),
+        Ok(place) => output_line.write_item(place),
+        Err(error) => output_line.write_error(&error),
     }
 }
 
-fn put_entry_with(entry: Entry<'_>, value: i32, out: &mut RowOutput) {
+fn insert_entry_with(entry: Entry<'_>, value: i32, output_line: &mut RowOutput) {
     match entry.or_insert_with(|| Bson::Int32(value)) {
-        Ok(place) => out.write_item(place),
-        Err(error) => out.write_error(&error),
+        Ok(place) => output_line.write_item(place),
+        Err(error) => output_line.write_error(&error),
     }
 }
 
-fn put_len(document: &Document, out: &mut RowOutput) {
-    out.write_item(&document.len());
+fn write_len(document: &Document, output_line: &mut RowOutput) {
+    output_line.write_item(&document.len());
     if document.is_empty() {
-        out.write_word("empty");
+        output_line.write_word("empty");
     }
 }
 
-fn put_keys(document: &Document, out: &mut RowOutput) {
+fn write_keys(document: &Document, output_line: &mut RowOutput) {
     for key in document.keys() {
-        out.write_item(key);
+        output_line.write_item(key);
     }
 }
 
-fn put_values(document: &Document, out: &mut RowOutput) {
+fn write_values(document: &Document, output_line: &mut RowOutput) {
     for value in document.values() {
-        out.write_item(value);
+        output_line.write_item(value);
     }
 }
 
-fn put_copy(document: &Document, out: &mut RowOutput) {
-    out.write_space();
-    out.write_copy(document, document.clone());
+fn write_document_copy(document: &Document, output_line: &mut RowOutput) {
+    output_line.write_space();
+    output_line.write_copy(document, document.clone());
 }

@@ -4,12 +4,12 @@ use crate::row_error::{RowError, RowResult};
 use crate::row_output::RowOutput;
 use bson_double::{double_of_text, double_text, is_finite};
 
-pub(crate) fn call(rest: &str, out: &mut RowOutput) -> RowResult {
-    let (name, text) = split_at_space(rest);
-    match name {
-        "text" => write_double(text, out),
+pub(crate) fn run_call(remaining_args: &str, output_line: &mut RowOutput) -> RowResult {
+    let (call_name, text) = split_at_space(remaining_args);
+    match call_name {
+        "text" => write_double(text, output_line),
         "read" => {
-            read(text, out);
+            read_double(text, output_line);
             Ok(())
         }
         _ => Err(RowError::InvalidRow),
@@ -17,20 +17,20 @@ pub(crate) fn call(rest: &str, out: &mut RowOutput) -> RowResult {
 }
 
 /// The text of the double of the pattern.
-fn write_double(pattern: &str, out: &mut RowOutput) -> RowResult {
+fn write_double(pattern: &str, output_line: &mut RowOutput) -> RowResult {
     let pattern = parse_double_bits(pattern)?;
     if is_finite(pattern) {
-        out.write_str(double_text(pattern).as_str());
+        output_line.write_str(double_text(pattern).as_str());
     } else {
-        out.write_str("not finite");
+        output_line.write_str("not finite");
     }
     Ok(())
 }
 
 /// The pattern of the double that the text means.
-fn read(text: &str, out: &mut RowOutput) {
+fn read_double(text: &str, output_line: &mut RowOutput) {
     match double_of_text(text.as_bytes()) {
-        Ok(pattern) => out.write_hex(&pattern.to_be_bytes()),
-        Err(error) => out.write_error(&error),
+        Ok(pattern) => output_line.write_hex(&pattern.to_be_bytes()),
+        Err(error) => output_line.write_error(&error),
     }
 }

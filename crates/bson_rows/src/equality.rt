@@ -8,36 +8,46 @@ use std::alloc::Global;
 use std::hash::{Hash, Hasher};
 
 /// Whether the values are equal, and whether they feed a hasher alike.
-pub(crate) fn same(alloc: Global, rest: &str, out: &mut RowOutput) -> RowResult {
-    let Some((one, other)) = rest.split_once(" and ") else {
+pub(crate) fn write_equality(
+    alloc: Global,
+    remaining_args: &str,
+    output_line: &mut RowOutput,
+) -> RowResult {
+    let Some((first_value, second_value)) = remaining_args.split_once(" and ") else {
         return Err(RowError::InvalidRow);
     };
-    let one = parse_value(alloc, one)?;
-    let other = parse_value(alloc, other)?;
-    compare(&one, &other, out);
+    let first_value = parse_value(alloc, first_value)?;
+    let second_value = parse_value(alloc, second_value)?;
+    write_comparison(&first_value, &second_value, output_line);
     Ok(())
 }
 
-fn compare(one: &Bson, other: &Bson, out: &mut RowOutput) {
-    out.write_str(match (one == other, other == one) {
-        (true, true) => "equal",
-        (false, false) => "unequal",
-        _ => "equal one way alone",
-    });
-    if hash_of(one) == hash_of(other) {
-        out.write_str(", equal hashes");
+fn write_comparison(first_value: &Bson, second_value: &Bson, output_line: &mut RowOutput) {
+    output_line.write_str(
+        match (first_value == second_value, second_value == first_value) {
+            (true, true) => "equal",
+            (false, false) => "unequal",
+            _ => "equal one way alone",
+        },
+    );
+    if hash_of(first_value) == hash_of(second_value) {
+        output_line.write_str(", equal hashes");
     }
 }
 
 fn hash_of(value: &Bson) -> u64 {
-    let mut state = Fnv::new();
-    value.hash(&mut state);
-    state.finish()
+    let mut hasher = Fnv::new();
+    value.hash(&mut hasher);
+    hasher.finish()
 }
 
 /// What FNV-1a makes of the bytes that the value feeds it.
-pub(crate) fn hash(alloc: Global, rest: &str, out: &mut RowOutput) -> RowResult {
-    let value = parse_value(alloc, rest)?;
-    out.write_hex(&hash_of(&value).to_be_bytes());
+pub(crate) fn write_hash(
+    alloc: Global,
+    remaining_args: &str,
+    output_line: &mut RowOutput,
+) -> RowResult {
+    let value = parse_value(alloc, remaining_args)?;
+    output_line.write_hex(&hash_of(&value).to_be_bytes());
     Ok(())
 }

@@ -10,32 +10,36 @@ use bson::store::Stopped;
 use bson::{binary, datetime, extjson, oid};
 use std::alloc::Global;
 
-pub(crate) fn call(alloc: Global, rest: &str, out: &mut RowOutput) -> RowResult {
-    let (name, text) = split_at_space(rest);
-    match name {
-        "oid" => out.write_value(&oid::Error::OutOfMemory),
-        "datetime" => out.write_value(&datetime::Error::OutOfMemory),
-        "binary" => out.write_value(&binary::Error::OutOfMemory),
-        "extjson::de" => out.write_value(&extjson::de::Error::OutOfMemory),
-        "extjson" => out.write_value(&WriteError::OutOfMemory),
-        "refused" => return refused(alloc, text, out),
-        "stopped" => return stopped(text, out),
+pub(crate) fn run_call(
+    alloc: Global,
+    remaining_args: &str,
+    output_line: &mut RowOutput,
+) -> RowResult {
+    let (call_name, text) = split_at_space(remaining_args);
+    match call_name {
+        "oid" => output_line.write_value(&oid::Error::OutOfMemory),
+        "datetime" => output_line.write_value(&datetime::Error::OutOfMemory),
+        "binary" => output_line.write_value(&binary::Error::OutOfMemory),
+        "extjson::de" => output_line.write_value(&extjson::de::Error::OutOfMemory),
+        "extjson" => output_line.write_value(&WriteError::OutOfMemory),
+        "refused" => return write_refused(alloc, text, output_line),
+        "stopped" => return write_stopped(text, output_line),
         _ => return Err(RowError::InvalidRow),
     }
     Ok(())
 }
 
-/// `KEY VALUE`: the pair that was not put.
-fn refused(alloc: Global, text: &str, out: &mut RowOutput) -> RowResult {
+/// `KEY VALUE`: the pair that was not inserted.
+fn write_refused(alloc: Global, text: &str, output_line: &mut RowOutput) -> RowResult {
     let (key, text) = split_at_space(text);
     let key = String::from_str(alloc, key)?;
     let value = parse_value(alloc, text)?;
-    out.write_value(&Refused { key, value });
+    output_line.write_value(&Refused { key, value });
     Ok(())
 }
 
-fn stopped(text: &str, out: &mut RowOutput) -> RowResult {
+fn write_stopped(text: &str, output_line: &mut RowOutput) -> RowResult {
     let done = parse_number::<usize>(text)?;
-    out.write_value(&Stopped { done });
+    output_line.write_value(&Stopped { done });
     Ok(())
 }

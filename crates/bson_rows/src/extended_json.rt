@@ -6,34 +6,49 @@ use crate::row_output::{RowOutput, Style};
 use crate::row_values::{parse_tree, parse_value};
 use crate::value_steps;
 use bson::extjson::WriteError;
-use bson::extjson::de::{Error, Result as Read, TextError};
+use bson::extjson::de::{Error, Result as ReadResult, TextError};
 use bson::{Bson, Document};
 use serde_json::Value;
 use std::alloc::{AllocError, Global};
 
 /// `FORM VALUE`: the value is read or made, and written. An error shows which step failed.
-pub(crate) fn call(alloc: Global, form: &str, rest: &str, out: &mut RowOutput) -> RowResult {
-    match rest.strip_prefix("made ") {
-        Some(made) => put_value(alloc, form, value_steps::make_value(alloc, made)?, out),
-        None => match Bson::try_from_value(alloc, parse_tree(alloc, rest)?) {
-            Ok(value) => put_value(alloc, form, value, out),
-            Err(error) => put_refused(alloc, rest, error, out),
+pub(crate) fn run_call(
+    alloc: Global,
+    form: &str,
+    remaining_args: &str,
+    output_line: &mut RowOutput,
+) -> RowResult {
+    match remaining_args.strip_prefix("made ") {
+        Some(made_steps) => write_in_form(
+            alloc,
+            form,
+            value_steps::make_value(alloc, made_steps)?,
+            output_line,
+        ),
+        None => match Bson::try_from_value(alloc, parse_tree(alloc, remaining_args)?) {
+            Ok(value) => write_in_form(alloc, form, value, output_line),
+            Err(error) => write_rejected_tree(alloc, remaining_args, error, output_line),
         },
     }
 }
 
 /// Writes why the text's tree is not valid Extended JSON. The reader of texts must return the same message.
-fn put_refused(alloc: Global, text: &str, error: Error, out: &mut RowOutput) -> RowResult {
+fn write_rejected_tree(
+    alloc: Global,
+    text: &str,
+    error: Error,
+    output_line: &mut RowOutput,
+) -> RowResult {
     let message = format!(in alloc; "{error}")?;
-    put_fault(error, out)?;
+    write_tree_error(error, output_line)?;
     match Bson::try_from_text(alloc, text.as_bytes()) {
-        Ok(_value) => out.write_str(" and as a text a value"),
+        Ok(_value) => output_line.write_str(" and as a text a value"),
         Err(TextError::OutOfMemory) => return Err(RowError::OutOfMemory),
         Err(error) => {
-            let of_text = format!(in alloc; "{error}")?;
-            if of_text != message {
-                out.write_str(" and as a text ");
-                out.write_str(of_text.as_str());
+            let text_message = format!(in alloc; "{error}")?;
+            if text_message != message {
+                output_line.write_str(" and as a text ");
+                output_line.write_str(text_message.as_str());
             }
         }
     }
@@ -42,73 +57,97 @@ fn put_refused(alloc: Global, text: &str, error: Error, out: &mut RowOutput) -> 
 
 /// `map FORM MAP`: the map is read as the value that it means. `map own MAP`: as a document,
 /// whatever its own keys are, and written canonically.
-pub(crate) fn map(alloc: Global, rest: &str, out: &mut RowOutput) -> RowResult {
-    let (form, text) = split_at_space(rest);
+pub(crate) fn write_map(
+    alloc: Global,
+    remaining_args: &str,
+    output_line: &mut RowOutput,
+) -> RowResult {
+    let (form, text) = split_at_space(remaining_args);
     let Value::Object(map) = parse_tree(alloc, text)? else {
         return Err(RowError::InvalidRow);
     };
     if form != "own" {
-        return put_read(alloc, form, Bson::try_from_map(alloc, map), out);
+        return write_read_result(alloc, form, Bson::try_from_map(alloc, map), output_line);
     }
     match Document::try_from_map(alloc, map) {
-        Ok(document) => canonical(alloc, Bson::Document(document), out),
-        Err(error) => put_fault(error, out),
+        Ok(document) => write_canonical(alloc, Bson::Document(document), output_line),
+        Err(error) => write_tree_error(error, output_line),
     }
 }
 
-fn put_read(alloc: Global, form: &str, read: Read<Bson>, out: &mut RowOutput) -> RowResult {
-    match read {
-        Ok(value) => put_value(alloc, form, value, out),
-        Err(error) => put_fault(error, out),
+fn write_read_result(
+    alloc: Global,
+    form: &str,
+    read_result: ReadResult<Bson>,
+    output_line: &mut RowOutput,
+) -> RowResult {
+    match read_result {
+        Ok(value) => write_in_form(alloc, form, value, output_line),
+        Err(error) => write_tree_error(error, output_line),
     }
 }
 
 /// Writes the error. The expected shape of a tree is written only if the row names a style.
-fn put_fault(error: Error, out: &mut RowOutput) -> RowResult {
-    match (&error, out.style()) {
-        (Error::DeserializationError { .. }, Style::Plain) => out.write_str("DeserializationError"),
-        (error, _) => out.write_error(error),
+fn write_tree_error(error: Error, output_line: &mut RowOutput) -> RowResult {
+    match (&error, output_line.style()) {
+        (Error::DeserializationError { .. }, Style::Plain) => output_line.write_str(
+            "DeserializationError",
+        ),
+        (error, _) => output_line.write_error(error),
     }
     Ok(())
 }
 
-fn put_value(alloc: Global, form: &str, value: Bson, out: &mut RowOutput) -> RowResult {
+fn write_in_form(alloc: Global, form: &str, value: Bson, output_line: &mut RowOutput) -> RowResult {
     match form {
-        "canonical" => canonical(alloc, value, out),
-        "relaxed" => relaxed(alloc, value, out),
+        "canonical" => write_canonical(alloc, value, output_line),
+        "relaxed" => write_relaxed(alloc, value, output_line),
         _ => {
-            out.write_value(&value);
+            output_line.write_value(&value);
             Ok(())
         }
     }
 }
 
-fn canonical(alloc: Global, value: Bson, out: &mut RowOutput) -> RowResult {
-    let lent = value.to_canonical_text(alloc);
+fn write_canonical(alloc: Global, value: Bson, output_line: &mut RowOutput) -> RowResult {
+    let text_by_reference = value.to_canonical_text(alloc);
     let tree = canonical_tree(alloc, &value);
-    put_written(value.into_canonical_text(alloc), lent, tree, out)
+    write_equal_outputs(
+        value.into_canonical_text(alloc),
+        text_by_reference,
+        tree,
+        output_line,
+    )
 }
 
-fn relaxed(alloc: Global, value: Bson, out: &mut RowOutput) -> RowResult {
-    let lent = value.to_relaxed_text(alloc);
+fn write_relaxed(alloc: Global, value: Bson, output_line: &mut RowOutput) -> RowResult {
+    let text_by_reference = value.to_relaxed_text(alloc);
     let tree = relaxed_tree(alloc, &value);
-    put_written(value.into_relaxed_text(alloc), lent, tree, out)
+    write_equal_outputs(
+        value.into_relaxed_text(alloc),
+        text_by_reference,
+        tree,
+        output_line,
+    )
 }
 
-pub(crate) type Written = Result<String, WriteError>;
+pub(crate) type WriteOutcome = Result<String, WriteError>;
 
-fn canonical_tree(alloc: Global, value: &Bson) -> Result<Written, RowError> {
+fn canonical_tree(alloc: Global, value: &Bson) -> Result<WriteOutcome, RowError> {
     let copy = value.clone(alloc)?;
-    text_of(alloc, copy.into_canonical_extjson(alloc))
+    tree_text(alloc, copy.into_canonical_extjson(alloc))
 }
 
-fn relaxed_tree(alloc: Global, value: &Bson) -> Result<Written, RowError> {
+fn relaxed_tree(alloc: Global, value: &Bson) -> Result<WriteOutcome, RowError> {
     let copy = value.clone(alloc)?;
-    text_of(alloc, copy.into_relaxed_extjson(alloc))
+    tree_text(alloc, copy.into_relaxed_extjson(alloc))
 }
 
 /// The text of the tree.
-pub(crate) fn text_of(alloc: Global, tree: Result<Value, WriteError>) -> Result<Written, RowError> {
+pub(crate) fn tree_text(
+    alloc: Global,
+    tree: Result<Value, WriteError>,
+) -> Result<WriteOutcome, RowError> {
     match tree {
         Ok(tree) => Ok(Ok(tree.to_string(alloc)?)),
         Err(error) => Ok(Err(error)),
@@ -116,51 +155,59 @@ pub(crate) fn text_of(alloc: Global, tree: Result<Value, WriteError>) -> Result<
 }
 
 /// Writes the output of the three calls, which must be equal.
-pub(crate) fn put_written(
-    text: Written,
-    lent: Written,
-    tree: Result<Written, RowError>,
-    out: &mut RowOutput,
+pub(crate) fn write_equal_outputs(
+    text: WriteOutcome,
+    text_by_reference: WriteOutcome,
+    tree: Result<WriteOutcome, RowError>,
+    output_line: &mut RowOutput,
 ) -> RowResult {
     let tree = tree?;
-    let are_equal = text == lent && text == tree;
-    out.write_result(text);
+    let are_equal = text == text_by_reference && text == tree;
+    output_line.write_result(text);
     if !are_equal {
-        out.write_str(" and lent ");
-        out.write_result(lent);
-        out.write_str(" and as a tree ");
-        out.write_result(tree);
+        output_line.write_str(" and lent ");
+        output_line.write_result(text_by_reference);
+        output_line.write_str(" and as a tree ");
+        output_line.write_result(tree);
     }
     Ok(())
 }
 
 /// `pretty N VALUE`: the text on several lines at the indent.
-pub(crate) fn pretty(alloc: Global, rest: &str, out: &mut RowOutput) -> RowResult {
-    let (indent, text) = split_at_space(rest);
+pub(crate) fn write_pretty_text(
+    alloc: Global,
+    remaining_args: &str,
+    output_line: &mut RowOutput,
+) -> RowResult {
+    let (indent, text) = split_at_space(remaining_args);
     let indent = parse_number::<usize>(indent)?;
     let value = parse_value(alloc, text)?;
-    put_pretty(alloc, &value, indent, out);
+    write_pretty_value(alloc, &value, indent, output_line);
     Ok(())
 }
 
-/// Puts the value's text. A document by itself must have the same.
-fn put_pretty(alloc: Global, value: &Bson, indent: usize, out: &mut RowOutput) {
-    let pretty = value.to_pretty_string(alloc, indent);
+/// Writes the value's text. A document by itself must have the same.
+fn write_pretty_value(alloc: Global, value: &Bson, indent: usize, output_line: &mut RowOutput) {
+    let pretty_text = value.to_pretty_string(alloc, indent);
     match value {
-        Bson::Document(document) => put_both(pretty, document.to_pretty_string(indent), out),
-        _ => out.write_result(pretty),
+        Bson::Document(document) => write_equal_texts(
+            pretty_text,
+            document.to_pretty_string(indent),
+            output_line,
+        ),
+        _ => output_line.write_result(pretty_text),
     }
 }
 
-fn put_both(
+fn write_equal_texts(
     text: Result<String, AllocError>,
-    own: Result<String, AllocError>,
-    out: &mut RowOutput,
+    document_text: Result<String, AllocError>,
+    output_line: &mut RowOutput,
 ) {
-    let are_equal = text == own;
-    out.write_result(text);
+    let are_equal = text == document_text;
+    output_line.write_result(text);
     if !are_equal {
-        out.write_str(" and as a document ");
-        out.write_result(own);
+        output_line.write_str(" and as a document ");
+        output_line.write_result(document_text);
     }
 }

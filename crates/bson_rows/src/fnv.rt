@@ -14,9 +14,9 @@ impl Fnv {
 }
 
 impl Hasher for Fnv {
-    ghost write = { λ s bytes. record { 0 = fold (λ h b. (bit_xor h b * 1099511628211) % 2 ^ 64) s.0 bytes } };
+    ghost write = { λ state bytes. record { 0 = fold (λ hash byte. (bit_xor hash byte * 1099511628211) % 2 ^ 64) state.0 bytes } };
 
-    ghost finish = { λ s. s.0 };
+    ghost finish = { λ state. state.0 };
 
     fn finish(&self) -> u64 {
         self.0

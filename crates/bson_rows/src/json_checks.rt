@@ -9,37 +9,51 @@ use bson_convert::error::Error;
 use bson_json::text::is_json;
 use std::alloc::Global;
 
-pub(crate) fn call(alloc: Global, rest: &str, out: &mut RowOutput) -> RowResult {
-    let text = rest.strip_prefix("wide ").unwrap_or(rest);
-    let Ok(valid) = is_json(alloc, text) else {
+pub(crate) fn run_call(
+    alloc: Global,
+    remaining_args: &str,
+    output_line: &mut RowOutput,
+) -> RowResult {
+    let text = remaining_args
+        .strip_prefix("wide ")
+        .unwrap_or(remaining_args);
+    let Ok(is_valid_json) = is_json(alloc, text) else {
         return Err(RowError::OutOfMemory);
     };
-    out.write_str(if valid { "true" } else { "false" });
+    output_line.write_str(if is_valid_json { "true" } else { "false" });
     Ok(())
 }
 
-pub(crate) fn is_canonical(alloc: Global, text: &str, out: &mut RowOutput) -> RowResult {
+pub(crate) fn write_is_canonical(
+    alloc: Global,
+    text: &str,
+    output_line: &mut RowOutput,
+) -> RowResult {
     let options = Options {
         doubles: Doubles::Finite,
         key_order: KeyOrder::Ascending,
     };
-    let Ok(canonical) = is_canonical_text(alloc, options, text.as_bytes()) else {
+    let Ok(is_canonical) = is_canonical_text(alloc, options, text.as_bytes()) else {
         return Err(RowError::OutOfMemory);
     };
-    out.write_str(if canonical { "true" } else { "false" });
+    output_line.write_str(if is_canonical { "true" } else { "false" });
     Ok(())
 }
 
-pub(crate) fn check(alloc: Global, text: &str, out: &mut RowOutput) -> RowResult {
+pub(crate) fn write_canonical_check(
+    alloc: Global,
+    text: &str,
+    output_line: &mut RowOutput,
+) -> RowResult {
     let options = Options {
         doubles: Doubles::Finite,
         key_order: KeyOrder::Ascending,
     };
     match check_canonical(alloc, options, text.as_bytes()) {
-        Ok(()) => out.write_str("canonical"),
+        Ok(()) => output_line.write_str("canonical"),
         Err(Error::OutOfMemory) => return Err(RowError::OutOfMemory),
-        Err(Error::NotCanonical(column)) => out.write_display(&column),
-        Err(error) => out.write_str(error.message()),
+        Err(Error::NotCanonical(column)) => output_line.write_display(&column),
+        Err(error) => output_line.write_str(error.message()),
     }
     Ok(())
 }

@@ -39,12 +39,12 @@ use row_output::RowOutput;
 use std::io;
 
 /// The longest output line that is written without an allocation.
-const CAPACITY: usize = 1 << 20;
+const OUTPUT_CAPACITY: usize = 1 << 20;
 
 fn main(rt: HostRuntime) -> io::Result<()> {
     let alloc = rt.alloc();
     let rows = io::read_to_string(alloc, rt.reader())?;
-    let mut row_output = RowOutput::new(String::with_capacity(alloc, CAPACITY)?);
+    let mut row_output = RowOutput::new(String::with_capacity(alloc, OUTPUT_CAPACITY)?);
     for row in rows.as_str().lines() {
         run_row(alloc, row, &mut row_output);
         write_line(&rt, row_output.line())?;
@@ -54,11 +54,11 @@ fn main(rt: HostRuntime) -> io::Result<()> {
 
 /// Writes the output as one line: a newline in it is written as `↵`.
 fn write_line(rt: &impl Print, row_output: &str) -> io::Result<()> {
-    for (at, part) in row_output.split('\n').enumerate() {
-        if at > 0 {
+    for (line_index, line_part) in row_output.split('\n').enumerate() {
+        if line_index > 0 {
             rt.print("↵")?;
         }
-        rt.print(part)?;
+        rt.print(line_part)?;
     }
     rt.println("")
 }

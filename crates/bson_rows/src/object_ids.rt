@@ -5,23 +5,27 @@ use crate::row_output::RowOutput;
 use bson::{DbPointer, ObjectId};
 use std::alloc::Global;
 
-pub(crate) fn call(alloc: Global, rest: &str, out: &mut RowOutput) -> RowResult {
-    let (name, text) = split_at_space(rest);
-    match name {
+pub(crate) fn run_call(
+    alloc: Global,
+    remaining_args: &str,
+    output_line: &mut RowOutput,
+) -> RowResult {
+    let (call_name, text) = split_at_space(remaining_args);
+    match call_name {
         "parse" => {
-            out.write_result(ObjectId::parse_str(alloc, text));
+            output_line.write_result(ObjectId::parse_str(alloc, text));
             Ok(())
         }
-        "pointer" => pointer(alloc, text, out),
-        "hex" => hex_of(alloc, text, out),
-        "parts" => parts(alloc, text, out),
-        "timestamp" => timestamp(text, out),
-        "order" => order(text, out),
+        "pointer" => write_pointer(alloc, text, output_line),
+        "hex" => write_hex(alloc, text, output_line),
+        "parts" => write_id_of_parts(alloc, text, output_line),
+        "timestamp" => write_timestamp(text, output_line),
+        "order" => write_order(text, output_line),
         _ => Err(RowError::InvalidRow),
     }
 }
 
-fn id_of(text: &str) -> Result<ObjectId, RowError> {
+fn parse_object_id(text: &str) -> Result<ObjectId, RowError> {
     use hex::FromHex;
     match <[u8; 12] as FromHex>::from_hex(text) {
         Ok(bytes) => Ok(ObjectId::from_bytes(bytes)),
@@ -30,21 +34,25 @@ fn id_of(text: &str) -> Result<ObjectId, RowError> {
 }
 
 /// The text of the 12 bytes, by `to_hex`.
-fn hex_of(alloc: Global, text: &str, out: &mut RowOutput) -> RowResult {
-    out.write_result(id_of(text)?.to_hex(alloc));
+fn write_hex(alloc: Global, text: &str, output_line: &mut RowOutput) -> RowResult {
+    output_line.write_result(parse_object_id(text)?.to_hex(alloc));
     Ok(())
 }
 
 /// `SECONDS PROCESS COUNTER`: a number, five bytes and three.
-fn parts(alloc: Global, text: &str, out: &mut RowOutput) -> RowResult {
-    let (seconds, rest) = split_at_space(text);
+fn write_id_of_parts(alloc: Global, text: &str, output_line: &mut RowOutput) -> RowResult {
+    let (seconds, remaining_args) = split_at_space(text);
     let seconds = parse_number::<u32>(seconds)?;
-    let (process, counter) = split_at_space(rest);
+    let (process, counter) = split_at_space(remaining_args);
     let process = parse_bytes(alloc, process)?;
     let counter = parse_bytes(alloc, counter)?;
     match (process.as_slice(), counter.as_slice()) {
-        ([a, b, c, d, e], [f, g, h]) => {
-            out.write_value(&ObjectId::from_parts(seconds, [*a, *b, *c, *d, *e], [*f, *g, *h]));
+        ([process0, process1, process2, process3, process4], [counter0, counter1, counter2]) => {
+            output_line.write_value(&ObjectId::from_parts(
+                seconds,
+                [*process0, *process1, *process2, *process3, *process4],
+                [*counter0, *counter1, *counter2],
+            ));
             Ok(())
         }
         _ => Err(RowError::InvalidRow),
@@ -52,39 +60,39 @@ fn parts(alloc: Global, text: &str, out: &mut RowOutput) -> RowResult {
 }
 
 /// The moment, in milliseconds, and as it is shown.
-fn timestamp(text: &str, out: &mut RowOutput) -> RowResult {
-    let at = id_of(text)?.timestamp();
-    out.write_display(&at.timestamp_millis());
-    out.write_item(&at);
+fn write_timestamp(text: &str, output_line: &mut RowOutput) -> RowResult {
+    let date_time = parse_object_id(text)?.timestamp();
+    output_line.write_display(&date_time.timestamp_millis());
+    output_line.write_item(&date_time);
     Ok(())
 }
 
-fn order(text: &str, out: &mut RowOutput) -> RowResult {
-    let (one, other) = split_at_space(text);
-    out.write_ordering(id_of(one)?, id_of(other)?);
+fn write_order(text: &str, output_line: &mut RowOutput) -> RowResult {
+    let (first_id, second_id) = split_at_space(text);
+    output_line.write_ordering(parse_object_id(first_id)?, parse_object_id(second_id)?);
     Ok(())
 }
 
 /// `NAMESPACE BYTES`: a copy of the pointer, and its parts.
-fn pointer(alloc: Global, text: &str, out: &mut RowOutput) -> RowResult {
+fn write_pointer(alloc: Global, text: &str, output_line: &mut RowOutput) -> RowResult {
     let (namespace, id) = split_at_space(text);
-    let id = id_of(id)?;
+    let id = parse_object_id(id)?;
     let pointer = DbPointer::new(String::from_str(alloc, namespace)?, id);
     match pointer.clone(alloc) {
-        Ok(copy) => put_pointer(&pointer, copy, out),
-        Err(error) => out.write_error(&error),
+        Ok(copy) => write_pointer_copy(&pointer, copy, output_line),
+        Err(error) => output_line.write_error(&error),
     }
     Ok(())
 }
 
-fn put_pointer(pointer: &DbPointer, copy: DbPointer, out: &mut RowOutput) {
+fn write_pointer_copy(pointer: &DbPointer, copy: DbPointer, output_line: &mut RowOutput) {
     if copy != *pointer {
-        out.write_str("another ");
+        output_line.write_str("another ");
     }
-    out.write_debug_value(&copy);
-    out.write_word(copy.namespace());
-    out.write_item(&copy.id());
+    output_line.write_debug_value(&copy);
+    output_line.write_word(copy.namespace());
+    output_line.write_item(&copy.id());
     let (namespace, id) = copy.into_parts();
-    out.write_item(&namespace);
-    out.write_item(&id);
+    output_line.write_item(&namespace);
+    output_line.write_item(&id);
 }

@@ -1,7 +1,7 @@
 //! `in_order FORM STEPS` and `in_order read TEXT`: values that are written in each document's own
 //! order of keys, and read in the order of the text.
 use crate::arguments::split_at_space;
-use crate::finite_doubles::put_text_read;
+use crate::finite_doubles::write_text_result;
 use crate::row_error::{RowError, RowResult};
 use crate::row_output::RowOutput;
 use crate::value_steps;
@@ -12,20 +12,42 @@ use std::alloc::Global;
 /// `canonical STEPS`, `relaxed STEPS`, and `finite STEPS`, the canonical form with finite doubles:
 /// the value that the steps make is written. `read TEXT`, and `read_finite TEXT` with finite
 /// doubles: what the text means. `back TEXT`: its canonical text in order.
-pub(crate) fn call(alloc: Global, rest: &str, out: &mut RowOutput) -> RowResult {
-    let (name, steps) = split_at_space(rest);
-    match name {
-        "canonical" => write_value(alloc, special(), Form::Canonical, steps, out),
-        "relaxed" => write_value(alloc, special(), Form::Relaxed, steps, out),
-        "finite" => write_value(alloc, Options::mongodb(), Form::Canonical, steps, out),
-        "read" => read(alloc, special(), steps, out),
-        "read_finite" => read(alloc, Options::mongodb(), steps, out),
-        "back" => write_back(alloc, steps, out),
+pub(crate) fn run_call(
+    alloc: Global,
+    remaining_args: &str,
+    output_line: &mut RowOutput,
+) -> RowResult {
+    let (call_name, steps_or_text) = split_at_space(remaining_args);
+    match call_name {
+        "canonical" => write_made_value(
+            alloc,
+            special_doubles_options(),
+            Form::Canonical,
+            steps_or_text,
+            output_line,
+        ),
+        "relaxed" => write_made_value(
+            alloc,
+            special_doubles_options(),
+            Form::Relaxed,
+            steps_or_text,
+            output_line,
+        ),
+        "finite" => write_made_value(
+            alloc,
+            Options::mongodb(),
+            Form::Canonical,
+            steps_or_text,
+            output_line,
+        ),
+        "read" => read_in_order(alloc, special_doubles_options(), steps_or_text, output_line),
+        "read_finite" => read_in_order(alloc, Options::mongodb(), steps_or_text, output_line),
+        "back" => write_read_text(alloc, steps_or_text, output_line),
         _ => Err(RowError::InvalidRow),
     }
 }
 
-fn special() -> Options {
+fn special_doubles_options() -> Options {
     Options {
         doubles: Doubles::Special,
         key_order: KeyOrder::AsGiven,
@@ -33,38 +55,43 @@ fn special() -> Options {
 }
 
 /// Writes the output of the two calls, which must be equal.
-fn write_value(
+fn write_made_value(
     alloc: Global,
     options: Options,
     form: Form,
     steps: &str,
-    out: &mut RowOutput,
+    output_line: &mut RowOutput,
 ) -> RowResult {
     let value = value_steps::make_value(alloc, steps)?;
-    let lent = value.to_text(alloc, options, form);
+    let text_by_reference = value.to_text(alloc, options, form);
     let text = value.into_text(alloc, options, form);
-    let are_equal = text == lent;
-    out.write_result(text);
+    let are_equal = text == text_by_reference;
+    output_line.write_result(text);
     if !are_equal {
-        out.write_str(" and lent ");
-        out.write_result(lent);
+        output_line.write_str(" and lent ");
+        output_line.write_result(text_by_reference);
     }
     Ok(())
 }
 
-/// Puts what the text means, its keys in the order of the text.
-fn read(alloc: Global, options: Options, text: &str, out: &mut RowOutput) -> RowResult {
-    let read = Bson::from_text(alloc, options, text.as_bytes());
-    put_text_read(read, out)
+/// Writes what the text means, its keys in the order of the text.
+fn read_in_order(
+    alloc: Global,
+    options: Options,
+    text: &str,
+    output_line: &mut RowOutput,
+) -> RowResult {
+    let read_result = Bson::from_text(alloc, options, text.as_bytes());
+    write_text_result(read_result, output_line)
 }
 
-/// Puts the text that is written of what the text means.
-fn write_back(alloc: Global, text: &str, out: &mut RowOutput) -> RowResult {
+/// Writes the text that is written of what the text means.
+fn write_read_text(alloc: Global, text: &str, output_line: &mut RowOutput) -> RowResult {
     match Bson::from_text(alloc, Options::mongodb(), text.as_bytes()) {
         Ok(value) => {
-            out.write_result(value.into_text(alloc, Options::mongodb(), Form::Canonical));
+            output_line.write_result(value.into_text(alloc, Options::mongodb(), Form::Canonical));
             Ok(())
         }
-        refused => put_text_read(refused, out),
+        rejected_text => write_text_result(rejected_text, output_line),
     }
 }

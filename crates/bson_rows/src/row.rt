@@ -13,51 +13,56 @@ use std::alloc::Global;
 ///
 /// `{}`, `{:?}` and `{:#?}` before a row say how its value or its error is written.
 pub(crate) fn run_row(alloc: Global, row: &str, row_output: &mut RowOutput) {
-    let (word, rest) = split_at_space(row);
-    let (style, call) = match word {
-        "{}" => (Style::Display, rest),
-        "{:?}" => (Style::Debug, rest),
-        "{:#?}" => (Style::Pretty, rest),
+    let (first_word, remaining_args) = split_at_space(row);
+    let (style, call_text) = match first_word {
+        "{}" => (Style::Display, remaining_args),
+        "{:?}" => (Style::Debug, remaining_args),
+        "{:#?}" => (Style::Pretty, remaining_args),
         _ => (Style::Plain, row),
     };
-    row_output.begin(style);
-    if let Err(error) = run_call(alloc, call, row_output) {
+    row_output.begin_row(style);
+    if let Err(error) = run_call(alloc, call_text, row_output) {
         row_output.set_error(error);
     }
 }
 
 /// Dispatches the call by its name.
-fn run_call(alloc: Global, row: &str, out: &mut RowOutput) -> RowResult {
-    let (name, rest) = split_at_space(row);
-    match name {
-        "canonical" | "relaxed" | "show" => extended_json::call(alloc, name, rest, out),
-        "map" => extended_json::map(alloc, rest, out),
-        "finite" => finite_doubles::call(alloc, rest, out),
-        "in_order" => ordered_keys::call(alloc, rest, out),
-        "pretty" => extended_json::pretty(alloc, rest, out),
-        "kind" => value_accessors::call(alloc, rest, out),
-        "get" => getters::call(alloc, rest, out),
-        "get_i32" => getters::call_get_i32(alloc, rest, out),
-        "same" => equality::same(alloc, rest, out),
-        "hash" => equality::hash(alloc, rest, out),
-        "from" => conversions::call(alloc, rest, out),
-        "date" => dates::call(alloc, rest, out),
-        "decimal" => decimals::call(rest, out),
-        "double" => doubles::call(rest, out),
-        "id" => object_ids::call(alloc, rest, out),
-        "json" => json_checks::call(alloc, rest, out),
-        "is_canonical" => json_checks::is_canonical(alloc, rest, out),
-        "check_canonical" => json_checks::check(alloc, rest, out),
-        "uuid" => binaries::uuid_call(alloc, rest, out),
-        "binary" => binaries::call(alloc, rest, out),
-        "bytes" => codec::call(alloc, rest, out),
-        "vector" => vectors::call(alloc, rest, out),
-        "tag" => type_tags::tag(rest, out),
-        "subtype" => type_tags::subtype(rest, out),
-        "store" => stores::call(alloc, rest, out),
-        "document" => documents::call(alloc, rest, out),
-        "entries" => documents::entries(alloc, rest, out),
-        "error" => errors::call(alloc, rest, out),
-        _ => small_types::call(alloc, name, rest, out),
+fn run_call(alloc: Global, call_text: &str, output_line: &mut RowOutput) -> RowResult {
+    let (call_name, remaining_args) = split_at_space(call_text);
+    match call_name {
+        "canonical" | "relaxed" | "show" => extended_json::run_call(
+            alloc,
+            call_name,
+            remaining_args,
+            output_line,
+        ),
+        "map" => extended_json::write_map(alloc, remaining_args, output_line),
+        "finite" => finite_doubles::run_call(alloc, remaining_args, output_line),
+        "in_order" => ordered_keys::run_call(alloc, remaining_args, output_line),
+        "pretty" => extended_json::write_pretty_text(alloc, remaining_args, output_line),
+        "kind" => value_accessors::run_call(alloc, remaining_args, output_line),
+        "get" => getters::run_call(alloc, remaining_args, output_line),
+        "get_i32" => getters::run_get_i32(alloc, remaining_args, output_line),
+        "same" => equality::write_equality(alloc, remaining_args, output_line),
+        "hash" => equality::write_hash(alloc, remaining_args, output_line),
+        "from" => conversions::run_call(alloc, remaining_args, output_line),
+        "date" => dates::run_call(alloc, remaining_args, output_line),
+        "decimal" => decimals::run_call(remaining_args, output_line),
+        "double" => doubles::run_call(remaining_args, output_line),
+        "id" => object_ids::run_call(alloc, remaining_args, output_line),
+        "json" => json_checks::run_call(alloc, remaining_args, output_line),
+        "is_canonical" => json_checks::write_is_canonical(alloc, remaining_args, output_line),
+        "check_canonical" => json_checks::write_canonical_check(alloc, remaining_args, output_line),
+        "uuid" => binaries::run_uuid_call(alloc, remaining_args, output_line),
+        "binary" => binaries::run_call(alloc, remaining_args, output_line),
+        "bytes" => codec::run_call(alloc, remaining_args, output_line),
+        "vector" => vectors::run_call(alloc, remaining_args, output_line),
+        "tag" => type_tags::write_tag(remaining_args, output_line),
+        "subtype" => type_tags::write_subtype(remaining_args, output_line),
+        "store" => stores::run_call(alloc, remaining_args, output_line),
+        "document" => documents::run_call(alloc, remaining_args, output_line),
+        "entries" => documents::write_entries(alloc, remaining_args, output_line),
+        "error" => errors::run_call(alloc, remaining_args, output_line),
+        _ => small_types::run_call(alloc, call_name, remaining_args, output_line),
     }
 }

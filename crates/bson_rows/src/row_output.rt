@@ -36,7 +36,7 @@ impl RowOutput {
     }
 
     /// Clears the output, for the next row.
-    pub(crate) fn begin(&mut self, style: Style) {
+    pub(crate) fn begin_row(&mut self, style: Style) {
         self.text.clear();
         self.style = style;
         self.error = None;
@@ -60,47 +60,47 @@ impl RowOutput {
         self.style
     }
 
-    fn record_failure(&mut self, written: Result<(), AllocError>) {
-        if written.is_err() {
+    fn record_failure(&mut self, write_outcome: Result<(), AllocError>) {
+        if write_outcome.is_err() {
             self.error = Some(RowError::NoMemoryForRow);
         }
     }
 
     /// Writes a string as it is.
     pub(crate) fn write_str(&mut self, text: &str) {
-        let written = self.text.push_str(text);
-        self.record_failure(written);
+        let write_outcome = self.text.push_str(text);
+        self.record_failure(write_outcome);
     }
 
     /// Writes a part by Display, whatever the style.
-    pub(crate) fn write_display<T: Display>(&mut self, part: &T) {
-        let written = write!(self.text, "{part}");
-        self.record_failure(written);
+    pub(crate) fn write_display<T: Display>(&mut self, item: &T) {
+        let write_outcome = write!(self.text, "{item}");
+        self.record_failure(write_outcome);
     }
 
     /// Writes a part by Debug, whatever the style.
-    pub(crate) fn write_debug<T: Debug>(&mut self, part: &T) {
-        let written = write!(self.text, "{part:?}");
-        self.record_failure(written);
+    pub(crate) fn write_debug<T: Debug>(&mut self, item: &T) {
+        let write_outcome = write!(self.text, "{item:?}");
+        self.record_failure(write_outcome);
     }
 
-    fn write_pretty<T: Debug>(&mut self, part: &T) {
-        let written = write!(self.text, "{part:#?}");
-        self.record_failure(written);
+    fn write_pretty<T: Debug>(&mut self, item: &T) {
+        let write_outcome = write!(self.text, "{item:#?}");
+        self.record_failure(write_outcome);
     }
 
     /// Writes the two hexadecimal digits of each byte.
     pub(crate) fn write_hex(&mut self, bytes: &[u8]) {
         for byte in bytes {
-            let written = write!(self.text, "{byte:02x}");
-            self.record_failure(written);
+            let write_outcome = write!(self.text, "{byte:02x}");
+            self.record_failure(write_outcome);
         }
     }
 
     /// Writes a space, and `{:x}` of the subtype.
     pub(crate) fn write_subtype(&mut self, subtype: BinarySubtype) {
-        let written = write!(self.text, " {subtype:x}");
-        self.record_failure(written);
+        let write_outcome = write!(self.text, " {subtype:x}");
+        self.record_failure(write_outcome);
     }
 
     /// Writes a space, unless the output is empty.
@@ -117,9 +117,9 @@ impl RowOutput {
     }
 
     /// Writes a space, and a part by Display.
-    pub(crate) fn write_item<T: Display>(&mut self, part: &T) {
+    pub(crate) fn write_item<T: Display>(&mut self, item: &T) {
         self.write_space();
-        self.write_display(part);
+        self.write_display(item);
     }
 
     /// Writes the value in the row's style, or by Display if the row names none.
@@ -217,22 +217,26 @@ impl RowOutput {
     }
 
     /// Writes a space, and the value or `None`.
-    pub(crate) fn write_option<T: Display + Drop>(&mut self, reply: Option<T>) {
-        match reply {
+    pub(crate) fn write_option<T: Display + Drop>(&mut self, item: Option<T>) {
+        match item {
             Some(value) => self.write_item(&value),
             None => self.write_word("None"),
         }
     }
 
     /// Writes how the two compare.
-    pub(crate) fn write_ordering<T: Ord + Drop>(&mut self, one: T, other: T) {
-        self.write_debug(&one.cmp(&other));
+    pub(crate) fn write_ordering<T: Ord + Drop>(&mut self, first_value: T, second_value: T) {
+        self.write_debug(&first_value.cmp(&second_value));
     }
 
     /// Writes ` NAME=` and the value, if there is one.
-    pub(crate) fn write_named<T: Debug + Drop>(&mut self, name: &str, found: Option<T>) {
-        if let Some(value) = found {
-            self.write_word(name);
+    pub(crate) fn write_named<T: Debug + Drop>(
+        &mut self,
+        value_name: &str,
+        named_value: Option<T>,
+    ) {
+        if let Some(value) = named_value {
+            self.write_word(value_name);
             self.write_str("=");
             self.write_debug(&value);
         }

@@ -17,8 +17,8 @@ pub(crate) fn parse_tree(alloc: Global, text: &str) -> Result<Value, RowError> {
 
 /// Parses the value that the text names. If it can't be read, the row is invalid.
 pub(crate) fn parse_value(alloc: Global, text: &str) -> Result<Bson, RowError> {
-    if let Some(made) = text.strip_prefix("made ") {
-        return value_steps::make_value(alloc, made);
+    if let Some(made_steps) = text.strip_prefix("made ") {
+        return value_steps::make_value(alloc, made_steps);
     }
     match Bson::try_from_value(alloc, parse_tree(alloc, text)?) {
         Ok(value) => Ok(value),

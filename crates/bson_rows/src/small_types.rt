@@ -1,26 +1,31 @@
 //! `timestamp T,I`, `timestamp_order T,I T,I`, `regex PATTERN OPTIONS`, `code TEXT SCOPE`,
 //! `representation ORDER`: the kinds that are small structs, by themselves.
 use crate::arguments::{parse_number, split_at_space};
-use crate::binaries::order_of;
+use crate::binaries::parse_representation;
 use crate::row_error::{RowError, RowResult};
 use crate::row_output::RowOutput;
 use crate::row_values::parse_document;
 use bson::{JavaScriptCodeWithScope, Regex, Timestamp};
 use std::alloc::Global;
 
-pub(crate) fn call(alloc: Global, name: &str, rest: &str, out: &mut RowOutput) -> RowResult {
-    match name {
-        "timestamp" => out.write_value(&timestamp(rest)?),
-        "timestamp_order" => return timestamp_order(rest, out),
-        "regex" => regex(alloc, rest, out),
-        "representation" => out.write_debug_value(&order_of(rest)?),
-        "code" => return code(alloc, rest, out),
+pub(crate) fn run_call(
+    alloc: Global,
+    call_name: &str,
+    remaining_args: &str,
+    output_line: &mut RowOutput,
+) -> RowResult {
+    match call_name {
+        "timestamp" => output_line.write_value(&parse_timestamp(remaining_args)?),
+        "timestamp_order" => return write_timestamp_order(remaining_args, output_line),
+        "regex" => write_regex(alloc, remaining_args, output_line),
+        "representation" => output_line.write_debug_value(&parse_representation(remaining_args)?),
+        "code" => return write_code_with_scope(alloc, remaining_args, output_line),
         _ => return Err(RowError::InvalidRow),
     }
     Ok(())
 }
 
-fn timestamp(text: &str) -> Result<Timestamp, RowError> {
+fn parse_timestamp(text: &str) -> Result<Timestamp, RowError> {
     let Some((time, increment)) = text.split_once(',') else {
         return Err(RowError::InvalidRow);
     };
@@ -30,22 +35,29 @@ fn timestamp(text: &str) -> Result<Timestamp, RowError> {
 }
 
 /// By time, then by increment.
-fn timestamp_order(rest: &str, out: &mut RowOutput) -> RowResult {
-    let (one, other) = split_at_space(rest);
-    out.write_ordering(timestamp(one)?, timestamp(other)?);
+fn write_timestamp_order(remaining_args: &str, output_line: &mut RowOutput) -> RowResult {
+    let (first_timestamp, second_timestamp) = split_at_space(remaining_args);
+    output_line.write_ordering(
+        parse_timestamp(first_timestamp)?,
+        parse_timestamp(second_timestamp)?,
+    );
     Ok(())
 }
 
 /// By `Regex::new`.
-fn regex(alloc: Global, rest: &str, out: &mut RowOutput) {
-    let (pattern, options) = split_at_space(rest);
-    out.write_result(Regex::new(alloc, pattern, options));
+fn write_regex(alloc: Global, remaining_args: &str, output_line: &mut RowOutput) {
+    let (pattern, options) = split_at_space(remaining_args);
+    output_line.write_result(Regex::new(alloc, pattern, options));
 }
 
-fn code(alloc: Global, rest: &str, out: &mut RowOutput) -> RowResult {
-    let (code, scope) = split_at_space(rest);
+fn write_code_with_scope(
+    alloc: Global,
+    remaining_args: &str,
+    output_line: &mut RowOutput,
+) -> RowResult {
+    let (code, scope) = split_at_space(remaining_args);
     let code = String::from_str(alloc, code)?;
     let scope = parse_document(alloc, scope)?;
-    out.write_value(&JavaScriptCodeWithScope { code, scope });
+    output_line.write_value(&JavaScriptCodeWithScope { code, scope });
     Ok(())
 }

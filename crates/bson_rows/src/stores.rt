@@ -11,78 +11,102 @@ use bson_store::by_key;
 use bson_store::order::next_above;
 use std::alloc::Global;
 
-pub(crate) fn call(alloc: Global, rest: &str, out: &mut RowOutput) -> RowResult {
-    let (store, rest) = split_at_space(rest);
-    match store {
-        "small" => run(alloc, &mut SmallPairs::new(alloc), rest, out),
-        "indexed" => run(alloc, &mut IndexedPairs::new(alloc), rest, out),
-        "replay_small" => put_replay(alloc, &mut SmallPairs::new(alloc), rest, out),
-        "replay_indexed" => put_replay(alloc, &mut IndexedPairs::new(alloc), rest, out),
+pub(crate) fn run_call(
+    alloc: Global,
+    remaining_args: &str,
+    output_line: &mut RowOutput,
+) -> RowResult {
+    let (store_name, remaining_args) = split_at_space(remaining_args);
+    match store_name {
+        "small" => run_commands(
+            alloc,
+            &mut SmallPairs::new(alloc),
+            remaining_args,
+            output_line,
+        ),
+        "indexed" => run_commands(
+            alloc,
+            &mut IndexedPairs::new(alloc),
+            remaining_args,
+            output_line,
+        ),
+        "replay_small" => run_replay(
+            alloc,
+            &mut SmallPairs::new(alloc),
+            remaining_args,
+            output_line,
+        ),
+        "replay_indexed" => run_replay(
+            alloc,
+            &mut IndexedPairs::new(alloc),
+            remaining_args,
+            output_line,
+        ),
         _ => Err(RowError::InvalidRow),
     }
 }
 
-fn run<S: PairStore<i32>>(
+fn run_commands<S: PairStore<i32>>(
     alloc: Global,
     store: &mut S,
     commands: &str,
-    out: &mut RowOutput,
+    output_line: &mut RowOutput,
 ) -> RowResult {
     for command in commands.split_whitespace() {
-        run_one(alloc, store, command, out)?;
+        run_command(alloc, store, command, output_line)?;
     }
-    put_pairs(store, out);
+    write_pairs(store, output_line);
     Ok(())
 }
 
-fn run_one<S: PairStore<i32>>(
+fn run_command<S: PairStore<i32>>(
     alloc: Global,
     store: &mut S,
     command: &str,
-    out: &mut RowOutput,
+    output_line: &mut RowOutput,
 ) -> RowResult {
-    let (name, rest) = split_at_colon(command);
-    match name {
-        "put" | "push" => put(alloc, store, name, rest, out),
+    let (command_name, remaining_args) = split_at_colon(command);
+    match command_name {
+        "put" | "push" => run_put_or_push(alloc, store, command_name, remaining_args, output_line),
         "take" => {
-            out.write_option(by_key::take(store, rest));
+            output_line.write_option(by_key::take(store, remaining_args));
             Ok(())
         }
         "clear" => {
             store.clear();
             Ok(())
         }
-        "find" => put_place(store.find(rest), out),
-        "above" => put_place(next_above(store, Some(rest)), out),
-        "first" => put_place(next_above(store, None), out),
-        _ => run_at(store, name, rest, out),
+        "find" => write_index(store.find(remaining_args), output_line),
+        "above" => write_index(next_above(store, Some(remaining_args)), output_line),
+        "first" => write_index(next_above(store, None), output_line),
+        _ => run_index_command(store, command_name, remaining_args, output_line),
     }
 }
 
-/// A push of a key that is there is none.
-fn put<S: PairStore<i32>>(
+/// The row is invalid if a pushed key exists already.
+fn run_put_or_push<S: PairStore<i32>>(
     alloc: Global,
     store: &mut S,
-    name: &str,
-    rest: &str,
-    out: &mut RowOutput,
+    command_name: &str,
+    remaining_args: &str,
+    output_line: &mut RowOutput,
 ) -> RowResult {
-    let (key, value) = split_at_colon(rest);
+    let (key, value) = split_at_colon(remaining_args);
     let value = parse_number::<i32>(value)?;
     let key = String::from_str(alloc, key)?;
-    if name == "push" {
-        return push(store, key, value);
+    if command_name == "push" {
+        return push_value(store, key, value);
     }
     match by_key::put(store, key, value) {
-        Ok(old) => {
-            out.write_option(old);
+        Ok(old_value) => {
+            output_line.write_option(old_value);
             Ok(())
         }
         Err(_) => Err(RowError::OutOfMemory),
     }
 }
 
-fn push<S: PairStore<i32>>(store: &mut S, key: String, value: i32) -> RowResult {
+fn push_value<S: PairStore<i32>>(store: &mut S, key: String, value: i32) -> RowResult {
     if store.find(key.as_str()).is_some() {
         return Err(RowError::InvalidRow);
     }
@@ -93,92 +117,104 @@ fn push<S: PairStore<i32>>(store: &mut S, key: String, value: i32) -> RowResult 
 }
 
 /// The commands at a place.
-fn run_at<S: PairStore<i32>>(
+fn run_index_command<S: PairStore<i32>>(
     store: &mut S,
-    name: &str,
-    rest: &str,
-    out: &mut RowOutput,
+    command_name: &str,
+    remaining_args: &str,
+    output_line: &mut RowOutput,
 ) -> RowResult {
-    let (place, value) = split_at_colon(rest);
-    let at = parse_number::<usize>(place)?;
-    if at >= store.len() {
+    let (index, value) = split_at_colon(remaining_args);
+    let pair_index = parse_number::<usize>(index)?;
+    if pair_index >= store.len() {
         return Err(RowError::InvalidRow);
     }
-    match name {
-        "at" => put_pair(store.key_at(at), *store.value_at(at), out),
-        "write" => *store.value_at_mut(at) = parse_number::<i32>(value)?,
-        "write_pair" => write_pair(store.pair_at_mut(at), parse_number::<i32>(value)?, out),
+    match command_name {
+        "at" => write_key_and_value(
+            store.key_at(pair_index),
+            *store.value_at(pair_index),
+            output_line,
+        ),
+        "write" => *store.value_at_mut(pair_index) = parse_number::<i32>(value)?,
+        "write_pair" => set_pair_value(
+            store.pair_at_mut(pair_index),
+            parse_number::<i32>(value)?,
+            output_line,
+        ),
         "remove_at" => {
-            let (key, value) = store.remove_at(at);
-            put_pair(&key, value, out);
+            let (key, value) = store.remove_at(pair_index);
+            write_key_and_value(&key, value, output_line);
         }
         _ => return Err(RowError::InvalidRow),
     }
     Ok(())
 }
 
-fn write_pair(pair: (&String, &mut i32), value: i32, out: &mut RowOutput) {
-    let (key, place) = pair;
-    *place = value;
-    out.write_item(key);
+fn set_pair_value(pair: (&String, &mut i32), value: i32, output_line: &mut RowOutput) {
+    let (key, stored_value) = pair;
+    *stored_value = value;
+    output_line.write_item(key);
 }
 
-fn put_place(place: Option<usize>, out: &mut RowOutput) -> RowResult {
-    out.write_word("@");
-    match place {
-        Some(at) => out.write_display(&at),
-        None => out.write_str("None"),
+fn write_index(found_index: Option<usize>, output_line: &mut RowOutput) -> RowResult {
+    output_line.write_word("@");
+    match found_index {
+        Some(pair_index) => output_line.write_display(&pair_index),
+        None => output_line.write_str("None"),
     }
     Ok(())
 }
 
-fn put_pair(key: &String, value: i32, out: &mut RowOutput) {
-    out.write_item(key);
-    out.write_str("=");
-    out.write_display(&value);
+fn write_key_and_value(key: &String, value: i32, output_line: &mut RowOutput) {
+    output_line.write_item(key);
+    output_line.write_str("=");
+    output_line.write_display(&value);
 }
 
 /// The pairs in order. Each is looked up by its key, which must find its place.
-fn put_pairs<S: PairStore<i32>>(store: &S, out: &mut RowOutput) {
-    out.write_word("->");
-    for at in 0..store.len() {
-        put_pair(store.key_at(at), *store.value_at(at), out);
-        if store.find(store.key_at(at).as_str()) != Some(at) {
-            out.write_str(" not found there");
+fn write_pairs<S: PairStore<i32>>(store: &S, output_line: &mut RowOutput) {
+    output_line.write_word("->");
+    for pair_index in 0..store.len() {
+        write_key_and_value(
+            store.key_at(pair_index),
+            *store.value_at(pair_index),
+            output_line,
+        );
+        if store.find(store.key_at(pair_index).as_str()) != Some(pair_index) {
+            output_line.write_str(" not found there");
         }
     }
 }
 
 /// The same commands by `replay`.
-fn put_replay<S: PairStore<i32>>(
+fn run_replay<S: PairStore<i32>>(
     alloc: Global,
     store: &mut S,
     text: &str,
-    out: &mut RowOutput,
+    output_line: &mut RowOutput,
 ) -> RowResult {
     let mut commands = Vec::new(alloc);
-    for part in text.split_whitespace() {
-        commands.push(command(alloc, part)?)?;
+    for command_text in text.split_whitespace() {
+        commands.push(parse_command(alloc, command_text)?)?;
     }
     match replay(alloc, store, commands) {
-        Ok(replies) => put_replies(replies, out),
-        Err(error) => out.write_error(&error),
+        Ok(replies) => write_replies(replies, output_line),
+        Err(error) => output_line.write_error(&error),
     }
-    put_pairs(store, out);
+    write_pairs(store, output_line);
     Ok(())
 }
 
-fn put_replies(replies: Vec<Option<i32>>, out: &mut RowOutput) {
+fn write_replies(replies: Vec<Option<i32>>, output_line: &mut RowOutput) {
     for reply in replies {
-        out.write_option(reply);
+        output_line.write_option(reply);
     }
 }
 
-fn command(alloc: Global, part: &str) -> Result<Command<i32>, RowError> {
-    let (name, rest) = split_at_colon(part);
-    let (key, value) = split_at_colon(rest);
+fn parse_command(alloc: Global, command_text: &str) -> Result<Command<i32>, RowError> {
+    let (command_name, remaining_args) = split_at_colon(command_text);
+    let (key, value) = split_at_colon(remaining_args);
     let key = String::from_str(alloc, key)?;
-    match name {
+    match command_name {
         "put" => Ok(Command::Put(key, parse_number::<i32>(value)?)),
         "take" => Ok(Command::Take(key)),
         "clear" => Ok(Command::Clear),

@@ -12,12 +12,12 @@ use Rattle.bson_run.specs.declared.accepted.Accepted.TheVariants.{Output}
 
 module _ (o : Options) where
   pub at_once : (gives : List ℕ → Type 0) (bytes : Vec ℕ Global) → gives bytes.items → HasOutput o gives (Output bytes)
-  at_once gives bytes is = record { sure = tt; given = λ output same. subst gives (sym same) is }
+  at_once gives bytes is = record { is_accepted = tt; each_output = λ output same. subst gives (sym same) is }
 
   -- each output is of others too
   pub also : (gives others : List ℕ → Type 0) (accepted : Accepted) → ((output : List ℕ) → gives output → others output)
       → HasOutput o gives accepted → HasOutput o others accepted
-  also gives others accepted f has = record { sure = has.sure; given = λ output is. f output (has.given output is) }
+  also gives others accepted f has = record { is_accepted = has.is_accepted; each_output = λ output is. f output (has.each_output output is) }
 
   -- the output of a text of the same tree is that of the text
   pub converts_alike : (mode : Mode) (text normalized output : List ℕ) → IsUtf8 text → read normalized ≡ read text

@@ -1,7 +1,7 @@
 -- The bytes of the document that a text denotes are unique, and each meaning has bytes or none of them has.
 use Rattle.std.proofs.Common.{◌≡◌, ℕ, List, Some, sym, ap, ◌∙◌, subst, rules}
 use Rattle.std.specs.Prelude.{IsUtf8}
-use Rattle.bson.specs.TextMeaning.{HasTextMeaningBy, TextMeansBy}
+use Rattle.bson.specs.TextMeaning.{HasTextMeaningInKeyOrder, TextMeansInKeyOrder}
 use Rattle.bson.specs.View.{bson_view, document_view}
 use Rattle.bson.specs.declared.bson.Bson.{the_lemmas}
 use Rattle.bson.specs.declared.bson.Bson.TheVariants.{Document as rejected_text}
@@ -9,14 +9,14 @@ use Rattle.bson.specs.declared.document.Document.{Document}
 use Rattle.bson.specs.declared.extjson.key_order.KeyOrder.{KeyOrder}
 use Rattle.bson.specs.declared.extjson.key_order.KeyOrder.TheVariants.{Ascending, AsGiven}
 use Rattle.bson.proofs.Offered.{tree_one}
-use Rattle.bson_codec.specs.Canonical.{Cause, document_bytes}
+use Rattle.bson_codec.specs.Canonical.{NoBytesCause, document_bytes}
 use Rattle.bson_model.specs.Means.{MeansIn}
 use Rattle.bson_model.specs.Value.{Value, Pairs, document}
 use Rattle.bson_model.specs.OrderedTrees.{read_in_order}
 use Rattle.bson_model.specs.OrderedMeans.{MeansInOrder}
 use Rattle.bson_codec.specs.PackedText.{IsPackedText}
 use Rattle.bson_convert.specs.Convert.{IsRejectedIn}
-use Rattle.bson_run.specs.Encode.{Encodes, IsWriteErrorOf, FailsFor, IsBytesOf, IsEncodeErrorBy, IsEncodeErrorFor}
+use Rattle.bson_run.specs.Encode.{Encodes, IsWriteErrorOf, IsUnencodableFor, IsBytesOf, IsEncodeErrorBy, IsEncodeErrorFor}
 use Rattle.bson_run.specs.LinesSteps.{Options, Error, CannotRead, NotJson, NotExtendedJson, NoBytes, OutOfMemory}
 use Rattle.bson_run.specs.LinesSteps.{CannotWrite, NotCanonical}
 use Rattle.bson_convert.specs.declared.encode_error.NoBytes.TheVariants.{NoDocument, ZeroInKey, ZeroInRegex, TooLong}
@@ -60,7 +60,7 @@ module _ (P : Value → Type 0) (value : Value) (h : P value) where
     back = b.back;
   }
 
-  fails_by : (cause : Cause) → FailsFor (λ v. v ≡ value) cause → FailsFor P cause
+  fails_by : (cause : NoBytesCause) → IsUnencodableFor (λ v. v ≡ value) cause → IsUnencodableFor P cause
   fails_by cause f = record { pairs = f.pairs; meaning = by_value (document f.pairs) f.meaning; fails = f.fails }
 
   unencoded_by : (fault : Error) → IsEncodeErrorFor (λ v. v ≡ value) fault → IsEncodeErrorFor P fault
@@ -78,8 +78,8 @@ module _ (P : Value → Type 0) (value : Value) (h : P value) where
 -- ---- a text
 
 -- a text means one value, its keys in the order
-pub value_one : (k : KeyOrder) (o : Options) (text : List ℕ) (v w : Value) → HasTextMeaningBy k o.doubles text v
-    → HasTextMeaningBy k o.doubles text w → v ≡ w
+pub value_one : (k : KeyOrder) (o : Options) (text : List ℕ) (v w : Value) → HasTextMeaningInKeyOrder k o.doubles text v
+    → HasTextMeaningInKeyOrder k o.doubles text w → v ≡ w
 value_one Ascending o text v w h m =
     m.meaning.one v (subst (λ t. MeansIn o.doubles t v) (tree_one text h.tree m.tree h.text m.text) h.meaning.means)
 value_one AsGiven o text v w h m =
@@ -90,7 +90,7 @@ value_one AsGiven o text v w h m =
 
 -- the pairs that a text means are those that were read
 pub is_meant : (k : KeyOrder) (o : Options) (text : List ℕ) (ps : Pairs) (value : Value)
-    → TextMeansBy k o.doubles text (document ps) → HasTextMeaningBy k o.doubles text value → value ≡ document ps
+    → TextMeansInKeyOrder k o.doubles text (document ps) → HasTextMeaningInKeyOrder k o.doubles text value → value ≡ document ps
 is_meant Ascending o text ps value m h =
     sym (h.meaning.one (document ps)
     (subst (λ d. MeansIn o.doubles d (document ps)) (tree_one text m.0 h.tree m.1 h.text) m.2))
@@ -111,9 +111,9 @@ packed o text out utf8 x = record {
 }
 
 module _ (k : KeyOrder) (o : Options) (text : List ℕ) where
-  pub encoded : (value : Value) (out : List ℕ) → HasTextMeaningBy k o.doubles text value
+  pub encoded : (value : Value) (out : List ℕ) → HasTextMeaningInKeyOrder k o.doubles text value
       → IsBytesOf (λ v. v ≡ value) out → Encodes k o text out
-  encoded value out h b = bytes_by (HasTextMeaningBy k o.doubles text) value h out b
+  encoded value out h b = bytes_by (HasTextMeaningInKeyOrder k o.doubles text) value h out b
 
   pub encoded_one : (out other : List ℕ) → Encodes k o text out → Encodes k o text other → other ≡ out
   encoded_one out other x y =
@@ -123,7 +123,7 @@ module _ (k : KeyOrder) (o : Options) (text : List ℕ) where
 
   -- ---- what gives no bytes
 
-  diagnostics_before : (fault : Error) → IsEncodeErrorFor (HasTextMeaningBy k o.doubles text) fault → IsEncodeErrorBy k o fault text
+  diagnostics_before : (fault : Error) → IsEncodeErrorFor (HasTextMeaningInKeyOrder k o.doubles text) fault → IsEncodeErrorBy k o fault text
   diagnostics_before CannotRead f = f
   diagnostics_before NotJson f = absurd f
   diagnostics_before (NotExtendedJson place) f = absurd f
@@ -132,9 +132,9 @@ module _ (k : KeyOrder) (o : Options) (text : List ℕ) where
   diagnostics_before OutOfMemory f = tt
   diagnostics_before CannotWrite f = f
 
-  pub unencoded : (value : Value) (fault : Error) → HasTextMeaningBy k o.doubles text value
+  pub unencoded : (value : Value) (fault : Error) → HasTextMeaningInKeyOrder k o.doubles text value
       → IsEncodeErrorFor (λ v. v ≡ value) fault → IsEncodeErrorBy k o fault text
-  unencoded value fault h f = diagnostics_before fault (unencoded_by (HasTextMeaningBy k o.doubles text) value h fault f)
+  unencoded value fault h f = diagnostics_before fault (unencoded_by (HasTextMeaningInKeyOrder k o.doubles text) value h fault f)
 
   -- a text that means nothing
   pub unread : (fault : Error) → IsRejectedIn o fault text → IsEncodeErrorBy k o fault text

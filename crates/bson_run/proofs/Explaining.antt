@@ -14,7 +14,7 @@ use Rattle.bson_tree.specs.Place.{path_text, path_of}
 use Rattle.bson_tree.specs.declared.place.Place.{Place}
 use Rattle.bson_convert.specs.declared.error.Error.{Error}
 use Rattle.bson_convert.specs.declared.error.Error.TheVariants as errors
-use Rattle.bson_run.specs.ErrorMessages.{IsExplanation, IsNotTextError, IsPositionMessage, column_message, path_message, column_at, truncated, escaped_char, escaped_message}
+use Rattle.bson_run.specs.ErrorMessages.{IsExplanation, HasNoPosition, IsPositionMessage, column_message, path_message, column_at, truncated, escaped_char, escaped_message}
 use Rattle.bson_run.specs.ErrorMessages.{explanation_message}
 use Rattle.bson_run.specs.declared.explain.Explanation.{Explanation}
 use Rattle.bson_run.specs.declared.explain.Explanation.TheVariants as explained
@@ -41,7 +41,7 @@ placed_at place path reason full_message e some is =
 
 -- ---- an explanation
 
-other_where : (text : List ℕ) (fault : Error) → IsNotTextError fault → IsPositionMessage text fault []
+other_where : (text : List ℕ) (fault : Error) → HasNoPosition fault → IsPositionMessage text fault []
 other_where text errors.CannotRead h = refl
 other_where text errors.NotJson h = absurd h
 other_where text (errors.NotExtendedJson place) h = absurd h

@@ -15,7 +15,7 @@ use Rattle.json.proofs.Printed.Tokens.{tokens-print_spaced}
 use Rattle.json.proofs.Printed.Utf8.{IsUtf8-are_ascii}
 use Rattle.json.proofs.Printed.Trees.{ArePrintable-json_tokens}
 use Rattle.json.proofs.Unique.Spelling.{value-json_tokens_back}
-use Rattle.bson_run.specs.Indent.{line, white_space, indent_of_token, indent_after, with_white_space, indented, HasSameTokens, last_of, IsTokenWritten, IsWholeLayout}
+use Rattle.bson_run.specs.Indent.{line, white_space, indent_of_token, indent_after, with_white_space, indented, HasSameTokens, kind_of_previous_token, IsTokenWritten, IsWholeLayout}
 use Rattle.bson_run.specs.declared.indent.Layout.{Layout}
 
 pub print_one : (t : Token) → print (t ∷ []) ≡ token_text t
@@ -47,36 +47,36 @@ ends_value (boolean b) = refl
 ends_value null = refl
 ends_value bad = refl
 
-regrouped : (out comma between text rest : List ℕ)
-    → (out ++ (comma ++ (between ++ text))) ++ rest ≡ out ++ (comma ++ (between ++ (text ++ rest)))
-regrouped out comma between text rest = simp append_assoc
+regrouped : (written_bytes comma between text rest : List ℕ)
+    → (written_bytes ++ (comma ++ (between ++ text))) ++ rest ≡ written_bytes ++ (comma ++ (between ++ (text ++ rest)))
+regrouped written_bytes comma between text rest = simp append_assoc
 
 pub one_more : (n : ℕ) (all left ts : List Token) (t : Token) (s u : Layout) → left ≡ t ∷ ts → (w : IsWholeLayout n all left s)
     → IsTokenWritten n w.indent s u t → IsWholeLayout n all ts u
 unfolding print_spaced with_white_space
 one_more n all left ts t s u e w l =
     let more = λ (last : Last). with_white_space n last (indent_after n t w.indent) ts in
-    let last = last_of s.before in
+    let last = kind_of_previous_token s.previous_kind in
     record {
       indent = indent_after n t w.indent;
-      at = l.at;
-      whole = ap (λ out. out ++ print_spaced (is_value (last_of u.before)) (more (last_of u.before))) l.out
-          ∙ ap (λ now. (s.out.items ++ (separator (is_value last) t ++ (white_space last (begins t) (indent_of_token n t w.indent)
-          ++ token_text t))) ++ print_spaced (is_value now) (more now)) l.before
-          ∙ regrouped s.out.items (separator (is_value last) t) (white_space last (begins t) (indent_of_token n t w.indent)) (token_text t)
+      has_indent = l.has_indent;
+      whole = ap (λ written_bytes. written_bytes ++ print_spaced (is_value (kind_of_previous_token u.previous_kind)) (more (kind_of_previous_token u.previous_kind))) l.written_bytes
+          ∙ ap (λ now. (s.written_bytes.items ++ (separator (is_value last) t ++ (white_space last (begins t) (indent_of_token n t w.indent)
+          ++ token_text t))) ++ print_spaced (is_value now) (more now)) l.previous_kind
+          ∙ regrouped s.written_bytes.items (separator (is_value last) t) (white_space last (begins t) (indent_of_token n t w.indent)) (token_text t)
           (print_spaced (is_value (after t 0).0) (more (after t 0).0))
-          ∙ ap (λ b. s.out.items ++ (separator (is_value last) t ++ (white_space last (begins t) (indent_of_token n t w.indent)
+          ∙ ap (λ b. s.written_bytes.items ++ (separator (is_value last) t ++ (white_space last (begins t) (indent_of_token n t w.indent)
           ++ (token_text t ++ print_spaced b (more (after t 0).0))))) (ends_value t)
-          ∙ ap (λ ts. s.out.items ++ print_spaced (is_value last) (with_white_space n last w.indent ts)) (sym e)
+          ∙ ap (λ ts. s.written_bytes.items ++ print_spaced (is_value last) (with_white_space n last w.indent ts)) (sym e)
           ∙ w.whole;
     }
 
 pub all_laid : (n : ℕ) (all left : List Token) (s : Layout) → left ≡ [] → IsWholeLayout n all left s
-    → s.out.items ≡ indented n all
+    → s.written_bytes.items ≡ indented n all
 unfolding print_spaced with_white_space
 all_laid n all left s e w =
-    sym (append-nil s.out.items)
-    ∙ ap (λ ts. s.out.items ++ print_spaced (is_value (last_of s.before)) (with_white_space n (last_of s.before) w.indent ts)) (sym e)
+    sym (append-nil s.written_bytes.items)
+    ∙ ap (λ ts. s.written_bytes.items ++ print_spaced (is_value (kind_of_previous_token s.previous_kind)) (with_white_space n (kind_of_previous_token s.previous_kind) w.indent ts)) (sym e)
     ∙ w.whole
 
 -- ---- UTF-8
@@ -101,18 +101,18 @@ comma_utf8 false = IsUtf8-nil
 
 -- a token more
 pub utf8_more : (n indent : ℕ) (s u : Layout) (t : Token) → IsTokenWritten n indent s u t → IsUtf8 (token_text t)
-    → IsUtf8 s.out.items → IsUtf8 u.out.items
-utf8_more n indent s u t l text before =
-    let last = last_of s.before in
+    → IsUtf8 s.written_bytes.items → IsUtf8 u.written_bytes.items
+utf8_more n indent s u t l text previous_kind =
+    let last = kind_of_previous_token s.previous_kind in
     let comma = separator (is_value last) t in
     let between = white_space last (begins t) (indent_of_token n t indent) in
-    subst IsUtf8 (sym l.out)
-    (IsUtf8-append s.out.items (comma ++ (between ++ token_text t)) before
+    subst IsUtf8 (sym l.written_bytes)
+    (IsUtf8-append s.written_bytes.items (comma ++ (between ++ token_text t)) previous_kind
     (IsUtf8-append comma (between ++ token_text t) (comma_utf8 (is_value last && begins t))
     (IsUtf8-append between (token_text t) (gap_utf8 last (begins t) (indent_of_token n t indent)) text)))
 
-pub joined : (out comma between text : List ℕ) → ((out ++ comma) ++ between) ++ text ≡ out ++ (comma ++ (between ++ text))
-joined out comma between text = simp append_assoc
+pub joined : (written_bytes comma between text : List ℕ) → ((written_bytes ++ comma) ++ between) ++ text ≡ written_bytes ++ (comma ++ (between ++ text))
+joined written_bytes comma between text = simp append_assoc
 
 -- ---- the tokens of a layout
 

@@ -7,10 +7,10 @@ use Rattle.std.proofs.lemmas.List.{take_rest}
 use Rattle.std.proofs.lemmas.List.Elements.{All-append, All-head, All-tail}
 use Rattle.std.proofs.lemmas.Str.{IsUtf8-append}
 use Rattle.std.specs.Prelude.{IsUtf8}
-use Rattle.bson_run.specs.Lines.{lines, prepend_to_first_line, buffered_text, line_text, IsDiagnostic, IsBlank, IsRejectedLineIn, WritesIn, WritesText, HaveOutcomesIn}
-use Rattle.bson_run.specs.Lines.{blank, written, skipped, IsStoppedIn, IsStoppedAtIn}
+use Rattle.bson_run.specs.Lines.{lines, prepend_to_first_line, buffered_text, line_text, IsDiagnostic, IsBlank, IsRejectedLineIn, WritesOutputForTask, WritesText, HaveLineOutcomes}
+use Rattle.bson_run.specs.Lines.{blank, written, skipped, IsStoppedAtText, IsStoppedAtNextLine}
 use Rattle.bson_run.specs.LinesSteps.{Options, HasNoNewline, IsConversionFailure, IsDiagnosticAppended, HaveSameResults, EndsLine}
-use Rattle.bson_run.specs.LinesSteps.{LineProgress, ReadsBytes, EndsLastLine, Reached, Stopped, StopsInBytes, StopsAtLastLine}
+use Rattle.bson_run.specs.LinesSteps.{LineProgress, ReadsBytes, EndsLastLine, HasReachedLine, HasStoppedAtLine, StopsInBytes, StopsAtLastLine}
 use Rattle.bson_run.specs.LinesSteps.{Error, CannotRead, NotJson, NotExtendedJson, NoBytes, OutOfMemory}
 use Rattle.bson_run.specs.LinesSteps.{CannotWrite, LineRunState, NotCanonical, OnRefusal, Task}
 use Rattle.bson_run.specs.declared.task.OnRefusal.TheVariants.{Stop}
@@ -46,24 +46,24 @@ judged_bad o task OutOfMemory text h other = absurd (other refl)
 judged_bad o task CannotWrite text h other = h
 
 stopped_at : (o : Options) (task : Task) (on_refusal : OnRefusal) (fault : Error) (rejected_text : List ℕ) (n : ℕ) (line : List ℕ)
-    (others : List (List ℕ)) → rejected_text ≡ line_text n line → IsStoppedIn o task on_refusal fault rejected_text
-    → IsStoppedAtIn o task on_refusal fault rejected_text n (line ∷ others)
-stopped_at o task on_refusal CannotRead rejected_text n line others is h = h
-stopped_at o task on_refusal NotJson rejected_text n line others is h = (is, h)
-stopped_at o task on_refusal (NotExtendedJson place) rejected_text n line others is h = (is, h)
-stopped_at o task on_refusal (NoBytes why) rejected_text n line others is h = (is, h)
-stopped_at o task on_refusal (NotCanonical column) rejected_text n line others is h = (is, h)
-stopped_at o task on_refusal OutOfMemory rejected_text n line others is h = h
-stopped_at o task on_refusal CannotWrite rejected_text n line others is h = h
+    (later_lines : List (List ℕ)) → rejected_text ≡ line_text n line → IsStoppedAtText o task on_refusal fault rejected_text
+    → IsStoppedAtNextLine o task on_refusal fault rejected_text n (line ∷ later_lines)
+stopped_at o task on_refusal CannotRead rejected_text n line later_lines is h = h
+stopped_at o task on_refusal NotJson rejected_text n line later_lines is h = (is, h)
+stopped_at o task on_refusal (NotExtendedJson place) rejected_text n line later_lines is h = (is, h)
+stopped_at o task on_refusal (NoBytes why) rejected_text n line later_lines is h = (is, h)
+stopped_at o task on_refusal (NotCanonical column) rejected_text n line later_lines is h = (is, h)
+stopped_at o task on_refusal OutOfMemory rejected_text n line later_lines is h = h
+stopped_at o task on_refusal CannotWrite rejected_text n line later_lines is h = h
 
 -- a refused text stops the run, where refusals do
 pub refused_stops : (o : Options) (task : Task) (on_refusal : OnRefusal) (fault e : Error) (text : List ℕ) → IsConversionFailure o task fault text
-    → (e ≡ OutOfMemory) ⊎ ((on_refusal ≡ Stop) × (e ≡ fault)) → IsStoppedIn o task on_refusal e text
-refused_stops o task on_refusal fault e text h (inl is) = subst (λ f. IsStoppedIn o task on_refusal f text) (sym is) tt
+    → (e ≡ OutOfMemory) ⊎ ((on_refusal ≡ Stop) × (e ≡ fault)) → IsStoppedAtText o task on_refusal e text
+refused_stops o task on_refusal fault e text h (inl is) = subst (λ f. IsStoppedAtText o task on_refusal f text) (sym is) tt
 refused_stops o task on_refusal fault e text h (inr p) =
-    subst (λ f. IsStoppedIn o task on_refusal f text) (sym p.1) (of_fault fault h)
+    subst (λ f. IsStoppedAtText o task on_refusal f text) (sym p.1) (of_fault fault h)
   where
-    of_fault : (f : Error) → IsConversionFailure o task f text → IsStoppedIn o task on_refusal f text
+    of_fault : (f : Error) → IsConversionFailure o task f text → IsStoppedAtText o task on_refusal f text
     of_fault CannotRead h = tt
     of_fault NotJson h = (p.0, h)
     of_fault (NotExtendedJson place) h = (p.0, h)
@@ -77,9 +77,9 @@ lines_none [] none = refl
 lines_none (x ∷ xs) none = absurd (omega arith)
 
 by_memory : (o : Options) (task : Task) (on_refusal : OnRefusal) (fault : Error) (rejected_text : List ℕ) (n : ℕ)
-    (others : List (List ℕ)) → fault ≡ OutOfMemory → IsStoppedAtIn o task on_refusal fault rejected_text n others
-by_memory o task on_refusal fault rejected_text n others e =
-    subst (λ f. IsStoppedAtIn o task on_refusal f rejected_text n others) (sym e) tt
+    (later_lines : List (List ℕ)) → fault ≡ OutOfMemory → IsStoppedAtNextLine o task on_refusal fault rejected_text n later_lines
+by_memory o task on_refusal fault rejected_text n later_lines e =
+    subst (λ f. IsStoppedAtNextLine o task on_refusal f rejected_text n later_lines) (sym e) tt
 
 -- the text of a line that is still buffered
 same_text : (s t : LineRunState) → HaveSameResults s t → t.line ≡ s.line → buffered_text t ≡ buffered_text s
@@ -140,14 +140,14 @@ module _ {o : Options} {task : Task} {on_refusal : OnRefusal} where
 
   pub written_taken : (s t : LineRunState) (more : List ℕ) → t.line.items ≡ [] → t.lines ≡ s.lines + 1
       → t.output.items ≡ s.output.items ++ more → t.diagnostics.items ≡ s.diagnostics.items → t.refused ≡ s.refused
-      → WritesIn o task (line_text s.lines s.line.items) more → (WritesText task → IsUtf8 more)
+      → WritesOutputForTask o task (line_text s.lines s.line.items) more → (WritesText task → IsUtf8 more)
       → EndsLine o task on_refusal s t
   written_taken s t more line number grown diagnostics_before refused h utf8 = record {
     line = line;
     lines = number;
     outcomes =
         λ before output diagnostics e p. rw (grown, diagnostics_before, refused, ← append_assoc output s.output.items more) (record {
-          outcomes = written s.line.items more p.outcomes (subst (λ n. WritesIn o task (line_text n s.line.items) more) e h);
+          outcomes = written s.line.items more p.outcomes (subst (λ n. WritesOutputForTask o task (line_text n s.line.items) more) e h);
           utf8 = λ w. IsUtf8-append (output ++ s.output.items) more (p.utf8 w) (utf8 w);
           diagnostic_utf8 = p.diagnostic_utf8;
         });
@@ -187,9 +187,9 @@ module _ {o : Options} {task : Task} {on_refusal : OnRefusal} where
   pub span_taken : (span : List ℕ) (s t : LineRunState) → HasNoNewline span → t.line.items ≡ s.line.items ++ span
       → HaveSameResults s t → ReadsBytes o task on_refusal span s t
   span_taken span s t h e same before output diagnostics_before p = record {
-    done = p.done;
+    done_lines = p.done_lines;
     whole = λ more. ap lines (append_assoc before span more) ∙ p.whole (span ++ more)
-        ∙ ap (λ l. p.done ++ lines l) (sym (append_assoc s.line.items span more) ∙ ap (λ l. l ++ more) (sym e));
+        ∙ ap (λ l. p.done_lines ++ lines l) (sym (append_assoc s.line.items span more) ∙ ap (λ l. l ++ more) (sym e));
     has_no_newline = subst HasNoNewline (sym e) (open_both s.line.items span p.has_no_newline h);
     counted = same.lines ∙ p.counted;
     outcomes = rw (same.output, same.diagnostics_before, same.refused) p.outcomes;
@@ -201,23 +201,23 @@ module _ {o : Options} {task : Task} {on_refusal : OnRefusal} where
   -- the newline that ends it
   pub newline_taken : (s t : LineRunState) → EndsLine o task on_refusal s t → ReadsBytes o task on_refusal (10 ∷ []) s t
   newline_taken s t taken before output diagnostics_before p = record {
-    done = p.done ++ s.line.items ∷ [];
+    done_lines = p.done_lines ++ s.line.items ∷ [];
     whole = λ more. ap lines (append_assoc before (10 ∷ []) more) ∙ p.whole (10 ∷ more)
-        ∙ ap (λ l. p.done ++ l) (lines_ended s.line.items more p.has_no_newline)
-        ∙ sym (append_assoc p.done (s.line.items ∷ []) (lines more))
-        ∙ ap (λ l. (p.done ++ s.line.items ∷ []) ++ lines (l ++ more)) (sym taken.line);
+        ∙ ap (λ l. p.done_lines ++ l) (lines_ended s.line.items more p.has_no_newline)
+        ∙ sym (append_assoc p.done_lines (s.line.items ∷ []) (lines more))
+        ∙ ap (λ l. (p.done_lines ++ s.line.items ∷ []) ++ lines (l ++ more)) (sym taken.line);
     has_no_newline = subst HasNoNewline (sym taken.line) open_nil;
-    counted = taken.lines ∙ ap (λ n. n + 1) p.counted ∙ sym (length-append p.done (s.line.items ∷ []));
-    outcomes = taken.outcomes p.done output diagnostics_before p.counted p.outcomes;
+    counted = taken.lines ∙ ap (λ n. n + 1) p.counted ∙ sym (length-append p.done_lines (s.line.items ∷ []));
+    outcomes = taken.outcomes p.done_lines output diagnostics_before p.counted p.outcomes;
   }
 
   -- ---- stopping
 
   pub reached : {bytes output diagnostics_before : List ℕ} {s : LineRunState} (t : LineRunState) (more : List ℕ) → HaveSameResults s t
-      → LineProgress o task on_refusal bytes output diagnostics_before s → Reached o task on_refusal (bytes ++ more) output diagnostics_before t
+      → LineProgress o task on_refusal bytes output diagnostics_before s → HasReachedLine o task on_refusal (bytes ++ more) output diagnostics_before t
   reached {s} t more same p = record {
-    done = p.done;
-    others = lines (s.line.items ++ more);
+    done_lines = p.done_lines;
+    later_lines = lines (s.line.items ++ more);
     whole = p.whole more;
     counted = same.lines ∙ p.counted;
     outcomes = rw (same.output, same.diagnostics_before, same.refused) p.outcomes;
@@ -226,86 +226,86 @@ module _ {o : Options} {task : Task} {on_refusal : OnRefusal} where
   pub stops_after : (xs ys : List ℕ) (fault : Error) (s t u : LineRunState) → ReadsBytes o task on_refusal xs s t
       → StopsInBytes o task on_refusal ys fault t u → StopsInBytes o task on_refusal (xs ++ ys) fault s u
   stops_after xs ys fault s t u f g before output diagnostics_before more p =
-      subst (λ l. Stopped o task on_refusal (l ++ more) output diagnostics_before fault u) (append_assoc before xs ys)
+      subst (λ l. HasStoppedAtLine o task on_refusal (l ++ more) output diagnostics_before fault u) (append_assoc before xs ys)
       (g (before ++ xs) output diagnostics_before more (f before output diagnostics_before p))
 
   pub memory_stops : (bytes : List ℕ) (fault : Error) (s t : LineRunState) → fault ≡ OutOfMemory → HaveSameResults s t
       → StopsInBytes o task on_refusal bytes fault s t
   memory_stops bytes fault s t e same before output diagnostics_before more p = record {
     reached = record {
-      done = p.done;
-      others = lines (s.line.items ++ (bytes ++ more));
+      done_lines = p.done_lines;
+      later_lines = lines (s.line.items ++ (bytes ++ more));
       whole = ap lines (append_assoc before bytes more) ∙ p.whole (bytes ++ more);
       counted = same.lines ∙ p.counted;
       outcomes = rw (same.output, same.diagnostics_before, same.refused) p.outcomes;
     };
-    reason = by_memory o task on_refusal fault (buffered_text t) (length p.done) (lines (s.line.items ++ (bytes ++ more))) e;
+    reason = by_memory o task on_refusal fault (buffered_text t) (length p.done_lines) (lines (s.line.items ++ (bytes ++ more))) e;
   }
 
   pub line_stops : (bytes : List ℕ) (fault : Error) (s t : LineRunState)
-      → IsStoppedIn o task on_refusal fault (buffered_text s) → HaveSameResults s t → t.line ≡ s.line
+      → IsStoppedAtText o task on_refusal fault (buffered_text s) → HaveSameResults s t → t.line ≡ s.line
       → StopsInBytes o task on_refusal (10 ∷ bytes) fault s t
   line_stops bytes fault s t h same rejected_text before output diagnostics_before more p = record {
     reached = record {
-      done = p.done;
-      others = s.line.items ∷ lines (bytes ++ more);
+      done_lines = p.done_lines;
+      later_lines = s.line.items ∷ lines (bytes ++ more);
       whole = ap lines (append_assoc before (10 ∷ bytes) more) ∙ p.whole (10 ∷ bytes ++ more)
-          ∙ ap (λ l. p.done ++ l) (lines_ended s.line.items (bytes ++ more) p.has_no_newline);
+          ∙ ap (λ l. p.done_lines ++ l) (lines_ended s.line.items (bytes ++ more) p.has_no_newline);
       counted = same.lines ∙ p.counted;
       outcomes = rw (same.output, same.diagnostics_before, same.refused) p.outcomes;
     };
     reason =
-        stopped_at o task on_refusal fault (buffered_text t) (length p.done) s.line.items (lines (bytes ++ more))
+        stopped_at o task on_refusal fault (buffered_text t) (length p.done_lines) s.line.items (lines (bytes ++ more))
         (same_text s t same rejected_text ∙ ap (λ k. line_text k s.line.items) p.counted)
-        (subst (IsStoppedIn o task on_refusal fault) (sym (same_text s t same rejected_text)) h);
+        (subst (IsStoppedAtText o task on_refusal fault) (sym (same_text s t same rejected_text)) h);
   }
 
   -- ---- the last line
 
   last_whole : {bytes output diagnostics_before : List ℕ} {s : LineRunState} → (p : LineProgress o task on_refusal bytes output diagnostics_before s)
-      → lines bytes ≡ p.done ++ lines s.line.items
+      → lines bytes ≡ p.done_lines ++ lines s.line.items
   last_whole {bytes} {s} p =
-      ap lines (sym (append-nil bytes)) ∙ p.whole [] ∙ ap (λ l. p.done ++ lines l) (append-nil s.line.items)
+      ap lines (sym (append-nil bytes)) ∙ p.whole [] ∙ ap (λ l. p.done_lines ++ lines l) (append-nil s.line.items)
 
   pub no_last : (s : LineRunState) → length s.line.items ≡ 0 → EndsLastLine o task on_refusal s s
   no_last s none before output diagnostics_before p =
-      let all : lines before ≡ p.done =
-      last_whole p ∙ ap (λ l. p.done ++ l) (lines_none s.line.items none) ∙ append-nil p.done in
+      let all : lines before ≡ p.done_lines =
+      last_whole p ∙ ap (λ l. p.done_lines ++ l) (lines_none s.line.items none) ∙ append-nil p.done_lines in
       record {
         counted = p.counted ∙ ap length (sym all);
         outcomes =
-            subst (λ l. HaveOutcomesIn o task on_refusal l (output ++ s.output.items) (diagnostics_before ++ s.diagnostics.items) s.refused)
+            subst (λ l. HaveLineOutcomes o task on_refusal l (output ++ s.output.items) (diagnostics_before ++ s.diagnostics.items) s.refused)
             (sym all) p.outcomes;
       }
 
   pub last_taken : (s t : LineRunState) → 0 < length s.line.items → EndsLine o task on_refusal s t
       → EndsLastLine o task on_refusal s t
   last_taken s t some taken before output diagnostics_before p =
-      let all : lines before ≡ p.done ++ s.line.items ∷ [] =
-      last_whole p ∙ ap (λ l. p.done ++ l) (lines_last s.line.items p.has_no_newline some) in
+      let all : lines before ≡ p.done_lines ++ s.line.items ∷ [] =
+      last_whole p ∙ ap (λ l. p.done_lines ++ l) (lines_last s.line.items p.has_no_newline some) in
       record {
-        counted = taken.lines ∙ ap (λ n. n + 1) p.counted ∙ sym (length-append p.done (s.line.items ∷ []))
+        counted = taken.lines ∙ ap (λ n. n + 1) p.counted ∙ sym (length-append p.done_lines (s.line.items ∷ []))
             ∙ ap length (sym all);
         outcomes =
-            subst (λ l. HaveOutcomesIn o task on_refusal l (output ++ t.output.items) (diagnostics_before ++ t.diagnostics.items) t.refused)
-            (sym all) (taken.outcomes p.done output diagnostics_before p.counted p.outcomes);
+            subst (λ l. HaveLineOutcomes o task on_refusal l (output ++ t.output.items) (diagnostics_before ++ t.diagnostics.items) t.refused)
+            (sym all) (taken.outcomes p.done_lines output diagnostics_before p.counted p.outcomes);
       }
 
   pub last_stops : (fault : Error) (s t : LineRunState) → 0 < length s.line.items
-      → IsStoppedIn o task on_refusal fault (buffered_text s) → HaveSameResults s t → t.line ≡ s.line
+      → IsStoppedAtText o task on_refusal fault (buffered_text s) → HaveSameResults s t → t.line ≡ s.line
       → StopsAtLastLine o task on_refusal fault s t
   last_stops fault s t some h same rejected_text before output diagnostics_before p = record {
     reached = record {
-      done = p.done;
-      others = s.line.items ∷ [];
-      whole = last_whole p ∙ ap (λ l. p.done ++ l) (lines_last s.line.items p.has_no_newline some);
+      done_lines = p.done_lines;
+      later_lines = s.line.items ∷ [];
+      whole = last_whole p ∙ ap (λ l. p.done_lines ++ l) (lines_last s.line.items p.has_no_newline some);
       counted = same.lines ∙ p.counted;
       outcomes = rw (same.output, same.diagnostics_before, same.refused) p.outcomes;
     };
     reason =
-        stopped_at o task on_refusal fault (buffered_text t) (length p.done) s.line.items []
+        stopped_at o task on_refusal fault (buffered_text t) (length p.done_lines) s.line.items []
         (same_text s t same rejected_text ∙ ap (λ k. line_text k s.line.items) p.counted)
-        (subst (IsStoppedIn o task on_refusal fault) (sym (same_text s t same rejected_text)) h);
+        (subst (IsStoppedAtText o task on_refusal fault) (sym (same_text s t same rejected_text)) h);
   }
 
   -- ---- a line that ends among bytes
@@ -318,7 +318,7 @@ module _ {o : Options} {task : Task} {on_refusal : OnRefusal} where
   pub line_stops_in : (rest : List ℕ) (n : ℕ) (fault : Error) (s t u : LineRunState) → n < length rest
       → HasNoNewline (take n rest) → get_or rest n 0 ≡ 10
       → t.line.items ≡ s.line.items ++ take n rest → HaveSameResults s t
-      → IsStoppedIn o task on_refusal fault (buffered_text t) → HaveSameResults t u → u.line ≡ t.line
+      → IsStoppedAtText o task on_refusal fault (buffered_text t) → HaveSameResults t u → u.line ≡ t.line
       → StopsInBytes o task on_refusal rest fault s u
   line_stops_in rest n fault s t u within h is e same stops kept rejected_text =
       subst (λ l. StopsInBytes o task on_refusal l fault s u) (sym (at_newline rest n within is))

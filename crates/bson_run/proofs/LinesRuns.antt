@@ -5,10 +5,10 @@ use Rattle.std.specs.Io.{StartsWith}
 use Rattle.std.specs.Io.KnownBytes.{Keeps, Appends, Consumes, IsAtEnd}
 use Rattle.std.proofs.lemmas.Str.{IsUtf8-nil}
 use Rattle.std.proofs.KnownBytes.{Appends-kept, Appends-nil, Appends-trans, Consumes-nil, Consumes-trans, Consumes-kept}
-use Rattle.bson_run.specs.Lines.{lines, remaining_bytes, none, buffered_text, line_text, DoneLinesIn, FailsAtIn, IsStoppedAtIn, StopsAtIn}
-use Rattle.bson_run.specs.Lines.{CutShortAtIn, WritesPartOfBoth}
-use Rattle.bson_run.specs.LinesSteps.{Options, CannotWriteBoth, HasNoNewline, IsStart, HasFlushed, HaveSameResults}
-use Rattle.bson_run.specs.LinesSteps.{LineProgress, ReadsBytes, EndsLastLine, Reached, Stopped, StopsInBytes, StopsAtLastLine, RunProgress, AllLinesDone}
+use Rattle.bson_run.specs.Lines.{lines, remaining_bytes, none, buffered_text, line_text, RunHasDoneAllLines, RunFailsAtLine, IsStoppedAtNextLine, RunStopsAtLine}
+use Rattle.bson_run.specs.Lines.{RunIsCutShortAtLine, WritesPartOfBoth}
+use Rattle.bson_run.specs.LinesSteps.{Options, CannotWriteBoth, HasNoNewline, IsBeforeFirstLine, HasFlushed, HaveSameResults}
+use Rattle.bson_run.specs.LinesSteps.{LineProgress, ReadsBytes, EndsLastLine, HasReachedLine, HasStoppedAtLine, StopsInBytes, StopsAtLastLine, RunProgress, AllLinesDone}
 use Rattle.bson_convert.specs.Run.{WritesBeginning, WritesPart}
 use Rattle.bson_run.specs.LinesSteps.{Error, CannotRead, NotJson, NotExtendedJson, NoBytes, OutOfMemory}
 use Rattle.bson_run.specs.LinesSteps.{CannotWrite, LineRunState, NotCanonical, OnRefusal, Task}
@@ -44,13 +44,13 @@ unwritten output_before mid output_after output more a k = record {
   written = Appends-kept output_before mid output_after output a k;
 }
 
-cut_later : (output_before mid output_after diagnostics_before said diagnostics_after : Option (List ℕ)) (output more diagnostics others : List ℕ)
-    → Appends output_before mid output → Appends diagnostics_before said diagnostics → CannotWriteBoth mid output_after said diagnostics_after more others
-    → WritesPartOfBoth output_before output_after diagnostics_before diagnostics_after (output ++ more) (diagnostics ++ others)
-cut_later output_before mid output_after diagnostics_before said diagnostics_after output more diagnostics others a b (inl p) =
-    inl (parted diagnostics_before said diagnostics_after diagnostics others b p.0, unwritten output_before mid output_after output more a p.1)
-cut_later output_before mid output_after diagnostics_before said diagnostics_after output more diagnostics others a b (inr p) =
-    inr (Appends-trans diagnostics_before said diagnostics_after diagnostics others b p.0, parted output_before mid output_after output more a p.1)
+cut_later : (output_before mid output_after diagnostics_before said diagnostics_after : Option (List ℕ)) (output more diagnostics later_lines : List ℕ)
+    → Appends output_before mid output → Appends diagnostics_before said diagnostics → CannotWriteBoth mid output_after said diagnostics_after more later_lines
+    → WritesPartOfBoth output_before output_after diagnostics_before diagnostics_after (output ++ more) (diagnostics ++ later_lines)
+cut_later output_before mid output_after diagnostics_before said diagnostics_after output more diagnostics later_lines a b (inl p) =
+    inl (parted diagnostics_before said diagnostics_after diagnostics later_lines b p.0, unwritten output_before mid output_after output more a p.1)
+cut_later output_before mid output_after diagnostics_before said diagnostics_after output more diagnostics later_lines a b (inr p) =
+    inr (Appends-trans diagnostics_before said diagnostics_after diagnostics later_lines b p.0, parted output_before mid output_after output more a p.1)
 
 still_held : (t u : LineRunState) → HasFlushed t u → buffered_text u ≡ buffered_text t
 still_held t u w = ap (λ n. line_text n u.line.items) w.lines ∙ ap (line_text t.lines) w.line
@@ -66,10 +66,10 @@ module _ {o : Options} {task : Task} {on_refusal : OnRefusal} where
   -- ---- ends
 
   complete : (bytes output diagnostics : List ℕ) (s : LineRunState) → AllLinesDone o task on_refusal bytes output diagnostics s
-      → Reached o task on_refusal bytes output diagnostics s
+      → HasReachedLine o task on_refusal bytes output diagnostics s
   complete bytes output diagnostics s all = record {
-    done = lines bytes;
-    others = [];
+    done_lines = lines bytes;
+    later_lines = [];
     whole = sym (append-nil (lines bytes));
     counted = all.counted;
     outcomes = all.outcomes;
@@ -77,14 +77,14 @@ module _ {o : Options} {task : Task} {on_refusal : OnRefusal} where
 
   stops : (fault : Error) (before after output_before output_after diagnostics_before diagnostics_after : Option (List ℕ)) (bytes output diagnostics : List ℕ)
       (s u : LineRunState) → u.lines ≡ s.lines → buffered_text u ≡ buffered_text s → Consumes before after bytes
-      → Stopped o task on_refusal (bytes ++ remaining_bytes after) output diagnostics fault s
+      → HasStoppedAtLine o task on_refusal (bytes ++ remaining_bytes after) output diagnostics fault s
       → Appends output_before output_after (output ++ s.output.items) → Appends diagnostics_before diagnostics_after (diagnostics ++ s.diagnostics.items)
-      → StopsAtIn o (IsStoppedAtIn o task on_refusal fault (buffered_text u)) task on_refusal before after output_before output_after diagnostics_before diagnostics_after
+      → RunStopsAtLine o (IsStoppedAtNextLine o task on_refusal fault (buffered_text u)) task on_refusal before after output_before output_after diagnostics_before diagnostics_after
       (u.lines + 1)
   stops fault before after output_before output_after diagnostics_before diagnostics_after bytes output diagnostics s u count rejected_text given stopped written reports_appended =
       record {
-        done = stopped.reached.done;
-        others = stopped.reached.others;
+        done_lines = stopped.reached.done_lines;
+        later_lines = stopped.reached.later_lines;
         output = output ++ s.output.items;
         diagnostics = diagnostics ++ s.diagnostics.items;
         reaches =
@@ -97,16 +97,16 @@ module _ {o : Options} {task : Task} {on_refusal : OnRefusal} where
             };
         counted = ap (λ n. n + 1) (count ∙ stopped.reached.counted);
         reason =
-            subst (λ text. IsStoppedAtIn o task on_refusal fault text (length stopped.reached.done) stopped.reached.others)
+            subst (λ text. IsStoppedAtNextLine o task on_refusal fault text (length stopped.reached.done_lines) stopped.reached.later_lines)
             (sym rejected_text) stopped.reason;
         written = (written, reports_appended);
       }
 
   fails : (fault : Error) (before after output_before output_after diagnostics_before diagnostics_after : Option (List ℕ)) (bytes output diagnostics : List ℕ)
       (s u : LineRunState) → u.lines ≡ s.lines → buffered_text u ≡ buffered_text s → Consumes before after bytes
-      → Stopped o task on_refusal (bytes ++ remaining_bytes after) output diagnostics fault s
+      → HasStoppedAtLine o task on_refusal (bytes ++ remaining_bytes after) output diagnostics fault s
       → Appends output_before output_after (output ++ s.output.items) → Appends diagnostics_before diagnostics_after (diagnostics ++ s.diagnostics.items)
-      → FailsAtIn o fault task on_refusal before after output_before output_after diagnostics_before diagnostics_after (u.lines + 1) (buffered_text u)
+      → RunFailsAtLine o fault task on_refusal before after output_before output_after diagnostics_before diagnostics_after (u.lines + 1) (buffered_text u)
   fails CannotRead = stops CannotRead
   fails NotJson = stops NotJson
   fails (NotExtendedJson place) = stops (NotExtendedJson place)
@@ -119,15 +119,15 @@ module _ {o : Options} {task : Task} {on_refusal : OnRefusal} where
 
   cuts : (fault : Error) (before after output_before mid output_after diagnostics_before said diagnostics_after : Option (List ℕ))
       (bytes output diagnostics : List ℕ) (s u : LineRunState) → fault ≡ CannotWrite → u.lines ≡ s.lines
-      → Consumes before after bytes → Reached o task on_refusal (bytes ++ remaining_bytes after) output diagnostics s
+      → Consumes before after bytes → HasReachedLine o task on_refusal (bytes ++ remaining_bytes after) output diagnostics s
       → Appends output_before mid output → Appends diagnostics_before said diagnostics
       → CannotWriteBoth mid output_after said diagnostics_after s.output.items s.diagnostics.items
-      → FailsAtIn o fault task on_refusal before after output_before output_after diagnostics_before diagnostics_after (u.lines + 1) (buffered_text u)
+      → RunFailsAtLine o fault task on_refusal before after output_before output_after diagnostics_before diagnostics_after (u.lines + 1) (buffered_text u)
   cuts fault before after output_before mid output_after diagnostics_before said diagnostics_after bytes output diagnostics s u e count given r written reports_appended
       cut =
-      let short : CutShortAtIn o task on_refusal before after output_before output_after diagnostics_before diagnostics_after (u.lines + 1) = record {
-        done = r.done;
-        others = r.others;
+      let short : RunIsCutShortAtLine o task on_refusal before after output_before output_after diagnostics_before diagnostics_after (u.lines + 1) = record {
+        done_lines = r.done_lines;
+        later_lines = r.later_lines;
         output = output ++ s.output.items;
         diagnostics = diagnostics ++ s.diagnostics.items;
         reaches = record { bytes = bytes; refused = s.refused; given = given; whole = r.whole; outcomes = r.outcomes };
@@ -136,11 +136,11 @@ module _ {o : Options} {task : Task} {on_refusal : OnRefusal} where
         written =
             cut_later output_before mid output_after diagnostics_before said diagnostics_after output s.output.items diagnostics s.diagnostics.items written reports_appended cut;
       } in
-      subst (λ f. FailsAtIn o f task on_refusal before after output_before output_after diagnostics_before diagnostics_after (u.lines + 1) (buffered_text u)) (sym e) short
+      subst (λ f. RunFailsAtLine o f task on_refusal before after output_before output_after diagnostics_before diagnostics_after (u.lines + 1) (buffered_text u)) (sym e) short
 
   -- ---- a run
 
-  pub starts : (before output_before diagnostics_before : Option (List ℕ)) (s : LineRunState) → IsStart s
+  pub starts : (before output_before diagnostics_before : Option (List ℕ)) (s : LineRunState) → IsBeforeFirstLine s
       → RunProgress o task on_refusal before before output_before output_before diagnostics_before diagnostics_before s
   starts before output_before diagnostics_before s p = record {
     bytes = [];
@@ -152,7 +152,7 @@ module _ {o : Options} {task : Task} {on_refusal : OnRefusal} where
     output_is_flushed = p.output;
     diagnostics_are_flushed = p.diagnostics_before;
     progress = record {
-      done = [];
+      done_lines = [];
       whole = λ more. ap (λ l. lines (l ++ more)) (sym p.line);
       has_no_newline = subst HasNoNewline (sym p.line) open_nil;
       counted = p.lines;
@@ -190,7 +190,7 @@ module _ {o : Options} {task : Task} {on_refusal : OnRefusal} where
   -- a reader that failed
   pub unread : (before given after output_before output_after diagnostics_before diagnostics_after : Option (List ℕ)) (s : LineRunState) → Keeps given after
       → RunProgress o task on_refusal before given output_before output_after diagnostics_before diagnostics_after s
-      → FailsAtIn o CannotRead task on_refusal before after output_before output_after diagnostics_before diagnostics_after (s.lines + 1) (buffered_text s)
+      → RunFailsAtLine o CannotRead task on_refusal before after output_before output_after diagnostics_before diagnostics_after (s.lines + 1) (buffered_text s)
   unread before given after output_before output_after diagnostics_before diagnostics_after s same p =
       stops CannotRead before after output_before output_after diagnostics_before diagnostics_after p.bytes p.output p.diagnostics s s refl refl
       (Consumes-kept before given after p.bytes p.given same)
@@ -205,8 +205,8 @@ module _ {o : Options} {task : Task} {on_refusal : OnRefusal} where
       → LineProgress o task on_refusal bytes output diagnostics t
       → LineProgress o task on_refusal bytes (output ++ t.output.items) (diagnostics ++ t.diagnostics.items) u
   flushed bytes output diagnostics t u w p = record {
-    done = p.done;
-    whole = λ more. p.whole more ∙ ap (λ l. p.done ++ lines (l ++ more)) (sym w.line);
+    done_lines = p.done_lines;
+    whole = λ more. p.whole more ∙ ap (λ l. p.done_lines ++ lines (l ++ more)) (sym w.line);
     has_no_newline = subst HasNoNewline (sym w.line) p.has_no_newline;
     counted = w.lines ∙ p.counted;
     outcomes =
@@ -236,7 +236,7 @@ module _ {o : Options} {task : Task} {on_refusal : OnRefusal} where
       → StopsInBytes o task on_refusal block fault s t
       → HasFlushed t u → Appends mid output_after t.output.items → Appends said diagnostics_after t.diagnostics.items
       → RunProgress o task on_refusal before given output_before mid diagnostics_before said s → Consumes given after block
-      → FailsAtIn o fault task on_refusal before after output_before output_after diagnostics_before diagnostics_after (u.lines + 1) (buffered_text u)
+      → RunFailsAtLine o fault task on_refusal before after output_before output_after diagnostics_before diagnostics_after (u.lines + 1) (buffered_text u)
   block_fails fault block s t u before given after output_before mid output_after diagnostics_before said diagnostics_after stop w written reports_appended p c =
       fails fault before after output_before output_after diagnostics_before diagnostics_after (p.bytes ++ block) p.output p.diagnostics t u w.lines (still_held t u w)
       (Consumes-trans before given after p.bytes block p.given c)
@@ -250,7 +250,7 @@ module _ {o : Options} {task : Task} {on_refusal : OnRefusal} where
       → (before given after output_before mid output_after diagnostics_before said diagnostics_after : Option (List ℕ))
       → CannotWriteBoth mid output_after said diagnostics_after t.output.items t.diagnostics.items
       → RunProgress o task on_refusal before given output_before mid diagnostics_before said s → Consumes given after block
-      → FailsAtIn o e task on_refusal before after output_before output_after diagnostics_before diagnostics_after (u.lines + 1) (buffered_text u)
+      → RunFailsAtLine o e task on_refusal before after output_before output_after diagnostics_before diagnostics_after (u.lines + 1) (buffered_text u)
   block_cut r e block s t u ok err is count before given after output_before mid output_after diagnostics_before said diagnostics_after cut p c =
       cuts e before after output_before mid output_after diagnostics_before said diagnostics_after (p.bytes ++ block) p.output p.diagnostics t u is count
       (Consumes-trans before given after p.bytes block p.given c)
@@ -262,7 +262,7 @@ module _ {o : Options} {task : Task} {on_refusal : OnRefusal} where
   pub end_done : (s t u : LineRunState) (before after output_before mid output_after diagnostics_before said diagnostics_after : Option (List ℕ))
       → EndsLastLine o task on_refusal s t → HasFlushed t u → Appends mid output_after t.output.items → Appends said diagnostics_after t.diagnostics.items
       → RunProgress o task on_refusal before after output_before mid diagnostics_before said s → IsAtEnd after
-      → DoneLinesIn o task on_refusal before after output_before output_after diagnostics_before diagnostics_after u.lines u.refused
+      → RunHasDoneAllLines o task on_refusal before after output_before output_after diagnostics_before diagnostics_after u.lines u.refused
   end_done s t u before after output_before mid output_after diagnostics_before said diagnostics_after ends w written reports_appended p at_end =
       let all = ends p.bytes p.output p.diagnostics p.progress in
       record {
@@ -280,10 +280,10 @@ module _ {o : Options} {task : Task} {on_refusal : OnRefusal} where
       (before after output_before mid output_after diagnostics_before said diagnostics_after : Option (List ℕ)) → StopsAtLastLine o task on_refusal fault s t
       → HasFlushed t u → Appends mid output_after t.output.items → Appends said diagnostics_after t.diagnostics.items
       → RunProgress o task on_refusal before after output_before mid diagnostics_before said s → IsAtEnd after
-      → FailsAtIn o fault task on_refusal before after output_before output_after diagnostics_before diagnostics_after (u.lines + 1) (buffered_text u)
+      → RunFailsAtLine o fault task on_refusal before after output_before output_after diagnostics_before diagnostics_after (u.lines + 1) (buffered_text u)
   end_fails fault s t u before after output_before mid output_after diagnostics_before said diagnostics_after stop w written reports_appended p at_end =
       fails fault before after output_before output_after diagnostics_before diagnostics_after p.bytes p.output p.diagnostics t u w.lines (still_held t u w) p.given
-      (subst (λ l. Stopped o task on_refusal l p.output p.diagnostics fault t) (whole after p.bytes at_end)
+      (subst (λ l. HasStoppedAtLine o task on_refusal l p.output p.diagnostics fault t) (whole after p.bytes at_end)
       (stop p.bytes p.output p.diagnostics p.progress))
       (Appends-trans output_before mid output_after p.output t.output.items p.written written)
       (Appends-trans diagnostics_before said diagnostics_after p.diagnostics t.diagnostics.items p.reports_appended reports_appended)
@@ -294,9 +294,9 @@ module _ {o : Options} {task : Task} {on_refusal : OnRefusal} where
       → (before after output_before mid output_after diagnostics_before said diagnostics_after : Option (List ℕ))
       → CannotWriteBoth mid output_after said diagnostics_after t.output.items t.diagnostics.items
       → RunProgress o task on_refusal before after output_before mid diagnostics_before said s → IsAtEnd after
-      → FailsAtIn o e task on_refusal before after output_before output_after diagnostics_before diagnostics_after (u.lines + 1) (buffered_text u)
+      → RunFailsAtLine o e task on_refusal before after output_before output_after diagnostics_before diagnostics_after (u.lines + 1) (buffered_text u)
   end_cut r e s t u ok err is count before after output_before mid output_after diagnostics_before said diagnostics_after cut p at_end =
       cuts e before after output_before mid output_after diagnostics_before said diagnostics_after p.bytes p.output p.diagnostics t u is count p.given
-      (subst (λ l. Reached o task on_refusal l p.output p.diagnostics t) (whole after p.bytes at_end)
+      (subst (λ l. HasReachedLine o task on_refusal l p.output p.diagnostics t) (whole after p.bytes at_end)
       (either r ok err (λ ends. complete p.bytes p.output p.diagnostics t (ends p.bytes p.output p.diagnostics p.progress))
       (λ e stop. (stop p.bytes p.output p.diagnostics p.progress).reached))) p.written p.reports_appended cut

@@ -4,8 +4,8 @@ use Rattle.std.proofs.Common.{subst, ◌∙◌, append_assoc, append-nil, length
 use Rattle.bson.specs.declared.extjson.options.Options.{Options}
 use Rattle.bson_convert.specs.declared.error.Error.{Error}
 use Rattle.bson_run.proofs.OneText.{Decided}
-use Rattle.bson_run.specs.Lines.{line_text, IsRejectedLineIn, IsBlank, OutcomesIn, none, blank, written, skipped, IsDiagnostic, WritesIn}
-use Rattle.bson_run.specs.Outcomes.{AreSameDiagnostics, silent, also, IsSameFault, StopsInside}
+use Rattle.bson_run.specs.Lines.{line_text, IsRejectedLineIn, IsBlank, LineOutcomes, none, blank, written, skipped, IsDiagnostic, WritesOutputForTask}
+use Rattle.bson_run.specs.Outcomes.{AreSameDiagnostics, silent, also, IsSameFault, StopsInsideInput}
 use Rattle.bson_run.specs.declared.task.OnRefusal.{OnRefusal}
 use Rattle.bson_run.specs.declared.task.OnRefusal.TheVariants.{Stop}
 use Rattle.bson_run.specs.declared.task.Task.{Task}
@@ -59,7 +59,7 @@ module _ (o : Options) (task : Task) (on_refusal : OnRefusal) (only : Decided o 
   abbrev Step : (before : ℕ) → (line more said : List ℕ) → (over : ℕ) → Type 0
   Step n line more said over =
       (IsBlank (line_text n line) × (more ≡ []) × (said ≡ []) × (over ≡ 0))
-      ⊎ ((WritesIn o task (line_text n line) more × (said ≡ []) × (over ≡ 0))
+      ⊎ ((WritesOutputForTask o task (line_text n line) more × (said ≡ []) × (over ≡ 0))
       ⊎ ((fault : Error) × (on_refusal ≢ Stop) × IsRejectedLineIn o task fault (line_text n line)
       × IsDiagnostic (n + 1) fault (line_text n line) said × (more ≡ []) × (over ≡ 1)))
 
@@ -72,7 +72,7 @@ module _ (o : Options) (task : Task) (on_refusal : OnRefusal) (only : Decided o 
     said : List ℕ
     left : ℕ
     over : ℕ
-    outcomes : OutcomesIn o task on_refusal before out diagnostics_after left
+    outcomes : LineOutcomes o task on_refusal before out diagnostics_after left
     step : Step (length before) line more said over
     lines_are : all ≡ before ++ line ∷ []
     output_is : output ≡ out ++ more
@@ -80,9 +80,9 @@ module _ (o : Options) (task : Task) (on_refusal : OnRefusal) (only : Decided o 
     refused_are : refused ≡ left + over
 
   last_of : {all : List (List ℕ)} {output diagnostics_before : List ℕ} {refused : ℕ}
-      → OutcomesIn o task on_refusal all output diagnostics_before refused → 0 < length all → Last all output diagnostics_before refused
+      → LineOutcomes o task on_refusal all output diagnostics_before refused → 0 < length all → Last all output diagnostics_before refused
   last_of none some = absurd (omega (arith, some))
-  last_of (blank {before = before} {output = output} {diagnostics_before = diagnostics_before} {refused = refused} line d is) some = record {
+  last_of (blank {earlier_lines = before} {output = output} {diagnostics_before = diagnostics_before} {refused = refused} line d is) some = record {
     before = before;
     line = line;
     out = output;
@@ -98,7 +98,7 @@ module _ (o : Options) (task : Task) (on_refusal : OnRefusal) (only : Decided o 
     told_is = sym (append-nil diagnostics_before);
     refused_are = omega arith;
   }
-  last_of (written {before = before} {output = output} {diagnostics_before = diagnostics_before} {refused = refused} line more d is) some = record {
+  last_of (written {earlier_lines = before} {output = output} {diagnostics_before = diagnostics_before} {refused = refused} line more d is) some = record {
     before = before;
     line = line;
     out = output;
@@ -114,7 +114,7 @@ module _ (o : Options) (task : Task) (on_refusal : OnRefusal) (only : Decided o 
     told_is = sym (append-nil diagnostics_before);
     refused_are = omega arith;
   }
-  last_of (skipped {before = before} {output = output} {diagnostics_before = diagnostics_before} {refused = refused} line fault said d goes bad diagnostics_after) some = record {
+  last_of (skipped {earlier_lines = before} {output = output} {diagnostics_before = diagnostics_before} {refused = refused} line fault said d goes bad diagnostics_after) some = record {
     before = before;
     line = line;
     out = output;
@@ -132,12 +132,12 @@ module _ (o : Options) (task : Task) (on_refusal : OnRefusal) (only : Decided o 
   }
 
   none_of : {all : List (List ℕ)} {output diagnostics_before : List ℕ} {refused : ℕ}
-      → OutcomesIn o task on_refusal all output diagnostics_before refused → length all ≡ 0
+      → LineOutcomes o task on_refusal all output diagnostics_before refused → length all ≡ 0
       → (output ≡ []) × (diagnostics_before ≡ []) × (refused ≡ 0)
   none_of none e = (refl, refl, refl)
-  none_of (blank {before = before} line d is) e = absurd (omega (arith, e, length-append before (line ∷ [])))
-  none_of (written {before = before} line more d is) e = absurd (omega (arith, e, length-append before (line ∷ [])))
-  none_of (skipped {before = before} line fault said d goes bad diagnostics_after) e =
+  none_of (blank {earlier_lines = before} line d is) e = absurd (omega (arith, e, length-append before (line ∷ [])))
+  none_of (written {earlier_lines = before} line more d is) e = absurd (omega (arith, e, length-append before (line ∷ [])))
+  none_of (skipped {earlier_lines = before} line fault said d goes bad diagnostics_after) e =
       absurd (omega (arith, e, length-append before (line ∷ [])))
 
   -- ---- outcomes of the same lines
@@ -183,7 +183,7 @@ module _ (o : Options) (task : Task) (on_refusal : OnRefusal) (only : Decided o 
       }
 
   same : (n : ℕ) (xs ys : List (List ℕ)) (output other diagnostics_before diagnostics_after : List ℕ) (refused left : ℕ) → length xs ≡ n
-      → xs ≡ ys → OutcomesIn o task on_refusal xs output diagnostics_before refused → OutcomesIn o task on_refusal ys other diagnostics_after left
+      → xs ≡ ys → LineOutcomes o task on_refusal xs output diagnostics_before refused → LineOutcomes o task on_refusal ys other diagnostics_after left
       → Same output other diagnostics_before diagnostics_after refused left
   same zero xs ys output other diagnostics_before diagnostics_after refused left size is d e =
       let i = none_of d size in
@@ -213,7 +213,7 @@ module _ (o : Options) (task : Task) (on_refusal : OnRefusal) (only : Decided o 
       }
 
   pub one_outcome : (all : List (List ℕ)) (output other diagnostics_before diagnostics_after : List ℕ) (refused left : ℕ)
-      → OutcomesIn o task on_refusal all output diagnostics_before refused → OutcomesIn o task on_refusal all other diagnostics_after left
+      → LineOutcomes o task on_refusal all output diagnostics_before refused → LineOutcomes o task on_refusal all other diagnostics_after left
       → (output ≡ other) × AreSameDiagnostics diagnostics_before diagnostics_after × (refused ≡ left)
   one_outcome all output other diagnostics_before diagnostics_after refused left d e =
       let s = same (length all) all all output other diagnostics_before diagnostics_after refused left refl refl d e in
@@ -225,15 +225,15 @@ module _ (o : Options) (task : Task) (on_refusal : OnRefusal) (only : Decided o 
     output : List ℕ
     diagnostics_before : List ℕ
     refused : ℕ
-    outcomes : OutcomesIn o task on_refusal xs output diagnostics_before refused
+    outcomes : LineOutcomes o task on_refusal xs output diagnostics_before refused
 
   first_of : (n : ℕ) (all xs ys : List (List ℕ)) (output diagnostics_before : List ℕ) (refused : ℕ) → length ys ≡ n → all ≡ xs ++ ys
-      → OutcomesIn o task on_refusal all output diagnostics_before refused → Front xs
+      → LineOutcomes o task on_refusal all output diagnostics_before refused → Front xs
   first_of n all xs [] output diagnostics_before refused size is d = record {
     output = output;
     diagnostics_before = diagnostics_before;
     refused = refused;
-    outcomes = subst (λ (l : List (List ℕ)). OutcomesIn o task on_refusal l output diagnostics_before refused) (is ∙ append-nil xs) d;
+    outcomes = subst (λ (l : List (List ℕ)). LineOutcomes o task on_refusal l output diagnostics_before refused) (is ∙ append-nil xs) d;
   }
   first_of zero all xs (y ∷ ys) output diagnostics_before refused size is d = absurd (omega (arith, size))
   first_of (suc n) all xs (y ∷ ys) output diagnostics_before refused size is d =
@@ -254,53 +254,53 @@ module _ (o : Options) (task : Task) (on_refusal : OnRefusal) (only : Decided o 
   refused_step n line more said over fault stops bad (inr (inr (f, goes, worse, t, k, e))) = goes stops
 
   -- a line at which a run stops is none of lines that are done
-  stuck : (done others : List (List ℕ)) (line : List ℕ) (fault : Error) (output diagnostics_before : List ℕ) (refused : ℕ)
-      → on_refusal ≡ Stop → IsRejectedLineIn o task fault (line_text (length done) line)
-      → OutcomesIn o task on_refusal (done ++ line ∷ others) output diagnostics_before refused → ⊥
-  stuck done others line fault output diagnostics_before refused stops bad d =
-      let f = first_of (length others) (done ++ line ∷ others) (done ++ line ∷ []) others output diagnostics_before refused refl
-      (sym (append_assoc done (line ∷ []) others)) d in
-      let i = last_of f.outcomes (omega (arith, length-append done (line ∷ []))) in
-      let ends = both_ends done i.before line i.line i.lines_are in
+  stuck : (done_lines later_lines : List (List ℕ)) (line : List ℕ) (fault : Error) (output diagnostics_before : List ℕ) (refused : ℕ)
+      → on_refusal ≡ Stop → IsRejectedLineIn o task fault (line_text (length done_lines) line)
+      → LineOutcomes o task on_refusal (done_lines ++ line ∷ later_lines) output diagnostics_before refused → ⊥
+  stuck done_lines later_lines line fault output diagnostics_before refused stops bad d =
+      let f = first_of (length later_lines) (done_lines ++ line ∷ later_lines) (done_lines ++ line ∷ []) later_lines output diagnostics_before refused refl
+      (sym (append_assoc done_lines (line ∷ []) later_lines)) d in
+      let i = last_of f.outcomes (omega (arith, length-append done_lines (line ∷ []))) in
+      let ends = both_ends done_lines i.before line i.line i.lines_are in
       let here : IsRejectedLineIn o task fault (line_text (length i.before) i.line) =
       subst (λ (l : List ℕ). IsRejectedLineIn o task fault (line_text (length i.before) l)) ends.1
       (subst (λ (l : List (List ℕ)). IsRejectedLineIn o task fault (line_text (length l) line)) ends.0 bad) in
       refused_step (length i.before) i.line i.more i.said i.over fault stops here i.step
 
   pub either : (all : List (List ℕ)) (output other diagnostics_before diagnostics_after : List ℕ) (refused number : ℕ) (fault : Error)
-      → OutcomesIn o task on_refusal all other diagnostics_after refused
-      → StopsInside o task on_refusal all output diagnostics_before fault number → ⊥
+      → LineOutcomes o task on_refusal all other diagnostics_after refused
+      → StopsInsideInput o task on_refusal all output diagnostics_before fault number → ⊥
   either all output other diagnostics_before diagnostics_after refused number fault d h =
-      stuck h.done h.others h.line fault other diagnostics_after refused h.stops h.reason
-      (subst (λ (l : List (List ℕ)). OutcomesIn o task on_refusal l other diagnostics_after refused) h.parts d)
+      stuck h.done_lines h.later_lines h.line fault other diagnostics_after refused h.stops h.reason
+      (subst (λ (l : List (List ℕ)). LineOutcomes o task on_refusal l other diagnostics_after refused) h.parts d)
 
   one_of : (all : List (List ℕ)) (output other diagnostics_before diagnostics_after : List ℕ) (number count : ℕ) (fault cause : Error)
-      → (h : StopsInside o task on_refusal all output diagnostics_before fault number)
-      → (k : StopsInside o task on_refusal all other diagnostics_after cause count)
-      → Parts h.done k.done h.line k.line h.others k.others
+      → (h : StopsInsideInput o task on_refusal all output diagnostics_before fault number)
+      → (k : StopsInsideInput o task on_refusal all other diagnostics_after cause count)
+      → Parts h.done_lines k.done_lines h.line k.line h.later_lines k.later_lines
       → (output ≡ other) × AreSameDiagnostics diagnostics_before diagnostics_after × IsSameFault fault cause × (number ≡ count)
-  one_of all output other diagnostics_before diagnostics_after number count fault cause h k (inl (done, line)) =
-      let s = same (length h.done) h.done k.done output other diagnostics_before diagnostics_after h.refused k.refused refl done h.outcomes
+  one_of all output other diagnostics_before diagnostics_after number count fault cause h k (inl (done_lines, line)) =
+      let s = same (length h.done_lines) h.done_lines k.done_lines output other diagnostics_before diagnostics_after h.refused k.refused refl done_lines h.outcomes
       k.outcomes in
-      let there : IsRejectedLineIn o task cause (line_text (length h.done) h.line) =
-      subst (λ (l : List ℕ). IsRejectedLineIn o task cause (line_text (length h.done) l)) (sym line)
-      (subst (λ (l : List (List ℕ)). IsRejectedLineIn o task cause (line_text (length l) k.line)) (sym done) k.reason) in (
+      let there : IsRejectedLineIn o task cause (line_text (length h.done_lines) h.line) =
+      subst (λ (l : List ℕ). IsRejectedLineIn o task cause (line_text (length h.done_lines) l)) (sym line)
+      (subst (λ (l : List (List ℕ)). IsRejectedLineIn o task cause (line_text (length l) k.line)) (sym done_lines) k.reason) in (
         s.outputs,
         s.alike,
-        only.same_fault (line_text (length h.done) h.line) fault cause h.reason there,
-        h.counted ∙ ap (λ (l : List (List ℕ)). length l + 1) done ∙ sym k.counted,
+        only.same_fault (line_text (length h.done_lines) h.line) fault cause h.reason there,
+        h.counted ∙ ap (λ (l : List (List ℕ)). length l + 1) done_lines ∙ sym k.counted,
       )
   one_of all output other diagnostics_before diagnostics_after number count fault cause h k (inr (inl (rest, is))) =
-      absurd (stuck h.done rest h.line fault other diagnostics_after k.refused h.stops h.reason
-      (subst (λ (l : List (List ℕ)). OutcomesIn o task on_refusal l other diagnostics_after k.refused) is k.outcomes))
+      absurd (stuck h.done_lines rest h.line fault other diagnostics_after k.refused h.stops h.reason
+      (subst (λ (l : List (List ℕ)). LineOutcomes o task on_refusal l other diagnostics_after k.refused) is k.outcomes))
   one_of all output other diagnostics_before diagnostics_after number count fault cause h k (inr (inr (rest, is))) =
-      absurd (stuck k.done rest k.line cause output diagnostics_before h.refused k.stops k.reason
-      (subst (λ (l : List (List ℕ)). OutcomesIn o task on_refusal l output diagnostics_before h.refused) is h.outcomes))
+      absurd (stuck k.done_lines rest k.line cause output diagnostics_before h.refused k.stops k.reason
+      (subst (λ (l : List (List ℕ)). LineOutcomes o task on_refusal l output diagnostics_before h.refused) is h.outcomes))
 
   pub one_stop : (all : List (List ℕ)) (output other diagnostics_before diagnostics_after : List ℕ) (number count : ℕ) (fault cause : Error)
-      → StopsInside o task on_refusal all output diagnostics_before fault number
-      → StopsInside o task on_refusal all other diagnostics_after cause count
+      → StopsInsideInput o task on_refusal all output diagnostics_before fault number
+      → StopsInsideInput o task on_refusal all other diagnostics_after cause count
       → (output ≡ other) × AreSameDiagnostics diagnostics_before diagnostics_after × IsSameFault fault cause × (number ≡ count)
   one_stop all output other diagnostics_before diagnostics_after number count fault cause h k =
       one_of all output other diagnostics_before diagnostics_after number count fault cause h k
-      (parts h.done k.done h.line k.line h.others k.others (sym h.parts ∙ k.parts))
+      (parts h.done_lines k.done_lines h.line k.line h.later_lines k.later_lines (sym h.parts ∙ k.parts))

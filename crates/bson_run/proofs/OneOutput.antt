@@ -4,11 +4,11 @@ use Rattle.std.proofs.lemmas.List.{append_cancel_right}
 use Rattle.std.specs.Prelude.{IsUtf8}
 use Rattle.serde_json.specs.Read.{read}
 use Rattle.bson.proofs.Offered.{tree_one}
-use Rattle.bson.specs.TextMeaning.{HasTextMeaningBy, HasTextMeaningIn, IsNotJsonText}
+use Rattle.bson.specs.TextMeaning.{HasTextMeaningInKeyOrder, HasTextMeaningIn, IsNotJsonText}
 use Rattle.bson.specs.declared.extjson.key_order.KeyOrder.{KeyOrder}
 use Rattle.bson.specs.declared.extjson.key_order.KeyOrder.TheVariants.{Ascending, AsGiven}
 use Rattle.bson.specs.declared.extjson.options.Options.{Options}
-use Rattle.bson_codec.specs.Canonical.{Cause, zero_in_key, zero_in_regex, too_long, DocumentFails, FitsDocument}
+use Rattle.bson_codec.specs.Canonical.{NoBytesCause, nul_in_key, nul_in_regex, too_long, DocumentDoesNotFit, FitsDocument}
 use Rattle.bson_model.specs.Means.{MeansIn}
 use Rattle.bson_model.specs.Sorted.{sorted}
 use Rattle.bson_model.specs.Value.{Pairs, Value, document}
@@ -28,9 +28,9 @@ use Rattle.bson_convert.specs.declared.encode_error.NoBytes as without
 use Rattle.bson_convert.specs.declared.encode_error.NoBytes.TheVariants.{NoDocument, ZeroInKey, ZeroInRegex, TooLong}
 use Rattle.bson_run.proofs.EncodeLaws.{encoded_one, same_pairs, value_one}
 use Rattle.bson_run.proofs.OneRead.{blank_taken, blank_turned, one_taken}
-use Rattle.bson_run.specs.Encode.{FailsFor, HasNoBytesFor, IsBytesOf, IsNoDocument}
+use Rattle.bson_run.specs.Encode.{IsUnencodableFor, HasNoBsonBytes, IsBytesOf, IsNoDocument}
 use Rattle.bson_run.specs.InOrder.{ConvertsBy, ConvertsInOrder, IsOutputInOrder}
-use Rattle.bson_run.specs.Lines.{ChecksIn, IsBlank, IsUncanonicalFor, HasNoBytesForTask, WritesPreprocessedIn, WritesIn}
+use Rattle.bson_run.specs.Lines.{CriterionAccepts, IsBlank, IsUncanonicalFor, LineHasNoBsonBytes, WritesOutputForInnerTask, WritesOutputForTask}
 use Rattle.bson_run.specs.Preprocessed.{IsPreprocessedAs, IsRejectedByPreprocessing}
 use Rattle.bson_run.specs.declared.task.Criterion.{Criterion}
 use Rattle.bson_run.specs.declared.task.Criterion.TheVariants as criterion
@@ -70,24 +70,24 @@ turned_blank (Preprocessed preprocessing inner_task) place text h x = blank_turn
 
 -- ---- causes
 
-abbrev pub of_cause : Cause → without.NoBytes
-of_cause zero_in_key = ZeroInKey
-of_cause zero_in_regex = ZeroInRegex
+abbrev pub of_cause : NoBytesCause → without.NoBytes
+of_cause nul_in_key = ZeroInKey
+of_cause nul_in_regex = ZeroInRegex
 of_cause too_long = TooLong
 
 abbrev pub Fails : (Value → Type 0) → without.NoBytes → Type 0
 Fails P why = ((why ≡ NoDocument) × IsNoDocument P)
-    ⊎ ((cause : Cause) × (why ≡ of_cause cause) × FailsFor P cause)
+    ⊎ ((cause : NoBytesCause) × (why ≡ of_cause cause) × IsUnencodableFor P cause)
 
-pub fails_of : (P : Value → Type 0) (why : without.NoBytes) → HasNoBytesFor P why → Fails P why
+pub fails_of : (P : Value → Type 0) (why : without.NoBytes) → HasNoBsonBytes P why → Fails P why
 fails_of P NoDocument h = inl (refl, h)
-fails_of P ZeroInKey h = inr (zero_in_key, refl, h)
-fails_of P ZeroInRegex h = inr (zero_in_regex, refl, h)
+fails_of P ZeroInKey h = inr (nul_in_key, refl, h)
+fails_of P ZeroInRegex h = inr (nul_in_regex, refl, h)
 fails_of P TooLong h = inr (too_long, refl, h)
 
 module _ (P : Value → Type 0) (one : (v w : Value) → P v → P w → v ≡ w)
-    (no_cause : (ps : Pairs) (c : Cause) → FitsDocument ps → DocumentFails c ps → ⊥)
-    (one_cause : (ps : Pairs) (c e : Cause) → DocumentFails c ps → DocumentFails e ps → c ≡ e) where
+    (no_cause : (ps : Pairs) (c : NoBytesCause) → FitsDocument ps → DocumentDoesNotFit c ps → ⊥)
+    (one_cause : (ps : Pairs) (c e : NoBytesCause) → DocumentDoesNotFit c ps → DocumentDoesNotFit e ps → c ≡ e) where
   pairs_one : (ps qs : Pairs) → P (document ps) → P (document qs) → ps ≡ qs
   pairs_one ps qs x y = same_pairs (one (document ps) (document qs) x y)
 
@@ -99,14 +99,14 @@ module _ (P : Value → Type 0) (one : (v w : Value) → P v → P w → v ≡ w
       absurd (n.other f.pairs (one n.value (document f.pairs) n.meaning f.meaning))
   same_cause why other (inr (c, e, f)) (inr (d, g, k)) =
       let pairs : k.pairs ≡ f.pairs = pairs_one k.pairs f.pairs k.meaning f.meaning in
-      let causes : c ≡ d = one_cause f.pairs c d f.fails (subst (DocumentFails d) pairs k.fails) in
+      let causes : c ≡ d = one_cause f.pairs c d f.fails (subst (DocumentDoesNotFit d) pairs k.fails) in
       e ∙ ap of_cause causes ∙ sym g
 
   pub has_bytes : (why : without.NoBytes) (bytes : List ℕ) → IsBytesOf P bytes → Fails P why → ⊥
   has_bytes why bytes b (inl (e, n)) = n.other b.pairs (one n.value (document b.pairs) n.meaning b.meaning)
   has_bytes why bytes b (inr (c, e, f)) =
       let pairs : f.pairs ≡ b.pairs = pairs_one f.pairs b.pairs f.meaning b.meaning in
-      no_cause b.pairs c b.fits (subst (DocumentFails c) pairs f.fails)
+      no_cause b.pairs c b.fits (subst (DocumentDoesNotFit c) pairs f.fails)
 
 -- ---- what a text means
 
@@ -115,7 +115,7 @@ module _ (o : Options) where
   by_default text v utf8 m =
       (m.by_default.0, sorted v, record { utf8 = utf8; tree_read = m.by_default.1 }, m.by_default.2.means)
 
-  meant : (k : KeyOrder) (text : List ℕ) (v : Value) → HasTextMeaningBy k o.doubles text v → IsAccepted o text
+  meant : (k : KeyOrder) (text : List ℕ) (v : Value) → HasTextMeaningInKeyOrder k o.doubles text v → IsAccepted o text
   meant Ascending text v m = (m.tree, v, m.text, m.meaning.means)
   meant AsGiven text v m = by_default text v m.0 m.1
 
@@ -126,11 +126,11 @@ module _ (o : Options) where
   converts_by Ascending mode text out x = converts mode text out x
   converts_by AsGiven mode text out x = by_default text x.value x.utf8 x.meaning
 
-  checks : (it : Criterion) (text : List ℕ) → ChecksIn o it text → IsAccepted o text
+  checks : (it : Criterion) (text : List ℕ) → CriterionAccepts o it text → IsAccepted o text
   checks Valid text x = converts Canonical text x.0 x.1
   checks criterion.Canonical text x = converts Canonical text (text ++ newline) x
 
-  works : (it : InnerTask) (text out : List ℕ) → WritesPreprocessedIn o it text out → IsAccepted o text
+  works : (it : InnerTask) (text out : List ℕ) → WritesOutputForInnerTask o it text out → IsAccepted o text
   works (inner_task.Write mode) text out x = converts_by o.key_order mode text out x
   works inner_task.Check text out x = checks Valid text x.0
 
@@ -176,12 +176,12 @@ module _ (o : Options) where
   one_output_in_order : (mode : Mode) (v : Value) (a b : List ℕ) → IsOutputInOrder o mode v a
       → IsOutputInOrder o mode v b → a ≡ b
   one_output_in_order Canonical v a b x y =
-      let trees = y.is_text.one x.is_text.tree x.is_text.written in
+      let trees = y.is_text.only_tree x.is_text.tree x.is_text.written in
       let texts : x.text ≡ y.text =
       x.is_text.compact ∙ ap (tree_text o.doubles form.Canonical) trees ∙ sym y.is_text.compact in
       x.line ∙ ap (λ t. t ++ newline) texts ∙ sym y.line
   one_output_in_order Relaxed v a b x y =
-      let trees = y.is_text.one x.is_text.tree x.is_text.written in
+      let trees = y.is_text.only_tree x.is_text.tree x.is_text.written in
       let texts : x.text ≡ y.text =
       x.is_text.compact ∙ ap (tree_text o.doubles form.Relaxed) trees ∙ sym y.is_text.compact in
       x.line ∙ ap (λ t. t ++ newline) texts ∙ sym y.line
@@ -199,20 +199,20 @@ module _ (o : Options) where
   one_by Ascending mode text a b x y = one_converted mode text a b x y
   one_by AsGiven mode text a b x y = one_in_order mode text a b x y
 
-  one_work : (it : InnerTask) (text a b : List ℕ) → WritesPreprocessedIn o it text a → WritesPreprocessedIn o it text b → a ≡ b
+  one_work : (it : InnerTask) (text a b : List ℕ) → WritesOutputForInnerTask o it text a → WritesOutputForInnerTask o it text b → a ≡ b
   one_work (inner_task.Write mode) text a b x y = one_by o.key_order mode text a b x y
   one_work inner_task.Check text a b x y = x.1 ∙ sym y.1
 
-  pub one_written : (task : Task) (text a b : List ℕ) → WritesIn o task text a → WritesIn o task text b → a ≡ b
+  pub one_written : (task : Task) (text a b : List ℕ) → WritesOutputForTask o task text a → WritesOutputForTask o task text b → a ≡ b
   one_written (Write mode) text a b x y = one_by o.key_order mode text a b x y
   one_written (Check criterion) text a b x y = x.1 ∙ sym y.1
   one_written Encode text a b x y = encoded_one o.key_order o text b a y x
   one_written (Preprocessed preprocessing it) text a b x y =
       one_work it x.0 a b x.2
-      (subst (λ t. WritesPreprocessedIn o it t b) (one_taken preprocessing text y.0 x.0 y.1 x.1) y.2)
+      (subst (λ t. WritesOutputForInnerTask o it t b) (one_taken preprocessing text y.0 x.0 y.1 x.1) y.2)
 
   -- what is written of a text means something
-  pub written_read : (task : Task) (text a : List ℕ) → WritesIn o task text a
+  pub written_read : (task : Task) (text a : List ℕ) → WritesOutputForTask o task text a
       → (read : List ℕ) × Reads task text read × IsAccepted o read
   written_read (Write mode) text a x = (text, refl, converts_by o.key_order mode text a x)
   written_read (Check criterion) text a x = (text, refl, checks criterion text x.0)
@@ -221,17 +221,17 @@ module _ (o : Options) where
 
   -- ---- what has no bytes
 
-  fails_meant : (k : KeyOrder) (text : List ℕ) (why : without.NoBytes) → Fails (HasTextMeaningBy k o.doubles text) why
+  fails_meant : (k : KeyOrder) (text : List ℕ) (why : without.NoBytes) → Fails (HasTextMeaningInKeyOrder k o.doubles text) why
       → IsAccepted o text
   fails_meant k text why (inl (e, n)) = meant k text n.value n.meaning
   fails_meant k text why (inr (c, e, f)) = meant k text (document f.pairs) f.meaning
 
-  pub without_read : (task : Task) (why : without.NoBytes) (text : List ℕ) → HasNoBytesForTask o task why text
+  pub without_read : (task : Task) (why : without.NoBytes) (text : List ℕ) → LineHasNoBsonBytes o task why text
       → Reads task text text × IsAccepted o text
   without_read (Write mode) why text h = absurd h
   without_read (Check criterion) why text h = absurd h
   without_read Encode why text h =
-      (refl, fails_meant o.key_order text why (fails_of (HasTextMeaningBy o.key_order o.doubles text) why h))
+      (refl, fails_meant o.key_order text why (fails_of (HasTextMeaningInKeyOrder o.key_order o.doubles text) why h))
   without_read (Preprocessed preprocessing it) why text h = absurd h
 
   -- ---- what is not canonical
@@ -245,14 +245,14 @@ module _ (o : Options) where
   uncanonical_read (Preprocessed preprocessing it) column text h = absurd h
 
   pub uncanonical_bytes : (task : Task) (column : ℕ) (why : without.NoBytes) (text : List ℕ) → IsUncanonicalFor o task column text
-      → HasNoBytesForTask o task why text → ⊥
+      → LineHasNoBsonBytes o task why text → ⊥
   uncanonical_bytes (Write mode) column why text h x = h
   uncanonical_bytes (Check criterion) column why text h x = x
   uncanonical_bytes Encode column why text h x = h
   uncanonical_bytes (Preprocessed preprocessing it) column why text h x = h
 
   pub uncanonical_written : (task : Task) (column : ℕ) (text a : List ℕ) → IsUncanonicalFor o task column text
-      → WritesIn o task text a → ⊥
+      → WritesOutputForTask o task text a → ⊥
   uncanonical_written (Write mode) column text a h x = h
   uncanonical_written (Check Valid) column text a h x = h
   uncanonical_written (Check criterion.Canonical) column text a h x =

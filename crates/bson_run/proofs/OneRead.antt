@@ -64,14 +64,14 @@ is_read text written is =
 
 one_upgraded : (text a b : List ℕ) → IsUpgradedText text a → IsUpgradedText text b → a ≡ b
 one_upgraded text a b x y =
-    let i : json_of text ≡ Some x.is_resolved.tree = x.is_resolved.is_tree in
-    let j : json_of text ≡ Some y.is_resolved.tree = y.is_resolved.is_tree in
-    let trees : x.is_resolved.tree ≡ y.is_resolved.tree = cc in
+    let i : json_of text ≡ Some x.text_is_normalized.tree = x.text_is_normalized.is_tree in
+    let j : json_of text ≡ Some y.text_is_normalized.tree = y.text_is_normalized.is_tree in
+    let trees : x.text_is_normalized.tree ≡ y.text_is_normalized.tree = cc in
     x.compact ∙ (ap (λ t. print (json_tokens (upgraded (normalized FirstPositions t)))) trees ∙ sym y.compact)
 
 not_json : (text a : List ℕ) → IsUtf8 text → IsUpgradedText text a → IsInvalidJson text → ⊥
 not_json text a utf8 x none =
-    let d = is_read text x.resolved x.is_resolved in
+    let d = is_read text x.normalized_input x.text_is_normalized in
     none d.0 utf8 d.1
 
 one_newer : (text a b : List ℕ) → UpgradesTo text a → UpgradesTo text b → a ≡ b
@@ -117,7 +117,7 @@ blank_text text t h is =
 stays : (text a : List ℕ) → IsBlank text → UpgradesTo text a → a ≡ text
 stays text a h (inl x) =
     let none : json_of text ≡ None = blank_tree text h in
-    let some : json_of text ≡ Some x.1.is_resolved.tree = x.1.is_resolved.is_tree in
+    let some : json_of text ≡ Some x.1.text_is_normalized.tree = x.1.text_is_normalized.is_tree in
     absurd cc
 stays text a h (inr x) = x.1
 
@@ -152,9 +152,9 @@ module _ (twice : (j : json.Json) (path : List PathSegment) → DuplicateAt j pa
   not_taken DistinctLegacy place text a h is = not_both place text h is.0
 
 module _ (one_path : (j : json.Json) (path other : List PathSegment) → DuplicateAt j path → DuplicateAt j other → path ≡ other) where
-  one_double : (place other : Place) (text : List ℕ) → HasDuplicateKeyAt place text → HasDuplicateKeyAt other text
+  one_duplicate_path : (place other : Place) (text : List ℕ) → HasDuplicateKeyAt place text → HasDuplicateKeyAt other text
       → path_of place ≡ path_of other
-  one_double place other text x y =
+  one_duplicate_path place other text x y =
       let a : json_of text ≡ Some x.1.0 = x.1.1 in
       let b : json_of text ≡ Some y.1.0 = y.1.1 in
       let same : y.1.0 ≡ x.1.0 = cc in
@@ -162,6 +162,6 @@ module _ (one_path : (j : json.Json) (path other : List PathSegment) → Duplica
 
   pub one_turned : (preprocessing : Preprocessing) (place other : Place) (text : List ℕ) → IsRejectedByPreprocessing preprocessing place text
       → IsRejectedByPreprocessing preprocessing other text → path_of place ≡ path_of other
-  one_turned Distinct place other text x y = one_double place other text x y
+  one_turned Distinct place other text x y = one_duplicate_path place other text x y
   one_turned Legacy place other text x y = absurd x
-  one_turned DistinctLegacy place other text x y = one_double place other text x y
+  one_turned DistinctLegacy place other text x y = one_duplicate_path place other text x y

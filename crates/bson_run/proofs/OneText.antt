@@ -3,9 +3,9 @@ use Rattle.std.proofs.Common.{◌≡◌, inl, inr, ℕ, List, refl, subst}
 use Rattle.json.specs.Json.{Json}
 use Rattle.json.specs.Strict.{HasUniqueKeys}
 use Rattle.serde_json.specs.Read.{read}
-use Rattle.bson.specs.TextMeaning.{HasTextMeaningBy, IsNotJsonText, IsTextOf}
+use Rattle.bson.specs.TextMeaning.{HasTextMeaningInKeyOrder, IsNotJsonText, IsTextOf}
 use Rattle.bson.specs.declared.extjson.options.Options.{Options}
-use Rattle.bson_codec.specs.Canonical.{Cause, DocumentFails, FitsDocument}
+use Rattle.bson_codec.specs.Canonical.{NoBytesCause, DocumentDoesNotFit, FitsDocument}
 use Rattle.bson_tokens.specs.DuplicateKeys.{DuplicateAt}
 use Rattle.bson_model.specs.Value.{Pairs}
 use Rattle.bson_tree.specs.Place.{PathSegment, path_of}
@@ -17,7 +17,7 @@ use Rattle.bson_convert.specs.declared.error.Error.TheVariants.{CannotWrite, Not
 use Rattle.bson_convert.specs.declared.encode_error.NoBytes as without
 use Rattle.bson_run.proofs.EncodeLaws.{value_one}
 use Rattle.bson_run.proofs.OneRead.{blank_text, not_taken, one_turned}
-use Rattle.bson_run.specs.Lines.{IsRejectedLineIn, IsBlank, IsUncanonicalFor, HasNoBytesForTask, WritesIn}
+use Rattle.bson_run.specs.Lines.{IsRejectedLineIn, IsBlank, IsUncanonicalFor, LineHasNoBsonBytes, WritesOutputForTask}
 use Rattle.bson_run.specs.Outcomes.{IsSameFault}
 use Rattle.bson_run.specs.declared.task.Task.{Task}
 use Rattle.bson_run.specs.declared.task.Task.TheVariants.{Write, Check, Encode, Preprocessed}
@@ -27,9 +27,9 @@ use Rattle.bson_run.proofs.OneOutput.{uncanonical_read, uncanonical_written, wit
 
 -- what a text gives is one thing
 pub record Decided (o : Options) (task : Task) : Type 0 where
-  pub one_text : (text a b : List ℕ) → WritesIn o task text a → WritesIn o task text b → a ≡ b
-  pub written_blank : (text a : List ℕ) → WritesIn o task text a → IsBlank text → ⊥
-  pub written_bad : (text a : List ℕ) (fault : Error) → WritesIn o task text a → IsRejectedLineIn o task fault text → ⊥
+  pub one_text : (text a b : List ℕ) → WritesOutputForTask o task text a → WritesOutputForTask o task text b → a ≡ b
+  pub written_blank : (text a : List ℕ) → WritesOutputForTask o task text a → IsBlank text → ⊥
+  pub written_bad : (text a : List ℕ) (fault : Error) → WritesOutputForTask o task text a → IsRejectedLineIn o task fault text → ⊥
   pub blank_bad : (text : List ℕ) (fault : Error) → IsBlank text → IsRejectedLineIn o task fault text → ⊥
   pub same_fault : (text : List ℕ) (fault cause : Error) → IsRejectedLineIn o task fault text → IsRejectedLineIn o task cause text
       → IsSameFault fault cause
@@ -41,7 +41,7 @@ data View (o : Options) (task : Task) (text : List ℕ) : Error → Type 0 where
   meaningless : (place : Place) (read : List ℕ) → Reads task text read → IsRejectedIn o (NotExtendedJson place) read
       → View o task text (NotExtendedJson place)
   turned : (place : Place) → Turned task place text → View o task text (NotExtendedJson place)
-  bare : (why : without.NoBytes) → HasNoBytesForTask o task why text → View o task text (NoBytes why)
+  bare : (why : without.NoBytes) → LineHasNoBsonBytes o task why text → View o task text (NoBytes why)
   differs : (column : ℕ) → IsUncanonicalFor o task column text → View o task text (NotCanonical column)
 
 view : (o : Options) (task : Task) (text : List ℕ) (fault : Error) → IsRejectedLineIn o task fault text
@@ -62,9 +62,9 @@ view o task text OutOfMemory h = absurd h
 view o task text CannotWrite h = absurd h
 
 module _ (twice : (j : Json) (path : List PathSegment) → DuplicateAt j path → ¬ HasUniqueKeys j)
-    (one_double : (j : Json) (path other : List PathSegment) → DuplicateAt j path → DuplicateAt j other → path ≡ other)
-    (no_cause : (ps : Pairs) (c : Cause) → FitsDocument ps → DocumentFails c ps → ⊥)
-    (one_cause : (ps : Pairs) (c e : Cause) → DocumentFails c ps → DocumentFails e ps → c ≡ e)
+    (one_duplicate_path : (j : Json) (path other : List PathSegment) → DuplicateAt j path → DuplicateAt j other → path ≡ other)
+    (no_cause : (ps : Pairs) (c : NoBytesCause) → FitsDocument ps → DocumentDoesNotFit c ps → ⊥)
+    (one_cause : (ps : Pairs) (c e : NoBytesCause) → DocumentDoesNotFit c ps → DocumentDoesNotFit e ps → c ≡ e)
     (o : Options) where
   not_turned : (task : Task) (place : Place) (text a : List ℕ) → Turned task place text → Reads task text a → ⊥
   not_turned (Write mode) place text a h is = h
@@ -77,23 +77,23 @@ module _ (twice : (j : Json) (path : List PathSegment) → DuplicateAt j path �
   both_turned (Write mode) place other text x y = absurd x
   both_turned (Check criterion) place other text x y = absurd x
   both_turned Encode place other text x y = absurd x
-  both_turned (Preprocessed preprocessing it) place other text x y = one_turned one_double preprocessing place other text x y
+  both_turned (Preprocessed preprocessing it) place other text x y = one_turned one_duplicate_path preprocessing place other text x y
 
-  both_bare : (task : Task) (why other : without.NoBytes) (text : List ℕ) → HasNoBytesForTask o task why text
-      → HasNoBytesForTask o task other text → why ≡ other
+  both_bare : (task : Task) (why other : without.NoBytes) (text : List ℕ) → LineHasNoBsonBytes o task why text
+      → LineHasNoBsonBytes o task other text → why ≡ other
   both_bare (Write mode) why other text x y = absurd x
   both_bare (Check criterion) why other text x y = absurd x
   both_bare Encode why other text x y =
-      let P = HasTextMeaningBy o.key_order o.doubles text in
+      let P = HasTextMeaningInKeyOrder o.key_order o.doubles text in
       same_cause P (value_one o.key_order o text) no_cause one_cause why other (fails_of P why x) (fails_of P other y)
   both_bare (Preprocessed preprocessing it) why other text x y = absurd x
 
-  not_bare : (task : Task) (why : without.NoBytes) (text a : List ℕ) → WritesIn o task text a
-      → HasNoBytesForTask o task why text → ⊥
+  not_bare : (task : Task) (why : without.NoBytes) (text a : List ℕ) → WritesOutputForTask o task text a
+      → LineHasNoBsonBytes o task why text → ⊥
   not_bare (Write mode) why text a w h = h
   not_bare (Check criterion) why text a w h = h
   not_bare Encode why text a w h =
-      let P = HasTextMeaningBy o.key_order o.doubles text in
+      let P = HasTextMeaningInKeyOrder o.key_order o.doubles text in
       has_bytes P (value_one o.key_order o text) no_cause one_cause why a w (fails_of P why h)
   not_bare (Preprocessed preprocessing it) why text a w h = h
 
@@ -112,7 +112,7 @@ module _ (twice : (j : Json) (path : List PathSegment) → DuplicateAt j path �
     untexted a b place x y h none =
         fault_text o a place h (subst IsNotJsonText (one_read task text b a y x) none)
 
-    viewed_written : (a : List ℕ) (fault : Error) → WritesIn o task text a → View o task text fault → ⊥
+    viewed_written : (a : List ℕ) (fault : Error) → WritesOutputForTask o task text a → View o task text fault → ⊥
     viewed_written a fault w (unread read is none some) =
         let r = written_read o task text a w in apart r.0 read r.1 is r.2 none
     viewed_written a fault w (meaningless place read is h) =

@@ -6,9 +6,9 @@ use Rattle.serde_json.specs.Data.{Data}
 use Rattle.bson_scalar.specs.Written.{WriteFault}
 use Rattle.bson_scalar.specs.declared.form.Form.{Form}
 use Rattle.bson_model.specs.Laws.{IsTreeOfIn}
-use Rattle.bson_model.specs.Normal.{InRange, normal_form, writable_in}
+use Rattle.bson_model.specs.Normal.{NumbersInRange, normal_form, writable_in}
 use Rattle.bson_model.specs.Value.{Value}
-use Rattle.bson_model.specs.Writing.{writes_in}
+use Rattle.bson_model.specs.Writing.{writes_value_in}
 use Rattle.bson_model.specs.Written.{WrittenIn}
 use Rattle.bson_model.proofs.Offered.{tree_is_in, writable_is_in}
 use Rattle.bson_model.specs.OrderedTrees.{tree_sorted_by_key}
@@ -30,12 +30,12 @@ module _ (o : Options) where
   written_by_default (Err e) h = cc
 
   -- the tree of a value that was read is the one that is written
-  pub default_tree : (f : Form) (v : Value) (t : Data) → writable_in o.doubles v ≡ true → InRange v
+  pub default_tree : (f : Form) (v : Value) (t : Data) → writable_in o.doubles v ≡ true → NumbersInRange v
       → WrittenIn o.doubles f (normal_form v) t → IsTreeOfIn o.doubles f v t
-  default_tree f v t writable ranged w =
+  default_tree f v t writable within_type_range w =
       let D = o.doubles in
-      let it = written_by_default (writes_in D f v) (writable_is_in D f v ∙ writable) in
-      let is = tree_is_in D f v it.0 it.1 ranged in
+      let it = written_by_default (writes_value_in D f v) (writable_is_in D f v ∙ writable) in
+      let is = tree_is_in D f v it.0 it.1 within_type_range in
       subst (IsTreeOfIn D f v) (sym (is.one t w)) is
 
   pub text_in_order : (f : Form) (text written : List ℕ) (x : IsFilteredText o.doubles f text written)
@@ -44,9 +44,9 @@ module _ (o : Options) where
       record {
         tree = x.tree;
         written = x.is_tree.written;
-        one = x.is_tree.one;
+        only_tree = x.is_tree.one;
         ordered = λ plain. x.is_tree;
-        by_default = default_tree f x.value (tree_sorted_by_key x.tree) x.meaning.read_form.1 x.meaning.ranged x.is_tree.by_default;
+        by_default = default_tree f x.value (tree_sorted_by_key x.tree) x.meaning.read_form.1 x.meaning.within_type_range x.is_tree.by_default;
         compact = x.compact;
       }
 

@@ -1,4 +1,4 @@
--- Rows of tables that no law rests on: the names, messages and bytes that a run over lines goes by. A definition
+-- Rows of tables that no law rests on: the names, messages and bytes that a run over lines uses. A definition
 -- that is changed together with its code is refused here.
 use Rattle.std.proofs.Common.{◌≡◌, zero, suc, [], ◌∷◌, inl, inr, refl, arith}
 use Rattle.std.specs.Char.{encode_utf8}
@@ -20,7 +20,7 @@ tasks_named = (λ criterion. refl, refl)
 rules_told : (rule_message rule.Utf8 ≡ codes "invalid UTF-8")
     × (rule_message rule.UnexpectedEnd ≡ codes "unexpected end of input")
     × (rule_message rule.Quotes ≡ codes "keys and strings must be in double quotes")
-    × (rule_message rule.NoValue ≡ codes "expected a value")
+    × (rule_message rule.ExpectedValue ≡ codes "expected a value")
     × (rule_message rule.Number ≡ codes "invalid number")
     × (rule_message rule.ControlCharacter ≡ codes "unescaped control character in a string")
     × (rule_message rule.Escape ≡ codes "invalid escape sequence")

@@ -7,7 +7,7 @@ use Rattle.json.specs.Lex.{tokens}
 use Rattle.json.specs.Token.{Token, bad}
 use Rattle.serde_json.specs.Data.{Data}
 use Rattle.serde_json.specs.Read.{max_depth, of_json}
-use Rattle.bson_run.specs.ErrorMessages.{BreaksRule, HasGrammar, HasTrailingData, HasTree, IsInvalidTokenRule, IsTokenRule, IsValueRule, NestsDeeper}
+use Rattle.bson_run.specs.ErrorMessages.{BreaksRule, IsWellFormedJson, HasTrailingData, IsTextOfTree, IsInvalidTokenRule, IsTokenRule, IsValueSyntaxRule, NestsDeeper}
 use Rattle.bson_run.specs.ErrorMessages.{HasInvalidToken}
 use Rattle.bson_run.specs.ErrorMessages.{closes, opens}
 use Rattle.bson_run.specs.declared.rule.Rule.{Rule}
@@ -34,7 +34,7 @@ all_read None t e = absurd cc
 all_read (Some (j, [])) t e = refl
 all_read (Some (j, x ∷ xs)) t e = absurd cc
 
-has_grammar : (bytes : List ℕ) → HasTree bytes → HasGrammar bytes
+has_grammar : (bytes : List ℕ) → IsTextOfTree bytes → IsWellFormedJson bytes
 has_grammar bytes (t, is) = (is.utf8, all_read (value max_depth (tokens bytes)) t is.tree_read)
 
 -- ---- more input after a value
@@ -53,7 +53,7 @@ more_behind bytes m = record {
 -- ---- those of a text with no value at its beginning
 
 module _ (bytes : List ℕ) (u : IsUtf8 bytes) (none : skip_value max_depth (tokens bytes) ≡ None) where
-  of_value : (rule : Rule) → IsValueRule rule → (tokens bytes ≡ [] → rule ≡ UnexpectedEnd)
+  of_value : (rule : Rule) → IsValueSyntaxRule rule → (tokens bytes ≡ [] → rule ≡ UnexpectedEnd)
       → (rule ≡ Depth → NestsDeeper (tokens bytes)) → (IsInvalidTokenRule rule → HasInvalidToken (tokens bytes)) → BreaksRule bytes rule
   of_value rule other blank depth no_token = record {
     utf8 = (λ e. absurd (other.0 e), λ n. absurd (n u));
@@ -69,7 +69,7 @@ module _ (bytes : List ℕ) (u : IsUtf8 bytes) (none : skip_value max_depth (tok
   at_end = of_value UnexpectedEnd (λ e. absurd cc, λ e. absurd cc, λ e. absurd cc, λ e. absurd cc) (λ e. refl) (λ e. absurd cc) (λ h. absurd h)
 
   pub at_bad : (rule : Rule) (front rest : List Token) → tokens bytes ≡ front ++ bad ∷ rest
-      → IsValueRule rule × (rule ≢ Depth) → BreaksRule bytes rule
+      → IsValueSyntaxRule rule × (rule ≢ Depth) → BreaksRule bytes rule
   at_bad rule front rest e h =
       of_value rule h.0 (λ n. absurd (has_one front bad rest (sym e ∙ n))) (λ d. absurd (h.1 d)) (λ x. (front, rest, e))
 

@@ -1,4 +1,4 @@
--- Why a line that was taken is refused.
+-- Why a line that was read is rejected.
 use Rattle.std.proofs.Common.{ℕ, List, inl}
 use Rattle.bson_convert.specs.Convert.{IsRejectedIn}
 use Rattle.bson_run.specs.Lines.{IsBlank}

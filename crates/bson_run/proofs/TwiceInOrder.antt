@@ -13,9 +13,9 @@ use Rattle.bson_scalar.proofs.Offered as scalars
 use Rattle.bson_model.specs.Normal.{as_read_back, map_scalars, map_scalars_of_items, map_scalars_of_pairs, normal_form}
 use Rattle.bson_model.specs.Value.{Value, scalar, code_scope, array, document, Values, no_values, value, Pairs, no_pairs, pair}
 use Rattle.bson_model.proofs.Offered.{as_read_each}
-use Rattle.bson_model.specs.OrderedTrees.{kept, read_in_order, tree_sorted_by_key}
+use Rattle.bson_model.specs.OrderedTrees.{tree_of_json, read_in_order, tree_sorted_by_key}
 use Rattle.bson_model.specs.OrderedTexts.{HasMeaningInOrder, IsOrderedTextOf}
-use Rattle.bson_model.specs.OrderedWriting.{writes_in_order, values_in_order, pairs_in_order}
+use Rattle.bson_model.specs.OrderedWriting.{writes_value_in_order, writes_items_in_order, writes_pairs_in_order}
 use Rattle.bson_model.specs.OrderedWritten.{WrittenInOrder}
 use Rattle.bson_model.proofs.OfferedInOrder.{default_written, one_written, ordered_text, text_means, written_from, written_to}
 use Rattle.bson.specs.Texts.{IsTextInOrder}
@@ -33,23 +33,23 @@ use Rattle.bson_run.proofs.Ordered.{default_tree, text_converts}
 
 pub read_kept_then : (text : List ℕ) → read_in_order (text ++ newline) ≡ read_in_order text
 read_kept_then text =
-    ap (λ ts. option_and_then kept (option_and_then (λ p. json.if_last p.0 p.1) (json.value max_depth ts))) (tokens_then text)
+    ap (λ ts. option_and_then tree_of_json (option_and_then (λ p. json.if_last p.0 p.1) (json.value max_depth ts))) (tokens_then text)
 
 module _ (o : Options) (f : Form) (g : Scalar → Scalar)
     (same : (x : Scalar) → writes_scalar_in o.doubles f (g x) ≡ writes_scalar_in o.doubles f x) where
   mutual
     -- what keeps the tree of each scalar keeps the tree
-    each_written : (v : Value) → writes_in_order o.doubles f (map_scalars g v) ≡ writes_in_order o.doubles f v
+    each_written : (v : Value) → writes_value_in_order o.doubles f (map_scalars g v) ≡ writes_value_in_order o.doubles f v
     each_written (scalar x) = same x
     each_written (code_scope s ps) = rw (each_pair ps) refl
     each_written (array vs) = rw (each_item vs) refl
     each_written (document ps) = rw (each_pair ps) refl
 
-    each_item : (vs : Values) → values_in_order o.doubles f (map_scalars_of_items g vs) ≡ values_in_order o.doubles f vs
+    each_item : (vs : Values) → writes_items_in_order o.doubles f (map_scalars_of_items g vs) ≡ writes_items_in_order o.doubles f vs
     each_item no_values = refl
     each_item (value v vs) = rw (each_written v, each_item vs) refl
 
-    each_pair : (ps : Pairs) → pairs_in_order o.doubles f (map_scalars_of_pairs g ps) ≡ pairs_in_order o.doubles f ps
+    each_pair : (ps : Pairs) → writes_pairs_in_order o.doubles f (map_scalars_of_pairs g ps) ≡ writes_pairs_in_order o.doubles f ps
     each_pair no_pairs = refl
     each_pair (pair k v ps) = rw (each_written v, each_pair ps) refl
 
@@ -61,7 +61,7 @@ module _ (o : Options) (f : Form) where
       let D = o.doubles in
       let w = as_read_back f (normal_form v) in
       written_from D f w t
-      (ap (writes_in_order D f) (sym (as_read_each f (normal_form v)))
+      (ap (writes_value_in_order D f) (sym (as_read_each f (normal_form v)))
       ∙ each_written o f (scalar_as_read_back f) (scalars.as_read_written D f) (normal_form v)
       ∙ each_written o f normal_scalar (scalars.nf_written D f) v ∙ written_to D f v t h)
 
@@ -80,10 +80,10 @@ module _ (o : Options) (f : Form) where
       let is_text : IsTextInOrder D f w line.text = record {
         tree = t;
         written = h;
-        one = λ u other. one_written D f w t u h other;
-        ordered = λ plain. ordered_text D f w t h plain meaning.ranged meaning.distinct;
-        by_default = default_tree o f w (tree_sorted_by_key t) meaning.read_form.1 meaning.ranged
-            (default_written D f w t h meaning.ranged);
+        only_tree = λ u other. one_written D f w t u h other;
+        ordered = λ plain. ordered_text D f w t h plain meaning.within_type_range meaning.distinct;
+        by_default = default_tree o f w (tree_sorted_by_key t) meaning.read_form.1 meaning.within_type_range
+            (default_written D f w t h meaning.within_type_range);
         compact = line.is_text.compact;
       } in
       record {

@@ -5,7 +5,7 @@ use Rattle.std.proofs.lemmas.List.{append_cancel_right}
 use Rattle.json.specs.Json.{Json, value as json_value}
 use Rattle.json.specs.Lex.{tokens}
 use Rattle.serde_json.specs.Read.{max_depth, of_json, read}
-use Rattle.bson_model.specs.OrderedTrees.{kept, read_in_order}
+use Rattle.bson_model.specs.OrderedTrees.{tree_of_json, read_in_order}
 use Rattle.bson_scalar.specs.TreeText.{tree_text}
 use Rattle.bson_scalar.specs.declared.form.Form.{Form}
 use Rattle.bson_scalar.specs.declared.form.Form.TheVariants.{Canonical, Relaxed}
@@ -28,7 +28,7 @@ module _ (n : ℕ) (text output : List ℕ) (is : IsIndentedOutput n text output
       → option_and_then of (whole (json_value max_depth (tokens text))) ≡ Some t → tokens output ≡ tokens text
   tokens_alike of t h =
       let j = parsed_whole of (json_value max_depth (tokens text)) t h in
-      ap tokens is.line ∙ tokens_then is.indented_text ∙ is.same max_depth j.0 j.1
+      ap tokens is.line ∙ tokens_then is.indented_text ∙ is.keeps_tokens max_depth j.0 j.1
 
   alike : {A : Type 0} (of : Json → Option A) (t : A)
       → option_and_then of (whole (json_value max_depth (tokens text))) ≡ Some t
@@ -79,7 +79,7 @@ module _ (o : Options) (f : Form) (n : ℕ) (bytes output : List ℕ) (utf8 : Is
             record {
               text = x.text;
               converts = again_in_order o f (mode_of f) bytes (x.text ++ newline) output x.converts.value x.converts.meaning line
-                  of utf8 (alike n x.text output x.is_output kept line.is_text.tree read_text);
+                  of utf8 (alike n x.text output x.is_output tree_of_json line.is_text.tree read_text);
               is_output = x.is_output;
             };
       }

@@ -1,12 +1,12 @@
 -- Encoding bytes: the canonical bytes (BSON 1.1) of the document that they denote as a text, or why there
 -- are none.
 use Rattle.std.specs.Prelude.{◌≡◌, ℕ, suc, List}
-use Rattle.bson.specs.TextMeaning.{HasTextMeaningBy}
+use Rattle.bson.specs.TextMeaning.{HasTextMeaningInKeyOrder}
 use Rattle.bson.specs.declared.extjson.key_order.KeyOrder.{KeyOrder}
 use Rattle.bson.specs.declared.extjson.options.Options.{Options}
-use Rattle.bson_codec.specs.Canonical.{Cause, zero_in_key, zero_in_regex, too_long}
-use Rattle.bson_codec.specs.Canonical.{DocumentFails, FitsDocument, PairsNestUpTo, pairs_read_back, document_bytes}
-use Rattle.bson_codec.specs.ReadDocuments.{IsRead}
+use Rattle.bson_codec.specs.Canonical.{NoBytesCause, nul_in_key, nul_in_regex, too_long}
+use Rattle.bson_codec.specs.Canonical.{DocumentDoesNotFit, FitsDocument, PairsNestUpTo, pairs_read_back, document_bytes}
+use Rattle.bson_codec.specs.ReadDocuments.{IsReadAsDocument}
 use Rattle.bson_model.specs.Value.{Value, Pairs, document}
 use Rattle.bson_convert.specs.Convert.{IsRejectedIn}
 use Rattle.bson_convert.specs.declared.encode_error.NoBytes.{NoBytes}
@@ -22,54 +22,56 @@ pub record IsBytesOf (means : Value → Type 0) (bytes : List ℕ) : Type 0 wher
   pub meaning : means (document pairs)
   pub fits : FitsDocument pairs
   pub canonical : bytes ≡ document_bytes pairs
-  pub back : (d : ℕ) → PairsNestUpTo pairs d → IsRead (suc d) bytes (pairs_read_back pairs)
+  pub back : (depth : ℕ) → PairsNestUpTo pairs depth → IsReadAsDocument (suc depth) bytes (pairs_read_back pairs)
 
 -- a value that is no document is meant
 pub record IsNoDocument (means : Value → Type 0) : Type 0 where
   pub value : Value
   pub meaning : means value
-  pub other : (ps : Pairs) → value ≡ document ps → ⊥
+  pub other : (pairs : Pairs) → value ≡ document pairs → ⊥
 
 -- a document is meant that has no bytes, for this cause
-pub record FailsFor (means : Value → Type 0) (cause : Cause) : Type 0 where
+pub record IsUnencodableFor (means : Value → Type 0) (cause : NoBytesCause) : Type 0 where
   pub pairs : Pairs
   pub meaning : means (document pairs)
-  pub fails : DocumentFails cause pairs
+  pub fails : DocumentDoesNotFit cause pairs
 
 -- why what is meant has no bytes
-abbrev pub HasNoBytesFor : (means : Value → Type 0) → NoBytes → Type 0
-HasNoBytesFor means NoDocument = IsNoDocument means
-HasNoBytesFor means ZeroInKey = FailsFor means zero_in_key
-HasNoBytesFor means ZeroInRegex = FailsFor means zero_in_regex
-HasNoBytesFor means TooLong = FailsFor means too_long
+abbrev pub HasNoBsonBytes : (means : Value → Type 0) → NoBytes → Type 0
+HasNoBsonBytes means NoDocument = IsNoDocument means
+HasNoBsonBytes means ZeroInKey = IsUnencodableFor means nul_in_key
+HasNoBsonBytes means ZeroInRegex = IsUnencodableFor means nul_in_regex
+HasNoBsonBytes means TooLong = IsUnencodableFor means too_long
 
 -- ---- what a text gives, its keys in the order
 
 -- the text means a document, whose canonical bytes these are; they are read back as it
 abbrev pub Encodes : KeyOrder → Options → (text bytes : List ℕ) → Type 0
-Encodes order options text bytes = IsBytesOf (HasTextMeaningBy order options.doubles text) bytes
+Encodes key_order options text bytes = IsBytesOf (HasTextMeaningInKeyOrder key_order options.doubles text) bytes
 
 -- why the text gives no bytes
-abbrev pub HasNoBytesBy : KeyOrder → Options → NoBytes → List ℕ → Type 0
-HasNoBytesBy order options why text = HasNoBytesFor (HasTextMeaningBy order options.doubles text) why
+abbrev pub TextHasNoBsonBytes : KeyOrder → Options → NoBytes → (text : List ℕ) → Type 0
+TextHasNoBsonBytes key_order options no_bytes_cause text =
+    HasNoBsonBytes (HasTextMeaningInKeyOrder key_order options.doubles text) no_bytes_cause
 
 -- what each fault says of the bytes
-abbrev pub IsEncodeErrorBy : KeyOrder → Options → Error → List ℕ → Type 0
-IsEncodeErrorBy order options (error.NoBytes why) text = HasNoBytesBy order options why text
-IsEncodeErrorBy order options it text = IsRejectedIn options it text
+abbrev pub IsEncodeErrorBy : KeyOrder → Options → Error → (text : List ℕ) → Type 0
+IsEncodeErrorBy key_order options (error.NoBytes no_bytes_cause) text =
+    TextHasNoBsonBytes key_order options no_bytes_cause text
+IsEncodeErrorBy key_order options fault text = IsRejectedIn options fault text
 
 -- ---- for private clauses
 
 -- why what is meant gave no bytes, or memory ran out
 abbrev pub IsEncodeErrorFor : (means : Value → Type 0) → Error → Type 0
-IsEncodeErrorFor means (error.NoBytes why) = HasNoBytesFor means why
+IsEncodeErrorFor means (error.NoBytes no_bytes_cause) = HasNoBsonBytes means no_bytes_cause
 IsEncodeErrorFor means error.OutOfMemory = Unit {0}
-IsEncodeErrorFor means other = ⊥
+IsEncodeErrorFor means other_error = ⊥
 
 -- the document fails for the cause, or memory ran out
 abbrev pub IsWriteErrorOf : Error → Pairs → Type 0
-IsWriteErrorOf (error.NoBytes ZeroInKey) ps = DocumentFails zero_in_key ps
-IsWriteErrorOf (error.NoBytes ZeroInRegex) ps = DocumentFails zero_in_regex ps
-IsWriteErrorOf (error.NoBytes TooLong) ps = DocumentFails too_long ps
-IsWriteErrorOf error.OutOfMemory ps = Unit {0}
-IsWriteErrorOf other ps = ⊥
+IsWriteErrorOf (error.NoBytes ZeroInKey) pairs = DocumentDoesNotFit nul_in_key pairs
+IsWriteErrorOf (error.NoBytes ZeroInRegex) pairs = DocumentDoesNotFit nul_in_regex pairs
+IsWriteErrorOf (error.NoBytes TooLong) pairs = DocumentDoesNotFit too_long pairs
+IsWriteErrorOf error.OutOfMemory pairs = Unit {0}
+IsWriteErrorOf other_error pairs = ⊥

@@ -22,71 +22,76 @@ use Rattle.bson_run.specs.declared.explain.Explanation.{Explanation}
 use Rattle.bson_run.specs.declared.explain.Explanation.TheVariants as explained
 use Rattle.bson_run.specs.declared.rule.Rule.{Rule}
 use Rattle.bson_run.specs.declared.rule.Rule.TheVariants.{Utf8, UnexpectedEnd, TrailingData, OutOfRange}
-use Rattle.bson_run.specs.declared.rule.Rule.TheVariants.{NoValue, Number, ControlCharacter, Escape, ExpectedElement}
+use Rattle.bson_run.specs.declared.rule.Rule.TheVariants.{ExpectedValue, Number, ControlCharacter, Escape, ExpectedElement}
 use Rattle.bson_run.specs.declared.rule.Rule.TheVariants.{Quotes, Separator, ExpectedColonAndValue, Depth, RewrittenDepth}
 use Rattle.bson_run.specs.TaskNames.{rule_message}
 
 -- an empty path is left out
-abbrev pub path_message : List ℕ → List ℕ
+abbrev pub path_message : (path : List ℕ) → List ℕ
 path_message [] = []
-path_message (x ∷ xs) = codes " at " ++ x ∷ xs
+path_message (first_byte ∷ other_bytes) = codes " at " ++ first_byte ∷ other_bytes
 
 -- a character in a message: as its escape in JSON if it breaks a line or controls a terminal, any other unchanged
-abbrev pub escaped_char : ℕ → List ℕ
-escaped_char c = if c == 0x2028 then codes "\\u2028"
-    else (if c == 0x2029 then codes "\\u2029"
-    else (if is_control c then codes "\\u00" ++ digit_char (c / 16) ∷ digit_char (c % 16) ∷ [] else encode_utf8 c))
+abbrev pub escaped_char : (code_point : ℕ) → List ℕ
+escaped_char code_point = if code_point == 0x2028 then codes "\\u2028"
+    else (if code_point == 0x2029 then codes "\\u2029"
+    else (if is_control code_point
+    then codes "\\u00" ++ digit_char (code_point / 16) ∷ digit_char (code_point % 16) ∷ [] else encode_utf8 code_point))
 
 -- a character by its escape, where escapes are wanted, or as it is
-abbrev pub char_or_escape : (escapes : Bool) → ℕ → List ℕ
+abbrev pub char_or_escape : (escapes : Bool) → (code_point : ℕ) → List ℕ
 char_or_escape true = escaped_char
 char_or_escape false = encode_utf8
 
 -- the first characters of a message, and two points if there are more
-abbrev pub truncated : ℕ → (ℕ → List ℕ) → List ℕ → List ℕ
+abbrev pub truncated : (max_chars : ℕ) → (write_char : ℕ → List ℕ) → (full_message : List ℕ) → List ℕ
 truncated max_chars write_char full_message =
-    flat_map write_char (take max_chars (chars full_message)) ++ (if nat_lt max_chars (length (chars full_message)) then codes ".." else [])
+    flat_map write_char (take max_chars (chars full_message))
+    ++ (if nat_lt max_chars (length (chars full_message)) then codes ".." else [])
 
 -- a message cut to 300 characters
-abbrev pub escaped_message : List ℕ → List ℕ
+abbrev pub escaped_message : (full_message : List ℕ) → List ℕ
 escaped_message full_message = truncated 300 escaped_char full_message
 
 -- the quote of a value: 60 characters
-abbrev pub found_message : List ℕ → List ℕ
+abbrev pub found_message : (value : List ℕ) → List ℕ
 found_message value = codes "; found " ++ truncated 60 encode_utf8 value
 
 -- it is a contiguous part of the text
-abbrev pub IsSubslice : List ℕ → List ℕ → Type 0
-IsSubslice part text = (front : List ℕ) × (rest : List ℕ) × (text ≡ front ++ part ++ rest)
+abbrev pub IsSubslice : (part text : List ℕ) → Type 0
+IsSubslice part text = (text_before : List ℕ) × (text_after : List ℕ) × (text ≡ text_before ++ part ++ text_after)
 
 -- nothing, or the quote of a part of the text; no contract says that it is the value at the path
-abbrev pub IsQuotedValue : List ℕ → List ℕ → Type 0
-IsQuotedValue text full_message = (full_message ≡ []) ⊎ ((part : List ℕ) × IsSubslice part text × (full_message ≡ found_message part))
+abbrev pub IsQuotedValue : (text full_message : List ℕ) → Type 0
+IsQuotedValue text full_message = (full_message ≡ [])
+    ⊎ ((part : List ℕ) × IsSubslice part text × (full_message ≡ found_message part))
 
 -- what was expected, and after it what was found in the text; any message for an object id
-abbrev pub IsReasonMessage : List ℕ → Reason → List ℕ → Type 0
+abbrev pub IsReasonMessage : (text : List ℕ) → Reason → (full_message : List ℕ) → Type 0
 IsReasonMessage text (WrongShape expected) full_message =
     (quote : List ℕ) × IsQuotedValue text quote × (full_message ≡ expected.now ++ quote)
-IsReasonMessage text (BadObjectId why) full_message = Unit {0}
+IsReasonMessage text (BadObjectId object_id_error) full_message = Unit {0}
 
 -- the path of the error, and its reason
-abbrev pub IsPathMessage : List ℕ → Place → List ℕ → Type 0
+abbrev pub IsPathMessage : (text : List ℕ) → Place → (full_message : List ℕ) → Type 0
 IsPathMessage text place full_message =
     (message : List ℕ) × IsReasonMessage text place.reason message
-    × (full_message ≡ path_message (escaped_message (path_text (path_of place))) ++ codes " (" ++ escaped_message message ++ codes ")")
+    × (full_message
+    ≡ path_message (escaped_message (path_text (path_of place))) ++ codes " (" ++ escaped_message message ++ codes ")")
 
 -- the bytes are UTF-8 and one value by the grammar of JSON, arrays and objects nesting as deep as texts may (RFC 8259)
-abbrev pub HasGrammar : List ℕ → Type 0
-HasGrammar bytes = IsUtf8 bytes × (skip_value max_depth (tokens bytes) ≡ Some [])
+abbrev pub IsWellFormedJson : (bytes : List ℕ) → Type 0
+IsWellFormedJson bytes = IsUtf8 bytes × (skip_value max_depth (tokens bytes) ≡ Some [])
 
 -- the bytes are the text of a tree: they have the grammar, and each number is in range
-abbrev pub HasTree : List ℕ → Type 0
-HasTree bytes = (t : Data) × IsTextOf bytes t
+abbrev pub IsTextOfTree : (bytes : List ℕ) → Type 0
+IsTextOfTree bytes = (tree : Data) × IsTextOf bytes tree
 
 -- the text begins with one value, and has more input after it
-abbrev pub HasTrailingData : List ℕ → Type 0
+abbrev pub HasTrailingData : (bytes : List ℕ) → Type 0
 HasTrailingData bytes =
-    IsUtf8 bytes × ((t : Token) × (ts : List Token) × (skip_value max_depth (tokens bytes) ≡ Some (t ∷ ts)))
+    IsUtf8 bytes × ((next_token : Token) × (more_tokens : List Token)
+    × (skip_value max_depth (tokens bytes) ≡ Some (next_token ∷ more_tokens)))
 
 -- how many brackets a token opens, and how many it closes
 abbrev pub opens : Token → ℕ
@@ -100,18 +105,19 @@ closes end_array = 1
 closes token = 0
 
 -- after some of the tokens more brackets are open than the limit allows
-abbrev pub NestsDeeper : List Token → Type 0
-NestsDeeper ts =
-    (front : List Token) × (rest : List Token) × (ts ≡ front ++ rest)
-    × (sum_by closes front + max_depth < sum_by opens front)
+abbrev pub NestsDeeper : (token_list : List Token) → Type 0
+NestsDeeper token_list =
+    (tokens_before : List Token) × (tokens_after : List Token) × (token_list ≡ tokens_before ++ tokens_after)
+    × (sum_by closes tokens_before + max_depth < sum_by opens tokens_before)
 
 -- some bytes of the text are not a token
-abbrev pub HasInvalidToken : List Token → Type 0
-HasInvalidToken ts = (front : List Token) × (rest : List Token) × (ts ≡ front ++ bad ∷ rest)
+abbrev pub HasInvalidToken : (token_list : List Token) → Type 0
+HasInvalidToken token_list =
+    (tokens_before : List Token) × (tokens_after : List Token) × (token_list ≡ tokens_before ++ bad ∷ tokens_after)
 
 -- the rules for bytes that are not a token
 abbrev pub IsInvalidTokenRule : Rule → Type 0
-IsInvalidTokenRule NoValue = Unit {0}
+IsInvalidTokenRule ExpectedValue = Unit {0}
 IsInvalidTokenRule Number = Unit {0}
 IsInvalidTokenRule ControlCharacter = Unit {0}
 IsInvalidTokenRule Escape = Unit {0}
@@ -123,75 +129,78 @@ IsInvalidTokenRule rule = ⊥
 -- if the rewritten text, which is read instead, nests too deep
 pub record BreaksRule (bytes : List ℕ) (rule : Rule) : Type 0 where
   pub utf8 : rule ≡ Utf8 ↔ ¬ (IsUtf8 bytes)
-  pub number : rule ≡ OutOfRange ↔ HasGrammar bytes × IsNotJsonText bytes
-  pub rewritten : rule ≡ RewrittenDepth ↔ HasTree bytes
+  pub number : rule ≡ OutOfRange ↔ IsWellFormedJson bytes × IsNotJsonText bytes
+  pub rewritten : rule ≡ RewrittenDepth ↔ IsTextOfTree bytes
   pub more : rule ≡ TrailingData ↔ HasTrailingData bytes
   pub blank : IsUtf8 bytes → tokens bytes ≡ [] → rule ≡ UnexpectedEnd
   pub depth : rule ≡ Depth → NestsDeeper (tokens bytes)
   pub no_token : IsInvalidTokenRule rule → HasInvalidToken (tokens bytes)
 
 -- the bytes before a place among them, which are not all
-abbrev pub bytes_before : (offset : ℕ) → List ℕ → List ℕ
+abbrev pub bytes_before : (offset : ℕ) → (bytes : List ℕ) → List ℕ
 bytes_before offset bytes = take (min offset (length bytes - 1)) bytes
 
 -- its line, and its column in that line, both counted from 1
-abbrev pub line_at : (offset : ℕ) → List ℕ → ℕ
-line_at offset bytes = suc (count_by (λ x. x == 10) (bytes_before offset bytes))
+abbrev pub line_at : (offset : ℕ) → (bytes : List ℕ) → ℕ
+line_at offset bytes = suc (count_by (λ byte. byte == 10) (bytes_before offset bytes))
 
-abbrev pub column_at : (offset : ℕ) → List ℕ → ℕ
-column_at offset bytes = suc (length (take_while (λ x. not (x == 10)) (reverse (bytes_before offset bytes))))
+abbrev pub column_at : (offset : ℕ) → (bytes : List ℕ) → ℕ
+column_at offset bytes = suc (length (take_while (λ byte. not (byte == 10)) (reverse (bytes_before offset bytes))))
 
 -- a column, which one no contract says, and the rule that is broken there
-abbrev pub column_and_rule : ℕ → Rule → List ℕ
-column_and_rule n rule = codes " at column " ++ decimal n ++ codes " (" ++ rule_message rule ++ codes ")"
+abbrev pub column_and_rule : (column : ℕ) → Rule → List ℕ
+column_and_rule column rule = codes " at column " ++ decimal column ++ codes " (" ++ rule_message rule ++ codes ")"
 
 -- the column of the first byte in which a text differs from the canonical one
-abbrev pub column_message : ℕ → List ℕ
+abbrev pub column_message : (column : ℕ) → List ℕ
 column_message column = codes " at column " ++ decimal column
 
 -- the column at which bytes are not JSON, and the rule that they break
-abbrev pub IsSyntaxPosition : List ℕ → List ℕ → Type 0
-IsSyntaxPosition bytes full_message = (n : ℕ) × (rule : Rule) × BreaksRule bytes rule × (full_message ≡ column_and_rule n rule)
+abbrev pub IsSyntaxPosition : (bytes full_message : List ℕ) → Type 0
+IsSyntaxPosition bytes full_message = (column : ℕ) × (rule : Rule) × BreaksRule bytes rule
+    × (full_message ≡ column_and_rule column rule)
 
 -- the fault is not that of a text
-abbrev pub IsNotTextError : Error → Type 0
-IsNotTextError NotJson = ⊥
-IsNotTextError (NotExtendedJson place) = ⊥
-IsNotTextError (NotCanonical column) = ⊥
-IsNotTextError other = Unit {0}
+abbrev pub HasNoPosition : Error → Type 0
+HasNoPosition NotJson = ⊥
+HasNoPosition (NotExtendedJson place) = ⊥
+HasNoPosition (NotCanonical column) = ⊥
+HasNoPosition other_error = Unit {0}
 
 -- why a text is rejected: the rule that it breaks, or the path of its error and the reason in a message, or nothing
-abbrev pub IsExplanation : List ℕ → Error → Explanation → Type 0
+abbrev pub IsExplanation : (text : List ℕ) → Error → Explanation → Type 0
 IsExplanation text fault (explained.Syntax syntax_error) = (fault ≡ NotJson) × BreaksRule text syntax_error.rule
 IsExplanation text fault (explained.Value place reason) =
     (fault ≡ NotExtendedJson place.now)
-    × ((message : List ℕ) × IsReasonMessage text place.now.reason message × (string_bytes reason ≡ escaped_message message))
+    × ((message : List ℕ) × IsReasonMessage text place.now.reason message
+    × (string_bytes reason ≡ escaped_message message))
 IsExplanation text fault (explained.Difference column) = fault ≡ NotCanonical column
-IsExplanation text fault explained.Other = IsNotTextError fault
+IsExplanation text fault explained.Other = HasNoPosition fault
 
 -- the message of an explanation
-abbrev pub explanation_message : List ℕ → Explanation → List ℕ
-explanation_message text (explained.Syntax syntax_error) = column_and_rule (column_at syntax_error.offset text) syntax_error.rule
+abbrev pub explanation_message : (text : List ℕ) → Explanation → List ℕ
+explanation_message text (explained.Syntax syntax_error) =
+    column_and_rule (column_at syntax_error.offset text) syntax_error.rule
 explanation_message text (explained.Value place reason) =
     path_message (escaped_message (path_text (path_of place.now))) ++ codes " (" ++ string_bytes reason ++ codes ")"
 explanation_message text (explained.Difference column) = column_message column
 explanation_message text explained.Other = []
 
 -- where the error of a text is; nothing for an error that is not one of a text
-abbrev pub IsPositionMessage : List ℕ → Error → List ℕ → Type 0
+abbrev pub IsPositionMessage : (text : List ℕ) → Error → (full_message : List ℕ) → Type 0
 IsPositionMessage text NotJson full_message = IsSyntaxPosition text full_message
 IsPositionMessage text (NotExtendedJson place) full_message = IsPathMessage text place full_message
 IsPositionMessage text (NotCanonical column) full_message = full_message ≡ column_message column
-IsPositionMessage text other full_message = full_message ≡ []
+IsPositionMessage text other_error full_message = full_message ≡ []
 
 -- ---- for private clauses
 
 -- a rule that a text breaks which is UTF-8 and begins with no value
-abbrev pub IsValueRule : Rule → Type 0
-IsValueRule rule = (rule ≢ Utf8) × (rule ≢ OutOfRange) × (rule ≢ TrailingData) × (rule ≢ RewrittenDepth)
+abbrev pub IsValueSyntaxRule : Rule → Type 0
+IsValueSyntaxRule rule = (rule ≢ Utf8) × (rule ≢ OutOfRange) × (rule ≢ TrailingData) × (rule ≢ RewrittenDepth)
 
 -- a rule that a token breaks at its position, with this number of open brackets
-abbrev pub IsTokenRule : ℕ → Token → Rule → Type 0
+abbrev pub IsTokenRule : (depth : ℕ) → Token → Rule → Type 0
 IsTokenRule depth token rule =
     (rule ≡ Quotes) ⊎ (rule ≡ Separator) ⊎ (rule ≡ ExpectedColonAndValue)
     ⊎ ((rule ≡ Depth) × (closes token ≡ 0) × (max_depth < depth + opens token))

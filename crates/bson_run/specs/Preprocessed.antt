@@ -16,40 +16,40 @@ use Rattle.bson_run.specs.declared.task.Preprocessing.{Preprocessing}
 use Rattle.bson_run.specs.declared.task.Preprocessing.TheVariants.{Distinct, Legacy, DistinctLegacy}
 
 -- if the bytes are a JSON text, no object of it has a duplicate key, at any depth
-abbrev pub LacksDuplicateKey : List ℕ → Type 0
-LacksDuplicateKey bytes = (j : Json) → IsUtf8 bytes → json_of bytes ≡ Some j → HasUniqueKeys j
+abbrev pub LacksDuplicateKey : (bytes : List ℕ) → Type 0
+LacksDuplicateKey bytes = (json : Json) → IsUtf8 bytes → json_of bytes ≡ Some json → HasUniqueKeys json
 
 -- the bytes are a JSON text, whose first duplicate key is at the place
-abbrev pub HasDuplicateKeyAt : Place → List ℕ → Type 0
+abbrev pub HasDuplicateKeyAt : Place → (bytes : List ℕ) → Type 0
 HasDuplicateKeyAt place bytes = IsUtf8 bytes × HasDuplicateKey bytes (path_of place)
 
 -- the bytes are not a JSON text whose numbers are in range
-abbrev pub IsInvalidJson : List ℕ → Type 0
-IsInvalidJson bytes = (d : Data) → IsUtf8 bytes → read bytes ≡ Some d → ⊥
+abbrev pub IsInvalidJson : (bytes : List ℕ) → Type 0
+IsInvalidJson bytes = (tree : Data) → IsUtf8 bytes → read bytes ≡ Some tree → ⊥
 
 -- a JSON text is rewritten as the text of the tree that its tree denotes; other bytes are kept
-abbrev pub UpgradesTo : List ℕ → List ℕ → Type 0
+abbrev pub UpgradesTo : (bytes upgraded : List ℕ) → Type 0
 UpgradesTo bytes upgraded = (IsUtf8 bytes × IsUpgradedText bytes upgraded) ⊎ (IsInvalidJson bytes × (upgraded ≡ bytes))
 
 -- the bytes are accepted, and these are read in their place
-abbrev pub IsPreprocessedAs : Preprocessing → List ℕ → List ℕ → Type 0
+abbrev pub IsPreprocessedAs : Preprocessing → (bytes preprocessed : List ℕ) → Type 0
 IsPreprocessedAs Distinct bytes preprocessed = LacksDuplicateKey bytes × (preprocessed ≡ bytes)
 IsPreprocessedAs Legacy bytes preprocessed = UpgradesTo bytes preprocessed
 IsPreprocessedAs DistinctLegacy bytes preprocessed = LacksDuplicateKey bytes × UpgradesTo bytes preprocessed
 
 -- the bytes are rejected before they are read
-abbrev pub IsRejectedByPreprocessing : Preprocessing → Place → List ℕ → Type 0
+abbrev pub IsRejectedByPreprocessing : Preprocessing → Place → (bytes : List ℕ) → Type 0
 IsRejectedByPreprocessing Distinct place bytes = HasDuplicateKeyAt place bytes
 IsRejectedByPreprocessing Legacy place bytes = ⊥
 IsRejectedByPreprocessing DistinctLegacy place bytes = HasDuplicateKeyAt place bytes
 
 -- what each error says about the bytes
-abbrev pub IsPreprocessingError : Preprocessing → Error → List ℕ → Type 0
+abbrev pub IsPreprocessingError : Preprocessing → Error → (bytes : List ℕ) → Type 0
 IsPreprocessingError preprocessing (NotExtendedJson place) bytes = IsRejectedByPreprocessing preprocessing place bytes
 IsPreprocessingError preprocessing OutOfMemory bytes = Unit {0}
-IsPreprocessingError preprocessing other bytes = ⊥
+IsPreprocessingError preprocessing other_error bytes = ⊥
 
 -- the text, or the bytes if there is none
-abbrev pub preprocessed_of : List ℕ → Option (String Global) → List ℕ
+abbrev pub preprocessed_of : (bytes : List ℕ) → Option (String Global) → List ℕ
 preprocessed_of bytes None = bytes
 preprocessed_of bytes (Some text) = string_bytes text

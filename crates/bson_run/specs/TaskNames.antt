@@ -22,7 +22,7 @@ abbrev pub rule_message : Rule → List ℕ
 rule_message rule.Utf8 = codes "invalid UTF-8"
 rule_message rule.UnexpectedEnd = codes "unexpected end of input"
 rule_message rule.Quotes = codes "keys and strings must be in double quotes"
-rule_message rule.NoValue = codes "expected a value"
+rule_message rule.ExpectedValue = codes "expected a value"
 rule_message rule.Number = codes "invalid number"
 rule_message rule.ControlCharacter = codes "unescaped control character in a string"
 rule_message rule.Escape = codes "invalid escape sequence"

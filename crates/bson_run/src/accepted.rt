@@ -5,7 +5,7 @@ ghost use Rattle.bson_run.specs.Accepted.{HasOutput, IsAcceptedText, IsUtf8Accep
 ghost use Rattle.bson_run.specs.InOrder.{ConvertsBy, ConvertsInOrder};
 ghost use Rattle.bson.specs.declared.extjson.key_order.KeyOrder.TheVariants.{Ascending, AsGiven};
 
-use crate::convert::{convert_whole_by, filter_once};
+use crate::convert::{convert_owned_text, filter_once};
 use bson::extjson::{KeyOrder, Options};
 use bson_convert::conversion_attempt::{Attempt, normalize, refuse, try_text};
 use bson_convert::convert::end_line;
@@ -72,7 +72,7 @@ impl Accepted {
         match self {
             Accepted::Output(output) => Ok(output),
             Accepted::Normalized(mode, text) => {
-                convert_whole_by(alloc, options.key_order, options, mode, text)
+                convert_owned_text(alloc, options.key_order, options, mode, text)
             }
         }
     }
@@ -109,9 +109,9 @@ fn accept_in_order(
     let Ok(text) = simdutf8::compat::from_utf8(bytes) else {
         return Err(Error::NotJson);
     };
-    let found = filter_once(alloc, options, mode, text, &mut Scratch::new(alloc))?;
-    match found {
-        Some(written) => Ok(Accepted::Output(end_line(written)?)),
+    let filtered_output = filter_once(alloc, options, mode, text, &mut Scratch::new(alloc))?;
+    match filtered_output {
+        Some(converted_text) => Ok(Accepted::Output(end_line(converted_text)?)),
         None => {
             refuse(alloc, options, text)?;
             let normalized = normalize(alloc, Arrangement::FirstPositions, text)?;

@@ -4,7 +4,7 @@ ghost use Rattle.json.specs.Json.{skip_value};
 ghost use Rattle.json.specs.Lex.{tokens};
 ghost use Rattle.json.specs.Reads.{token_of};
 ghost use Rattle.serde_json.specs.Read.{max_depth};
-ghost use Rattle.bson_run.specs.ErrorMessages.{BreaksRule, IsTokenRule, IsValueRule, closes, opens};
+ghost use Rattle.bson_run.specs.ErrorMessages.{BreaksRule, IsTokenRule, IsValueSyntaxRule, closes, opens};
 
 use crate::rule::Rule;
 use bson_tokens::MAX_DEPTH;
@@ -17,20 +17,24 @@ pub(crate) fn find_broken_rule(text: &str, scratch: &mut Scratch) -> Result<Rule
     ensures { IfOk result (λ rule. BreaksRule text.now rule) }
 {
     let mut reader = Reader::new(text, scratch)?;
-    let mut open = OpenBrackets {
-        objects: 0,
+    let mut open_brackets = OpenBrackets {
+        object_bits: 0,
         depth: 0,
         expects_value: false,
         expects_colon: false,
     };
     while let Some(token) = reader.next() {
         if let Token::Bad = token
-            && !open.expects_colon
+            && !open_brackets.expects_colon
         {
-            let at = reader.offset();
-            return Ok(rule_at_invalid_token(text.as_bytes(), at, open.expects_key()));
+            let invalid_offset = reader.offset();
+            return Ok(rule_at_invalid_token(
+                text.as_bytes(),
+                invalid_offset,
+                open_brackets.expects_key(),
+            ));
         }
-        if let Some(rule) = open.pass(token) {
+        if let Some(rule) = open_brackets.pass_token(token) {
             return Ok(rule);
         }
     }
@@ -41,7 +45,7 @@ pub(crate) fn find_broken_rule(text: &str, scratch: &mut Scratch) -> Result<Rule
 #[derive(Drop)]
 struct OpenBrackets {
     // One bit for each bracket, the innermost at the low end: set if the bracket opens an object.
-    objects: u128,
+    object_bits: u128,
     // How many brackets there are.
     depth: usize,
     // A key and its colon were read, and no value yet.
@@ -53,7 +57,7 @@ struct OpenBrackets {
 impl OpenBrackets {
     // Whether the innermost bracket opens an object.
     fn is_object(&self) -> bool {
-        self.objects & 1 == 1
+        self.object_bits & 1 == 1
     }
 
     fn expects_key(&self) -> bool {
@@ -61,7 +65,7 @@ impl OpenBrackets {
     }
 
     // Passes a token, or returns the rule that the token breaks at this position.
-    fn pass(&mut self, token: Token<'_>) -> Option<Rule>
+    fn pass_token(&mut self, token: Token<'_>) -> Option<Rule>
         ensures { MatchOption result
             (self.new.depth + closes (token_of token.entry) ≡ self.old.depth + opens (token_of token.entry))
             (λ rule. IsTokenRule self.old.depth (token_of token.entry) rule) }
@@ -71,12 +75,12 @@ impl OpenBrackets {
         }
         match token {
             Token::Key(_) => return self.pass_key(),
-            Token::EndObject => return self.close(true),
-            Token::EndArray => return self.close(false),
+            Token::EndObject => return self.close_bracket(true),
+            Token::EndArray => return self.close_bracket(false),
             Token::String(_) if self.expects_key() => self.expects_colon = true,
             _ if self.expects_key() => return Some(Rule::Quotes),
-            Token::BeginObject => return self.open(true),
-            Token::BeginArray => return self.open(false),
+            Token::BeginObject => return self.open_bracket(true),
+            Token::BeginArray => return self.open_bracket(false),
             _ => self.expects_value = false,
         }
         None
@@ -92,7 +96,7 @@ impl OpenBrackets {
         None
     }
 
-    fn open(&mut self, is_object: bool) -> Option<Rule>
+    fn open_bracket(&mut self, is_object: bool) -> Option<Rule>
         ensures { MatchOption result (self.new.depth ≡ self.old.depth + 1)
             (λ rule. (rule ≡ Rule.Depth) × (127 ≤ self.old.depth)) }
     {
@@ -100,12 +104,12 @@ impl OpenBrackets {
             return Some(Rule::Depth);
         }
         self.depth += 1;
-        self.objects = (self.objects << 1) | u128::from(is_object);
+        self.object_bits = (self.object_bits << 1) | u128::from(is_object);
         self.expects_value = false;
         None
     }
 
-    fn close(&mut self, is_object: bool) -> Option<Rule>
+    fn close_bracket(&mut self, is_object: bool) -> Option<Rule>
         ensures { MatchOption result (self.new.depth + 1 ≡ self.old.depth)
             (λ rule. (rule ≡ Rule.ExpectedColonAndValue) ⊎ (rule ≡ Rule.Separator)) }
     {
@@ -116,50 +120,54 @@ impl OpenBrackets {
             return Some(Rule::Separator);
         }
         self.depth -= 1;
-        self.objects >>= 1;
+        self.object_bits >>= 1;
         None
     }
 }
 
 // Returns the rule that is broken at bytes that are not a token, by the byte there and the last byte
 // before it that is not blank.
-fn rule_at_invalid_token(bytes: &[u8], at: usize, expects_key: bool) -> Rule
-    ensures { IsValueRule result × (result ≢ Rule.Depth) }
+fn rule_at_invalid_token(bytes: &[u8], invalid_offset: usize, expects_key: bool) -> Rule
+    ensures { IsValueSyntaxRule result × (result ≢ Rule.Depth) }
 {
-    let (before, there) = bytes.split_at(at.min(bytes.len()));
-    let Some((first, rest)) = there.split_first() else {
+    let (preceding_bytes, following_bytes) = bytes.split_at(invalid_offset.min(bytes.len()));
+    let Some((first_byte, bytes_after_first)) = following_bytes.split_first() else {
         return Rule::UnexpectedEnd;
     };
-    match before.trim_ascii_end().last() {
-        Some(b',') if matches!(*first, b',' | b':' | b']' | b'}') => Rule::ExpectedElement,
-        None | Some(b',' | b':' | b'[' | b'{') => rule_at_value_start(*first, rest, expects_key),
+    match preceding_bytes.trim_ascii_end().last() {
+        Some(b',') if matches!(*first_byte, b',' | b':' | b']' | b'}') => Rule::ExpectedElement,
+        None | Some(b',' | b':' | b'[' | b'{') => rule_of_value_start(
+            *first_byte,
+            bytes_after_first,
+            expects_key,
+        ),
         Some(_) => Rule::Separator,
     }
 }
 
 // The rule that is broken where a value, or a key, may begin.
-fn rule_at_value_start(first: u8, rest: &[u8], expects_key: bool) -> Rule
-    ensures { IsValueRule result × (result ≢ Rule.Depth) }
+fn rule_of_value_start(first_byte: u8, bytes_after_first: &[u8], expects_key: bool) -> Rule
+    ensures { IsValueSyntaxRule result × (result ≢ Rule.Depth) }
 {
-    match first {
-        b'"' => rule_in_string(rest),
+    match first_byte {
+        b'"' => rule_in_string(bytes_after_first),
         _ if expects_key => Rule::Quotes,
         b'\'' | b'`' => Rule::Quotes,
         b'0'..=b'9' | b'-' | b'+' | b'.' => Rule::Number,
-        _ => Rule::NoValue,
+        _ => Rule::ExpectedValue,
     }
 }
 
 // Returns the rule that a string breaks. The bytes are those after its opening quote.
 fn rule_in_string(bytes: &[u8]) -> Rule
-    ensures { IsValueRule result × (result ≢ Rule.Depth) }
+    ensures { IsValueSyntaxRule result × (result ≢ Rule.Depth) }
 {
     let mut is_escaped = false;
     for byte in bytes {
         match *byte {
             0..=0x1f => return Rule::ControlCharacter,
             b'"' if !is_escaped => return Rule::Escape,
-            other => is_escaped = other == b'\\' && !is_escaped,
+            string_byte => is_escaped = string_byte == b'\\' && !is_escaped,
         }
     }
     Rule::UnexpectedEnd

@@ -44,13 +44,13 @@ pub fn convert_text(
     ensures ok { IfOk result (λ output. ConvertsBy options.key_order options mode bytes.now output.items) }
     ensures utf8 { IfOk result (λ output. IsUtf8 output.items) }
     ensures again { IfOk result (λ output. IsFixedPointBy options.key_order options mode output.items) }
-    ensures one { IfOk result (λ output. (other : List ℕ)
-        → ConvertsBy options.key_order options mode bytes.now other → other ≡ output.items) }
+    ensures unique { IfOk result (λ output. (other_output : List ℕ)
+        → ConvertsBy options.key_order options mode bytes.now other_output → other_output ≡ output.items) }
     ensures accepts { (tree : Data) (value : model.Value) → IsTextOf bytes.now tree
         → MeansIn options.doubles tree value → IfErr result (λ fault. fault ≡ Error.OutOfMemory) }
     ensures fault { IfErr result (λ fault. IsRejectedIn options fault bytes.now) }
 {
-    convert_by(
+    convert_in_key_order(
         alloc,
         options.key_order,
         options,
@@ -61,24 +61,25 @@ pub fn convert_text(
 }
 
 /// [`convert_text`] with keys in this order, with the memory of a run.
-pub(crate) fn convert_by(
+pub(crate) fn convert_in_key_order(
     alloc: Global,
-    order: KeyOrder,
+    key_order: KeyOrder,
     options: Options,
     mode: Mode,
     bytes: &[u8],
     scratch: &mut Scratch,
 ) -> Result<Vec<u8>, Error>
-    ensures ok { IfOk result (λ output. ConvertsBy order options mode bytes.now output.items) }
+    ensures ok { IfOk result (λ output. ConvertsBy key_order options mode bytes.now output.items) }
     ensures utf8 { IfOk result (λ output. IsUtf8 output.items) }
-    ensures again { IfOk result (λ output. IsFixedPointBy order options mode output.items) }
-    ensures one { IfOk result (λ output. (other : List ℕ) → ConvertsBy order options mode bytes.now other
-        → other ≡ output.items) }
+    ensures again { IfOk result (λ output. IsFixedPointBy key_order options mode output.items) }
+    ensures unique { IfOk result
+        (λ output. (other_output : List ℕ) → ConvertsBy key_order options mode bytes.now other_output
+        → other_output ≡ output.items) }
     ensures accepts { (tree : Data) (value : model.Value) → IsTextOf bytes.now tree
         → MeansIn options.doubles tree value → IfErr result (λ fault. fault ≡ Error.OutOfMemory) }
     ensures fault { IfErr result (λ fault. IsRejectedIn options fault bytes.now) }
 {
-    match order {
+    match key_order {
         KeyOrder::Ascending => convert_line(alloc, options, mode, bytes, scratch),
         KeyOrder::AsGiven => convert_line_in_order(alloc, options, mode, bytes, scratch),
     }
@@ -95,8 +96,9 @@ fn convert_line_in_order(
     ensures ok { IfOk result (λ output. ConvertsInOrder options mode bytes.now output.items) }
     ensures utf8 { IfOk result (λ output. IsUtf8 output.items) }
     ensures again { IfOk result (λ output. IsFixedPointInOrder options mode output.items) }
-    ensures one { IfOk result (λ output. (other : List ℕ) → ConvertsInOrder options mode bytes.now other
-        → other ≡ output.items) }
+    ensures unique { IfOk result
+        (λ output. (other_output : List ℕ) → ConvertsInOrder options mode bytes.now other_output
+        → other_output ≡ output.items) }
     ensures accepts { (tree : Data) (value : model.Value) → IsTextOf bytes.now tree
         → MeansIn options.doubles tree value → IfErr result (λ fault. fault ≡ Error.OutOfMemory) }
     ensures fault { IfErr result (λ fault. IsRejectedIn options fault bytes.now) }
@@ -107,19 +109,19 @@ fn convert_line_in_order(
 
 /// The text of [`convert_text`] with keys in this order, for a text that is freed once it is read or
 /// normalized.
-pub(crate) fn convert_whole_by(
+pub(crate) fn convert_owned_text(
     alloc: Global,
-    order: KeyOrder,
+    key_order: KeyOrder,
     options: Options,
     mode: Mode,
     text: String,
 ) -> Result<Vec<u8>, Error>
-    ensures ok { IfOk result (λ output. ConvertsBy order options mode (string_bytes text) output.items) }
+    ensures ok { IfOk result (λ output. ConvertsBy key_order options mode (string_bytes text) output.items) }
     ensures utf8 { IfOk result (λ output. IsUtf8 output.items) }
     ensures accepts { (tree : Data) (value : model.Value) → IsTextOf (string_bytes text) tree
         → MeansIn options.doubles tree value → IfErr result (λ fault. fault ≡ Error.OutOfMemory) }
 {
-    match order {
+    match key_order {
         KeyOrder::Ascending => convert_whole(alloc, options, mode, text.into_bytes()),
         KeyOrder::AsGiven => convert_whole_in_order(alloc, options, mode, text),
     }
@@ -137,9 +139,9 @@ fn convert_whole_in_order(
     ensures accepts { (tree : Data) (value : model.Value) → IsTextOf (string_bytes text) tree
         → MeansIn options.doubles tree value → IfErr result (λ fault. fault ≡ Error.OutOfMemory) }
 {
-    let written = text_of_distinct(alloc, options, mode, text.as_str())?;
+    let converted_text = convert_unique_keys(alloc, options, mode, text.as_str())?;
     drop(text);
-    end_line(written)
+    end_line(converted_text)
 }
 
 /// The text of [`convert_text`] with keys as given, without the newline.
@@ -160,7 +162,7 @@ pub(crate) fn text_in_order(
         return Err(Error::NotJson);
     };
     match filter_once(alloc, options, mode, text, scratch)? {
-        Some(written) => Ok(written),
+        Some(converted_text) => Ok(converted_text),
         None => normalized_text(alloc, options, mode, text),
     }
 }
@@ -173,28 +175,28 @@ fn normalized_text(
     mode: Mode,
     text: &str,
 ) -> Result<Vec<u8>, Error>
-    ensures ok { IfOk result (λ written. IsConvertedTextInOrder options mode text.now written.items) }
-    ensures utf8 { IfOk result (λ written. IsUtf8 written.items) }
+    ensures ok { IfOk result (λ converted_text. IsConvertedTextInOrder options mode text.now converted_text.items) }
+    ensures utf8 { IfOk result (λ converted_text. IsUtf8 converted_text.items) }
     ensures fault { IfErr result (λ fault. IsRejectedIn options fault text.now) }
 {
     let normalized = normalize(alloc, Arrangement::FirstPositions, text)?;
-    text_of_distinct(alloc, options, mode, normalized.as_str())
+    convert_unique_keys(alloc, options, mode, normalized.as_str())
 }
 
 // The text of one in which each object has each key once. If it has no meaning, its first fault is
 // the error.
-fn text_of_distinct(
+fn convert_unique_keys(
     alloc: Global,
     options: Options,
     mode: Mode,
     text: &str,
 ) -> Result<Vec<u8>, Error>
-    ensures ok { IfOk result (λ written. IsConvertedTextInOrder options mode text.now written.items) }
-    ensures utf8 { IfOk result (λ written. IsUtf8 written.items) }
+    ensures ok { IfOk result (λ converted_text. IsConvertedTextInOrder options mode text.now converted_text.items) }
+    ensures utf8 { IfOk result (λ converted_text. IsUtf8 converted_text.items) }
     ensures fault { IfErr result (λ fault. IsRejectedIn options fault text.now) }
 {
     match filter_once(alloc, options, mode, text, &mut Scratch::new(alloc))? {
-        Some(written) => Ok(written),
+        Some(converted_text) => Ok(converted_text),
         None => {
             refuse(alloc, options, text)?;
             // Only memory: the text has a meaning, and no key twice.
@@ -212,12 +214,14 @@ pub(crate) fn filter_once(
     scratch: &mut Scratch,
 ) -> Result<Option<Vec<u8>>, Error>
     ensures ok { IfOk result
-        (λ found. IfSome found (λ written. IsConvertedTextInOrder options mode text.now written.items)) }
-    ensures utf8 { IfOk result (λ found. IfSome found (λ written. IsUtf8 written.items)) }
+        (λ optional_output. IfSome optional_output
+        (λ converted_text. IsConvertedTextInOrder options mode text.now converted_text.items)) }
+    ensures utf8 { IfOk result
+        (λ optional_output. IfSome optional_output (λ converted_text. IsUtf8 converted_text.items)) }
     ensures fault { IfErr result (λ fault. fault ≡ Error.OutOfMemory) }
 {
     match filter(alloc, options, mode, text, scratch) {
-        Ok(written) => Ok(Some(written)),
+        Ok(converted_text) => Ok(Some(converted_text)),
         Err(TraversalError::OutOfMemory) => Err(Error::OutOfMemory),
         Err(_) => Ok(None),
     }
@@ -231,8 +235,8 @@ fn filter(
     text: &str,
     scratch: &mut Scratch,
 ) -> Result<Vec<u8>, TraversalError>
-    ensures ok { IfOk result (λ written. IsConvertedTextInOrder options mode text.now written.items) }
-    ensures utf8 { IfOk result (λ written. IsUtf8 written.items) }
+    ensures ok { IfOk result (λ converted_text. IsConvertedTextInOrder options mode text.now converted_text.items) }
+    ensures utf8 { IfOk result (λ converted_text. IsUtf8 converted_text.items) }
 {
     match mode {
         Mode::Canonical => filter_text(alloc, options.doubles, Form::Canonical, text, scratch),

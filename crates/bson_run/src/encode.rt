@@ -2,7 +2,7 @@
 ghost use Rattle.std.specs.Prelude.{◌≡◌, IfOk, IfErr, IfSome, ℕ, List};
 ghost use Rattle.bson_model.specs.Value.{Pairs, document};
 ghost use Rattle.bson.specs.View.{bson_view};
-ghost use Rattle.bson.specs.TextMeaning.{TextMeansBy};
+ghost use Rattle.bson.specs.TextMeaning.{TextMeansInKeyOrder};
 ghost use Rattle.bson_codec.specs.Canonical.{FitsDocument};
 ghost use Rattle.bson_codec.specs.WriteErrors.{IsWriteErrorFor};
 ghost use Rattle.bson_codec.specs.Unwritten.TheVariants as errors;
@@ -40,11 +40,12 @@ use std::alloc::Global;
 /// }
 /// ```
 pub fn encode(alloc: Global, options: Options, bytes: &[u8]) -> Result<Vec<u8>, Error>
-    ensures ok { IfOk result (λ out. Encodes options.key_order options bytes.now out.items) }
-    ensures one { IfOk result (λ out. (other : List ℕ) → Encodes options.key_order options bytes.now other
-        → other ≡ out.items) }
-    ensures accepts { (ps : Pairs) → TextMeansBy options.key_order options.doubles bytes.now (document ps)
-        → FitsDocument ps → IfErr result (λ fault. fault ≡ Error.OutOfMemory) }
+    ensures ok { IfOk result (λ output. Encodes options.key_order options bytes.now output.items) }
+    ensures unique { IfOk result
+        (λ output. (other_bytes : List ℕ) → Encodes options.key_order options bytes.now other_bytes
+        → other_bytes ≡ output.items) }
+    ensures accepts { (pairs : Pairs) → TextMeansInKeyOrder options.key_order options.doubles bytes.now (document pairs)
+        → FitsDocument pairs → IfErr result (λ fault. fault ≡ Error.OutOfMemory) }
     ensures fault { IfErr result (λ fault. IsEncodeErrorBy options.key_order options fault bytes.now) }
 {
     encode_line(alloc, options, bytes, &mut Scratch::new(alloc))
@@ -57,11 +58,12 @@ pub(crate) fn encode_line(
     bytes: &[u8],
     scratch: &mut Scratch,
 ) -> Result<Vec<u8>, Error>
-    ensures ok { IfOk result (λ out. Encodes options.key_order options bytes.now out.items) }
-    ensures one { IfOk result (λ out. (other : List ℕ) → Encodes options.key_order options bytes.now other
-        → other ≡ out.items) }
-    ensures accepts { (ps : Pairs) → TextMeansBy options.key_order options.doubles bytes.now (document ps)
-        → FitsDocument ps → IfErr result (λ fault. fault ≡ Error.OutOfMemory) }
+    ensures ok { IfOk result (λ output. Encodes options.key_order options bytes.now output.items) }
+    ensures unique { IfOk result
+        (λ output. (other_bytes : List ℕ) → Encodes options.key_order options bytes.now other_bytes
+        → other_bytes ≡ output.items) }
+    ensures accepts { (pairs : Pairs) → TextMeansInKeyOrder options.key_order options.doubles bytes.now (document pairs)
+        → FitsDocument pairs → IfErr result (λ fault. fault ≡ Error.OutOfMemory) }
     ensures fault { IfErr result (λ fault. IsEncodeErrorBy options.key_order options fault bytes.now) }
 {
     match pack_document(alloc, options.key_order, options, bytes, scratch)? {
@@ -74,15 +76,16 @@ pub(crate) fn encode_line(
 // whole.
 fn pack_document(
     alloc: Global,
-    order: KeyOrder,
+    key_order: KeyOrder,
     options: Options,
     bytes: &[u8],
     scratch: &mut Scratch,
 ) -> Result<Option<Vec<u8>>, Error>
-    ensures ok { IfOk result (λ found. IfSome found (λ out. Encodes order options bytes.now out.items)) }
+    ensures ok { IfOk result
+        (λ optional_bytes. IfSome optional_bytes (λ output. Encodes key_order options bytes.now output.items)) }
     ensures fault { IfErr result (λ fault. fault ≡ Error.OutOfMemory) }
 {
-    let KeyOrder::AsGiven = order else {
+    let KeyOrder::AsGiven = key_order else {
         return Ok(None);
     };
     let Ok(text) = simdutf8::compat::from_utf8(bytes) else {
@@ -97,9 +100,9 @@ fn pack_document(
 
 // The bytes of the value, which is read whole.
 fn encode_whole(alloc: Global, options: Options, bytes: &[u8]) -> Result<Vec<u8>, Error>
-    ensures ok { IfOk result (λ out. Encodes options.key_order options bytes.now out.items) }
-    ensures accepts { (ps : Pairs) → TextMeansBy options.key_order options.doubles bytes.now (document ps)
-        → FitsDocument ps → IfErr result (λ fault. fault ≡ Error.OutOfMemory) }
+    ensures ok { IfOk result (λ output. Encodes options.key_order options bytes.now output.items) }
+    ensures accepts { (pairs : Pairs) → TextMeansInKeyOrder options.key_order options.doubles bytes.now (document pairs)
+        → FitsDocument pairs → IfErr result (λ fault. fault ≡ Error.OutOfMemory) }
     ensures fault { IfErr result (λ fault. IsEncodeErrorBy options.key_order options fault bytes.now) }
 {
     match Bson::from_text(alloc, options, bytes) {
@@ -110,23 +113,23 @@ fn encode_whole(alloc: Global, options: Options, bytes: &[u8]) -> Result<Vec<u8>
 
 // The canonical bytes of the document that the value is.
 fn bytes_of(alloc: Global, value: Bson) -> Result<Vec<u8>, Error>
-    ensures ok { IfOk result (λ out. IsBytesOf (λ v. v ≡ bson_view value) out.items) }
-    ensures only { (ps : Pairs) → bson_view value ≡ document ps → FitsDocument ps
+    ensures ok { IfOk result (λ output. IsBytesOf (λ model_value. model_value ≡ bson_view value) output.items) }
+    ensures only { (pairs : Pairs) → bson_view value ≡ document pairs → FitsDocument pairs
         → IfErr result (λ fault. fault ≡ Error.OutOfMemory) }
-    ensures fault { IfErr result (λ fault. IsEncodeErrorFor (λ v. v ≡ bson_view value) fault) }
+    ensures fault { IfErr result (λ fault. IsEncodeErrorFor (λ model_value. model_value ≡ bson_view value) fault) }
 {
     let Bson::Document(document) = value else {
         return Err(Error::NoBytes(NoBytes::NoDocument));
     };
     match to_vec(alloc, &document) {
         Ok(bytes) => Ok(bytes),
-        Err(error) => Err(write_fault(error)),
+        Err(error) => Err(error_of_write_error(error)),
     }
 }
 
 // The fault of a document that has no bytes.
-fn write_fault(error: ser::Error) -> Error
-    ensures cause { (ps : Pairs) → IsWriteErrorFor error ps → IsWriteErrorOf result ps }
+fn error_of_write_error(error: ser::Error) -> Error
+    ensures cause { (pairs : Pairs) → IsWriteErrorFor error pairs → IsWriteErrorOf result pairs }
     ensures memory { error ≡ errors.OutOfMemory → result ≡ Error.OutOfMemory }
     ensures only { result ≡ Error.OutOfMemory → error ≡ errors.OutOfMemory }
 {

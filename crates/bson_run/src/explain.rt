@@ -5,7 +5,7 @@ ghost use Rattle.bson_run.specs.ErrorMessages.{IsExplanation, IsQuotedValue, IsR
 ghost use Rattle.bson_run.specs.ErrorMessages.{explanation_message};
 
 use crate::preprocessed::{DUPLICATE_KEY, preprocess_text};
-use crate::quoted_value::quote;
+use crate::quoted_value::quote_value_at;
 use crate::shorten::shorten;
 use crate::syntax_error::SyntaxError;
 use crate::task::{Preprocessing, Task};
@@ -48,7 +48,7 @@ impl<'a> Explanation<'a> {
     ///
     /// Returns `AllocError` if an allocation fails.
     pub fn of(alloc: Global, fault: &'a Error, text: &[u8]) -> Result<Explanation<'a>, AllocError>
-        ensures { IfOk result (λ found. IsExplanation text.now fault.now found) }
+        ensures { IfOk result (λ explanation. IsExplanation text.now fault.now explanation) }
     {
         explanation_in(alloc, fault, text, None)
     }
@@ -77,7 +77,7 @@ impl<'a> Explanation<'a> {
 ///   text stops to be JSON. `RULE` is the message of the `Rule` that it breaks. If the text has the
 ///   grammar of JSON, it is the first number whose nearest double is not finite. If the text is
 ///   JSON, it is column 1: the rewritten text that is read instead nests deeper than 127.
-/// - `NotExtendedJson`: ` at orders.3.at.$date (EXPECTED; found VALUE)`. The path leads to the
+/// - `NotExtendedJson`: ` at orders.3.at.$date (EXPECTED; quoted_value_text VALUE)`. The path leads to the
 ///   first fault, with places in arrays counted from 0. The value is the one in the text, or its
 ///   first 60 characters and `..`. An object id has its own fault instead, and so has a duplicate
 ///   key. A fault of the whole text has no path.
@@ -114,18 +114,18 @@ pub fn explain_under(
     let Error::NotExtendedJson(_) = fault else {
         return explain(alloc, fault, text);
     };
-    match newer_text(alloc, task, text)? {
-        Some(newer) => explain_in(alloc, fault, text, Some(newer.as_bytes())),
+    match upgraded_text(alloc, task, text)? {
+        Some(upgraded) => explain_in(alloc, fault, text, Some(upgraded.as_bytes())),
         None => explain_in(alloc, fault, text, None),
     }
 }
 
 // The text that a task read in the place of this one, if it read another.
-fn newer_text(alloc: Global, task: Task, text: &[u8]) -> Result<Option<String>, AllocError> {
+fn upgraded_text(alloc: Global, task: Task, text: &[u8]) -> Result<Option<String>, AllocError> {
     match task {
         Task::Preprocessed(Preprocessing::Legacy | Preprocessing::DistinctLegacy, _) => {
             match preprocess_text(alloc, Preprocessing::Legacy, text) {
-                Ok(newer) => Ok(newer),
+                Ok(upgraded) => Ok(upgraded),
                 Err(_) => Err(AllocError),
             }
         }
@@ -138,11 +138,11 @@ fn explain_in(
     alloc: Global,
     fault: &Error,
     text: &[u8],
-    newer: Option<&[u8]>,
+    upgraded: Option<&[u8]>,
 ) -> Result<String, AllocError>
     ensures { IfOk result (λ full_message. IsPositionMessage text.now fault.now (string_bytes full_message)) }
 {
-    explanation_in(alloc, fault, text, newer)?.message(alloc, text)
+    explanation_in(alloc, fault, text, upgraded)?.message(alloc, text)
 }
 
 // Explains the error of a text, or of the newer one that was read.
@@ -150,14 +150,14 @@ fn explanation_in<'a>(
     alloc: Global,
     fault: &'a Error,
     text: &[u8],
-    newer: Option<&[u8]>,
+    upgraded: Option<&[u8]>,
 ) -> Result<Explanation<'a>, AllocError>
-    ensures { IfOk result (λ found. IsExplanation text.now fault.now found) }
+    ensures { IfOk result (λ explanation. IsExplanation text.now fault.now explanation) }
 {
     match fault {
         Error::NotJson => Ok(Explanation::Syntax(SyntaxError::of(alloc, text)?)),
         Error::NotExtendedJson(place) => {
-            let reason = reason_text(alloc, place, text, newer)?;
+            let reason = reason_text(alloc, place, text, upgraded)?;
             Ok(Explanation::Value(place, reason))
         }
         Error::NotCanonical(column) => Ok(Explanation::Difference(*column)),
@@ -177,8 +177,8 @@ fn place_text(alloc: Global, place: &Place, reason: &str) -> Result<String, Allo
     ensures { IfOk result (λ full_message. string_bytes full_message
         ≡ path_message (escaped_message (path_text (path_of place.now))) ++ codes " (" ++ reason.now ++ codes ")") }
 {
-    let whole = place.path(alloc)?;
-    let path = shorten(alloc, whole.as_str(), MAX_CHARS, true)?;
+    let full_path = place.path(alloc)?;
+    let path = shorten(alloc, full_path.as_str(), MAX_CHARS, true)?;
     if path.is_empty() {
         return format!(in alloc; " ({reason})");
     }
@@ -190,12 +190,12 @@ fn reason_text(
     alloc: Global,
     place: &Place,
     text: &[u8],
-    newer: Option<&[u8]>,
+    upgraded: Option<&[u8]>,
 ) -> Result<String, AllocError>
     ensures { IfOk result (λ full_message. (message : List ℕ) × IsReasonMessage text.now place.now.reason message
         × (string_bytes full_message ≡ escaped_message message)) }
 {
-    let reason = reason_in(alloc, place, text, newer)?;
+    let reason = reason_in(alloc, place, text, upgraded)?;
     shorten(alloc, reason.as_str(), MAX_CHARS, true)
 }
 
@@ -204,15 +204,15 @@ fn reason_in(
     alloc: Global,
     place: &Place,
     text: &[u8],
-    newer: Option<&[u8]>,
+    upgraded: Option<&[u8]>,
 ) -> Result<String, AllocError>
     ensures { IfOk result (λ full_message. IsReasonMessage text.now place.now.reason (string_bytes full_message)) }
 {
     match &place.reason {
-        Reason::BadObjectId(why) => format!(in alloc; "{why}"),
+        Reason::BadObjectId(object_id_error) => format!(in alloc; "{object_id_error}"),
         Reason::WrongShape(expected) => {
-            let found = quote_at(alloc, expected, &place.segments, text, newer)?;
-            format!(in alloc; "{expected}{found}")
+            let quoted_value_text = quote_at(alloc, expected, &place.segments, text, upgraded)?;
+            format!(in alloc; "{expected}{quoted_value_text}")
         }
     }
 }
@@ -224,20 +224,20 @@ fn quote_at(
     expected: &str,
     segments: &[Segment],
     text: &[u8],
-    newer: Option<&[u8]>,
+    upgraded: Option<&[u8]>,
 ) -> Result<String, AllocError>
     ensures { IfOk result (λ full_message. IsQuotedValue text.now (string_bytes full_message)) }
 {
     if expected == DUPLICATE_KEY {
         return Ok(String::new(alloc));
     }
-    let found = quote(alloc, segments, text)?;
-    let Some(newer) = newer else {
-        return Ok(found);
+    let quoted_value_text = quote_value_at(alloc, segments, text)?;
+    let Some(upgraded) = upgraded else {
+        return Ok(quoted_value_text);
     };
-    let other = quote(alloc, segments, newer)?;
-    if other.as_str() == found.as_str() {
-        Ok(found)
+    let upgraded_value_text = quote_value_at(alloc, segments, upgraded)?;
+    if upgraded_value_text.as_str() == quoted_value_text.as_str() {
+        Ok(quoted_value_text)
     } else {
         Ok(String::new(alloc))
     }

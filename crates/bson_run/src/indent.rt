@@ -5,7 +5,7 @@ ghost use Rattle.json.specs.Layout.{after, is_value};
 ghost use Rattle.json.specs.Lex.{tokens};
 ghost use Rattle.json.specs.Print.{begins, token_text, IsPrintable};
 ghost use Rattle.json.specs.Reads.{opens, token_of};
-ghost use Rattle.bson_run.specs.Indent.{indented, HasSameTokens, line, white_space, last_of, HasIndent, IsTokenWritten};
+ghost use Rattle.bson_run.specs.Indent.{indented, HasSameTokens, line, white_space, kind_of_previous_token, HasIndent, IsTokenWritten};
 
 use json::{Reader, Scratch, Token, Writer};
 use std::alloc::{AllocError, Global};
@@ -35,7 +35,7 @@ use std::alloc::{AllocError, Global};
 pub fn indent_text(alloc: Global, spaces: usize, text: &str) -> Result<Vec<u8>, AllocError>
     ensures layout { IfOk result (λ indented_text. indented_text.items ≡ indented spaces (tokens text.now)) }
     ensures utf8 { IfOk result (λ indented_text. IsUtf8 indented_text.items) }
-    ensures same { IfOk result (λ indented_text. HasSameTokens text.now indented_text.items) }
+    ensures keeps_tokens { IfOk result (λ indented_text. HasSameTokens text.now indented_text.items) }
 {
     let mut scratch = Scratch::new(alloc);
     let mut reader = Reader::new(text, &mut scratch)?;
@@ -43,7 +43,7 @@ pub fn indent_text(alloc: Global, spaces: usize, text: &str) -> Result<Vec<u8>, 
     while let Some(token) = reader.next() {
         layout.write_token(token)?;
     }
-    Ok(layout.out)
+    Ok(layout.written_bytes)
 }
 
 // The kind of the last token.
@@ -60,42 +60,47 @@ pub(crate) enum PreviousToken {
 pub(crate) struct Layout {
     alloc: Global,
     // The spaces that a bracket adds.
-    step: Vec<u8>,
+    bracket_indent: Vec<u8>,
     // The beginning of a line.
-    start: Vec<u8>,
-    before: PreviousToken,
-    out: Vec<u8>,
+    line_start: Vec<u8>,
+    previous_kind: PreviousToken,
+    written_bytes: Vec<u8>,
 }
 
 impl Layout {
     fn new(alloc: Global, spaces: usize) -> Result<Layout, AllocError>
-        ensures at { IfOk result (λ layout. HasIndent spaces 0 layout) }
-        ensures before { IfOk result (λ layout. layout.before ≡ PreviousToken.Nothing) }
-        ensures out { IfOk result (λ layout. layout.out.items ≡ []) }
+        ensures has_indent { IfOk result (λ layout. HasIndent spaces 0 layout) }
+        ensures previous_kind { IfOk result (λ layout. layout.previous_kind ≡ PreviousToken.Nothing) }
+        ensures written_bytes { IfOk result (λ layout. layout.written_bytes.items ≡ []) }
     {
         Ok(Layout {
             alloc,
-            step: blanks(alloc, spaces)?,
-            start: vec![in alloc; b'\n']?,
-            before: PreviousToken::Nothing,
-            out: Vec::new(alloc),
+            bracket_indent: blanks(alloc, spaces)?,
+            line_start: vec![in alloc; b'\n']?,
+            previous_kind: PreviousToken::Nothing,
+            written_bytes: Vec::new(alloc),
         })
     }
 
     // Writes the token, after the white space that separates it from the token before.
     fn write_token(&mut self, token: Token<'_>) -> Result<(), AllocError>
         requires { token ≢ Token.Bad → IsPrintable (token_of token) }
-        ensures indented_text { (n indent : ℕ) → HasIndent n indent self.old
-            → OnOk result (IsTokenWritten n indent self.old self.new (token_of token.entry)) }
+        ensures indented_text { (indent_width indent : ℕ) → HasIndent indent_width indent self.old
+            → OnOk result (IsTokenWritten indent_width indent self.old self.new (token_of token.entry)) }
         ensures utf8 { OnOk result (IsUtf8 (token_text (token_of token.entry))) }
     {
         let begins = begins(token);
-        step_out(&mut self.start, begins, &self.step);
-        write_comma(&mut self.out, self.before, begins)?;
-        write_white_space(&mut self.out, self.before, begins, &self.start)?;
-        write_token_text(self.alloc, &mut self.out, token)?;
-        self.before = before_next(token);
-        step_in(&mut self.start, opens(token), &self.step)
+        remove_line_indent(&mut self.line_start, begins, &self.bracket_indent);
+        write_comma(&mut self.written_bytes, self.previous_kind, begins)?;
+        write_white_space(
+            &mut self.written_bytes,
+            self.previous_kind,
+            begins,
+            &self.line_start,
+        )?;
+        write_token_text(self.alloc, &mut self.written_bytes, token)?;
+        self.previous_kind = token_kind(token);
+        add_line_indent(&mut self.line_start, opens(token), &self.bracket_indent)
     }
 }
 
@@ -125,8 +130,8 @@ fn opens(token: Token<'_>) -> bool
 }
 
 // Returns the kind of the token, for the token after it.
-fn before_next(token: Token<'_>) -> PreviousToken
-    ensures { last_of result ≡ (after (token_of token.entry) 0).0 }
+fn token_kind(token: Token<'_>) -> PreviousToken
+    ensures { kind_of_previous_token result ≡ (after (token_of token.entry) 0).0 }
 {
     match token {
         Token::BeginObject | Token::BeginArray => PreviousToken::Bracket,
@@ -136,61 +141,74 @@ fn before_next(token: Token<'_>) -> PreviousToken
 }
 
 // Removes the spaces of a closing bracket from the beginning of a line.
-fn step_out(start: &mut Vec<u8>, begins: bool, spaces: &[u8])
-    ensures { (indent : ℕ) → start.old.items ≡ line indent
-        → start.new.items ≡ line (if begins then indent else (indent - length spaces.now)) }
+fn remove_line_indent(line_start: &mut Vec<u8>, begins: bool, spaces: &[u8])
+    ensures { (indent : ℕ) → line_start.old.items ≡ line indent
+        → line_start.new.items ≡ line (if begins then indent else (indent - length spaces.now)) }
 {
     if !begins {
-        let stays = start.len().saturating_sub(spaces.len()).max(1);
-        start.truncate(stays);
+        let kept_length = line_start.len().saturating_sub(spaces.len()).max(1);
+        line_start.truncate(kept_length);
     }
 }
 
 // Adds the spaces of an opening bracket to the beginning of a line.
 #[tactic(auto, using(crate::proofs::Indenting::stepped_in))]
-fn step_in(start: &mut Vec<u8>, opens: bool, spaces: &[u8]) -> Result<(), AllocError>
-    ensures { (n indent : ℕ) → spaces.now ≡ replicate n 32 → start.old.items ≡ line indent
-        → OnOk result (start.new.items ≡ line (if opens then (indent + n) else indent)) }
+fn add_line_indent(line_start: &mut Vec<u8>, opens: bool, spaces: &[u8]) -> Result<(), AllocError>
+    ensures { (indent_width indent : ℕ) → spaces.now ≡ replicate indent_width 32 → line_start.old.items ≡ line indent
+        → OnOk result (line_start.new.items ≡ line (if opens then (indent + indent_width) else indent)) }
 {
     if opens {
-        start.extend_from_slice(spaces)?;
+        line_start.extend_from_slice(spaces)?;
     }
     Ok(())
 }
 
 // Writes a comma between a value and the next token, unless that closes a bracket.
-fn write_comma(out: &mut Vec<u8>, before: PreviousToken, begins: bool) -> Result<(), AllocError>
-    ensures { OnOk result (out.new.items ≡ out.old.items ++ cond (is_value (last_of before) && begins) (44 ∷ []) []) }
+fn write_comma(
+    written_bytes: &mut Vec<u8>,
+    previous_kind: PreviousToken,
+    begins: bool,
+) -> Result<(), AllocError>
+    ensures { OnOk result
+        (written_bytes.new.items
+        ≡ written_bytes.old.items ++ cond (is_value (kind_of_previous_token previous_kind) && begins) (44 ∷ []) []) }
 {
-    if begins && matches!(before, PreviousToken::Value) {
-        out.push(b',')?;
+    if begins && matches!(previous_kind, PreviousToken::Value) {
+        written_bytes.push(b',')?;
     }
     Ok(())
 }
 
 // Writes the white space between the last token and this one, after the comma.
 fn write_white_space(
-    out: &mut Vec<u8>,
-    before: PreviousToken,
+    written_bytes: &mut Vec<u8>,
+    previous_kind: PreviousToken,
     begins: bool,
-    start: &[u8],
+    line_start: &[u8],
 ) -> Result<(), AllocError>
-    ensures { (indent : ℕ) → start.now ≡ line indent
-        → OnOk result (out.new.items ≡ out.old.items ++ white_space (last_of before) begins indent) }
+    ensures { (indent : ℕ) → line_start.now ≡ line indent
+        → OnOk result
+        (written_bytes.new.items
+        ≡ written_bytes.old.items ++ white_space (kind_of_previous_token previous_kind) begins indent) }
 {
-    match before {
+    match previous_kind {
         PreviousToken::Nothing => Ok(()),
         PreviousToken::Bracket if !begins => Ok(()),
-        PreviousToken::Key => out.extend_from_slice(b" "),
-        _ => out.extend_from_slice(start),
+        PreviousToken::Key => written_bytes.extend_from_slice(b" "),
+        _ => written_bytes.extend_from_slice(line_start),
     }
 }
 
 // Writes the text of the token alone, or nothing for an invalid token.
 #[tactic(auto, using(crate::proofs::Indenting::print_one))]
-fn write_token_text(alloc: Global, out: &mut Vec<u8>, token: Token<'_>) -> Result<(), AllocError>
+fn write_token_text(
+    alloc: Global,
+    written_bytes: &mut Vec<u8>,
+    token: Token<'_>,
+) -> Result<(), AllocError>
     requires { token ≢ Token.Bad → IsPrintable (token_of token) }
-    ensures text { OnOk result (out.new.items ≡ out.old.items ++ token_text (token_of token.entry)) }
+    ensures text { OnOk result
+        (written_bytes.new.items ≡ written_bytes.old.items ++ token_text (token_of token.entry)) }
     ensures utf8 { OnOk result (IsUtf8 (token_text (token_of token.entry))) }
 {
     if matches!(token, Token::Bad) {
@@ -198,5 +216,5 @@ fn write_token_text(alloc: Global, out: &mut Vec<u8>, token: Token<'_>) -> Resul
     }
     let mut writer = Writer::new(Vec::new(alloc));
     writer.token(token)?;
-    out.extend_from_slice(&writer.into_inner())
+    written_bytes.extend_from_slice(&writer.into_inner())
 }

@@ -50,8 +50,8 @@ pub fn convert_indented(
         → MeansIn options.doubles tree value → IfErr result (λ fault. fault ≡ Error.OutOfMemory) }
     ensures fault { IfErr result (λ fault. IsRejectedIn options fault bytes.now) }
 {
-    let text = text_of(alloc, options.key_order, options, mode_of(form), bytes)?;
-    lay_out(alloc, spaces, &text)
+    let text = text_in_key_order(alloc, options.key_order, options, mode_of(form), bytes)?;
+    indented_output(alloc, spaces, &text)
 }
 
 // The mode that writes the form.
@@ -65,19 +65,19 @@ fn mode_of(form: Form) -> Mode
 }
 
 // The text in the mode of the value that the bytes mean, its keys in the order.
-fn text_of(
+fn text_in_key_order(
     alloc: Global,
-    order: KeyOrder,
+    key_order: KeyOrder,
     options: Options,
     mode: Mode,
     bytes: &[u8],
 ) -> Result<String, Error>
-    ensures ok { IfOk result (λ text. IsConvertedTextBy order options mode bytes.now (string_bytes text)) }
+    ensures ok { IfOk result (λ text. IsConvertedTextBy key_order options mode bytes.now (string_bytes text)) }
     ensures accepts { (tree : Data) (value : model.Value) → IsTextOf bytes.now tree
         → MeansIn options.doubles tree value → IfErr result (λ fault. fault ≡ Error.OutOfMemory) }
     ensures fault { IfErr result (λ fault. IsRejectedIn options fault bytes.now) }
 {
-    match order {
+    match key_order {
         KeyOrder::Ascending => Ok(into_string(converted_text(alloc, options, mode, bytes)?)),
         KeyOrder::AsGiven => {
             let mut scratch = Scratch::new(alloc);
@@ -98,7 +98,7 @@ fn into_string(text: Vec<u8>) -> String
 }
 
 // The layout of the text, and a newline.
-fn lay_out(alloc: Global, spaces: usize, text: &str) -> Result<Vec<u8>, Error>
+fn indented_output(alloc: Global, spaces: usize, text: &str) -> Result<Vec<u8>, Error>
     ensures ok { IfOk result (λ output. IsIndentedOutput spaces text.now output.items) }
     ensures utf8 { IfOk result (λ output. IsUtf8 output.items) }
     ensures fault { IfErr result (λ fault. fault ≡ Error.OutOfMemory) }

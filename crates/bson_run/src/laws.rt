@@ -8,24 +8,25 @@ ghost use Rattle.bson_convert.specs.declared.error.Error.{Error};
 ghost use Rattle.bson_convert.specs.declared.mode.Mode.{Mode};
 ghost use Rattle.bson_run.specs.InOrder.{ConvertsBy, IsFixedPointBy};
 ghost use Rattle.bson_run.specs.Indent.{ConvertsIndented, IsFixedPointIndented};
-ghost use Rattle.bson_run.specs.Lines.{lines, DoneLinesIn, FailsAtIn, HaveOutcomesIn, OutcomesIn, WritesText};
-ghost use Rattle.bson_run.specs.Outcomes.{AreSameDiagnostics, IsErrorOfText, IsSameFault, StopsInside};
+ghost use Rattle.bson_run.specs.Lines.{lines, RunHasDoneAllLines, RunFailsAtLine, HaveLineOutcomes, LineOutcomes, WritesText};
+ghost use Rattle.bson_run.specs.Outcomes.{AreSameDiagnostics, IsErrorOfText, IsSameFault, StopsInsideInput};
 ghost use Rattle.bson_run.specs.declared.task.OnRefusal.{OnRefusal};
 ghost use Rattle.bson_run.specs.declared.task.Task.{Task};
 
 use bson_bytes::laws::{first_cause_is_one, what_fits_has_no_cause};
-use bson_tokens::laws::one_double;
+use bson_tokens::laws::one_duplicate_path;
 
 /// Proves that the same lines have one output, and that as many of them are rejected, for the same
 /// faults.
 pub fn one_outcome()
     ensures { (options : Options) (task : Task) (on_refusal : OnRefusal) (lines : List (List ℕ))
-        (output other first_diagnostics second_diagnostics : List ℕ) (refused left : ℕ)
-        → OutcomesIn options task on_refusal lines output first_diagnostics refused
-        → OutcomesIn options task on_refusal lines other second_diagnostics left
-        → (output ≡ other) × AreSameDiagnostics first_diagnostics second_diagnostics × (refused ≡ left) }
+        (output other_output first_diagnostics second_diagnostics : List ℕ) (refused other_refused : ℕ)
+        → LineOutcomes options task on_refusal lines output first_diagnostics refused
+        → LineOutcomes options task on_refusal lines other_output second_diagnostics other_refused
+        → (output ≡ other_output) × AreSameDiagnostics first_diagnostics second_diagnostics
+        × (refused ≡ other_refused) }
 {
-    one_double();
+    one_duplicate_path();
     what_fits_has_no_cause();
     first_cause_is_one();
 }
@@ -34,16 +35,18 @@ pub fn one_outcome()
 /// output before that line, and the lines are not all done.
 pub fn one_stop()
     ensures stop { (options : Options) (task : Task) (on_refusal : OnRefusal) (lines : List (List ℕ))
-        (output other first_diagnostics second_diagnostics : List ℕ) (fault cause : Error) (number count : ℕ)
-        → StopsInside options task on_refusal lines output first_diagnostics fault number
-        → StopsInside options task on_refusal lines other second_diagnostics cause count
-        → (output ≡ other) × AreSameDiagnostics first_diagnostics second_diagnostics × IsSameFault fault cause × (number ≡ count) }
+        (output other_output first_diagnostics second_diagnostics : List ℕ) (fault other_fault : Error)
+        (line_number other_line_number : ℕ)
+        → StopsInsideInput options task on_refusal lines output first_diagnostics fault line_number
+        → StopsInsideInput options task on_refusal lines other_output second_diagnostics other_fault other_line_number
+        → (output ≡ other_output) × AreSameDiagnostics first_diagnostics second_diagnostics
+        × IsSameFault fault other_fault × (line_number ≡ other_line_number) }
     ensures either { (options : Options) (task : Task) (on_refusal : OnRefusal) (lines : List (List ℕ))
-        (output other first_diagnostics second_diagnostics : List ℕ) (fault : Error) (number refused : ℕ)
-        → OutcomesIn options task on_refusal lines other second_diagnostics refused
-        → StopsInside options task on_refusal lines output first_diagnostics fault number → ⊥ }
+        (output other_output first_diagnostics second_diagnostics : List ℕ) (fault : Error) (line_number refused : ℕ)
+        → LineOutcomes options task on_refusal lines other_output second_diagnostics refused
+        → StopsInsideInput options task on_refusal lines output first_diagnostics fault line_number → ⊥ }
 {
-    one_double();
+    one_duplicate_path();
     what_fits_has_no_cause();
     first_cause_is_one();
 }
@@ -51,27 +54,33 @@ pub fn one_stop()
 /// Proves that an output in a form is accepted again: its own output is the same bytes, unless it
 /// nests deeper than texts may. An indented text is indented again as it is.
 pub fn outputs_are_kept()
-    ensures plain { (order : KeyOrder) (options : Options) (mode : Mode) (bytes output : List ℕ)
-        → ConvertsBy order options mode bytes output → IsUtf8 output → IsFixedPointBy order options mode output }
-    ensures indented { (order : KeyOrder) (options : Options) (form : Form) (spaces : ℕ) (bytes output : List ℕ)
-        → ConvertsIndented order options form spaces bytes output → IsUtf8 output
-        → IsFixedPointIndented order options form spaces output }
+    ensures plain { (key_order : KeyOrder) (options : Options) (mode : Mode) (bytes output : List ℕ)
+        → ConvertsBy key_order options mode bytes output → IsUtf8 output
+        → IsFixedPointBy key_order options mode output }
+    ensures indented { (key_order : KeyOrder) (options : Options) (form : Form) (spaces : ℕ) (bytes output : List ℕ)
+        → ConvertsIndented key_order options form spaces bytes output → IsUtf8 output
+        → IsFixedPointIndented key_order options form spaces output }
 {}
 
 /// Proves that a run over known bytes that is done has done all of their lines. One that stops for a
 /// fault of a text stops inside them. Its output and diagnostics are those of the lines before.
 pub fn runs_are_inside()
-    ensures done { (options : Options) (task : Task) (on_refusal : OnRefusal) (all : List ℕ)
-        (after output_before output_after first_diagnostics second_diagnostics : Option (List ℕ)) (number refused : ℕ)
-        → DoneLinesIn options task on_refusal (Some all) after output_before output_after first_diagnostics second_diagnostics number refused
-        → (number ≡ length (lines all)) × ((output : List ℕ) × (diagnostics : List ℕ)
-        × HaveOutcomesIn options task on_refusal (lines all) output diagnostics refused
-        × Appends output_before output_after output × Appends first_diagnostics second_diagnostics diagnostics) }
-    ensures stops { (options : Options) (task : Task) (on_refusal : OnRefusal) (all : List ℕ)
-        (after output_before output_after first_diagnostics second_diagnostics : Option (List ℕ)) (fault : Error) (number : ℕ) (rejected_text : List ℕ)
-        → FailsAtIn options fault task on_refusal (Some all) after output_before output_after first_diagnostics second_diagnostics number rejected_text → IsErrorOfText fault
+    ensures done { (options : Options) (task : Task) (on_refusal : OnRefusal) (input : List ℕ)
+        (after output_before output_after diagnostics_before diagnostics_after : Option (List ℕ))
+        (line_count refused : ℕ)
+        → RunHasDoneAllLines options task on_refusal
+        (Some input) after output_before output_after diagnostics_before diagnostics_after line_count refused
+        → (line_count ≡ length (lines input)) × ((output : List ℕ) × (diagnostics : List ℕ)
+        × HaveLineOutcomes options task on_refusal (lines input) output diagnostics refused
+        × Appends output_before output_after output × Appends diagnostics_before diagnostics_after diagnostics) }
+    ensures stops { (options : Options) (task : Task) (on_refusal : OnRefusal) (input : List ℕ)
+        (after output_before output_after diagnostics_before diagnostics_after : Option (List ℕ)) (fault : Error)
+        (line_number : ℕ) (rejected_text : List ℕ)
+        → RunFailsAtLine options fault task on_refusal
+        (Some input) after output_before output_after diagnostics_before diagnostics_after line_number rejected_text
+        → IsErrorOfText fault
         → (output : List ℕ) × (diagnostics : List ℕ)
-        × StopsInside options task on_refusal (lines all) output diagnostics fault number
+        × StopsInsideInput options task on_refusal (lines input) output diagnostics fault line_number
         × (WritesText task → IsUtf8 output) × IsUtf8 diagnostics
-        × Appends output_before output_after output × Appends first_diagnostics second_diagnostics diagnostics }
+        × Appends output_before output_after output × Appends diagnostics_before diagnostics_after diagnostics }
 {}

@@ -2,11 +2,11 @@
 ghost use Rattle.std.specs.Prelude.{◌≡◌, ◌⊎◌, ◌++◌, ◌+◌, [], ◌∷◌, ◌<◌, length, IfOk, IfErr, take};
 ghost use Rattle.std.specs.Prelude.{OnOk, OnErr, None, Ok, IsTrue, ◌↔◌, string_bytes};
 ghost use Rattle.std.specs.Prelude.{MatchOption, IfSome, IsUtf8, ◌≢◌, slice_index};
-ghost use Rattle.bson_run.specs.Lines.{IsBlank, IsRejectedLineIn, IsStoppedIn, IsDiagnostic, WritesIn};
+ghost use Rattle.bson_run.specs.Lines.{IsBlank, IsRejectedLineIn, IsStoppedAtText, IsDiagnostic, WritesOutputForTask};
 ghost use Rattle.bson_convert.specs.Convert.{IsRejectedIn};
-ghost use Rattle.bson_run.specs.Lines.{diagnostic_at, buffered_text, line_text, ChecksIn, WritesPreprocessedIn, WritesText};
+ghost use Rattle.bson_run.specs.Lines.{diagnostic_at, buffered_text, line_text, CriterionAccepts, WritesOutputForInnerTask, WritesText};
 ghost use Rattle.bson_run.specs.LinesSteps.{EndsLastLine, LineCountFits, HaveSameResults, IsLineCountOverflow};
-ghost use Rattle.bson_run.specs.LinesSteps.{IsConversionFailure, HasNoNewline, IsStart, IsDiagnosticAppended, StopsAtLastLine, StopsInBytes};
+ghost use Rattle.bson_run.specs.LinesSteps.{IsConversionFailure, HasNoNewline, IsBeforeFirstLine, IsDiagnosticAppended, StopsAtLastLine, StopsInBytes};
 ghost use Rattle.bson_run.specs.LinesSteps.{ReadsBytes, EndsLine};
 ghost use Rattle.bson_run.specs.declared.task.OnRefusal.TheVariants.{Stop};
 ghost use Rattle.bson_run.specs.ErrorMessages.{IsPositionMessage};
@@ -14,7 +14,7 @@ ghost use Rattle.bson_run.specs.declared.task.Task.{Task};
 ghost use Rattle.bson_run.specs.declared.task.Task.TheVariants.{Check, Preprocessed};
 ghost use Rattle.bson.specs.declared.extjson.options.Options.{Options};
 
-use crate::convert::convert_by;
+use crate::convert::convert_in_key_order;
 use crate::encode::encode_line;
 use crate::explain::explain_under;
 use crate::preprocessed::preprocess_text;
@@ -29,7 +29,7 @@ use memchr::memchr;
 use std::alloc::{AllocError, Global};
 
 /// The result of a step over a line.
-type Step = Result<(), Error>;
+type StepResult = Result<(), Error>;
 
 /// U+FEFF in UTF-8.
 const BYTE_ORDER_MARK: [u8; 3] = [0xef, 0xbb, 0xbf];
@@ -59,17 +59,18 @@ pub struct LineRunState {
 
 // Returns the offset of the first newline.
 fn newline_at(bytes: &[u8]) -> Option<usize>
-    ensures { MatchOption result (HasNoNewline bytes.now) (λ at. (at < length bytes.now) × HasNoNewline (take at bytes.now)
-        × (slice_index bytes.now at ≡ 10)) }
+    ensures { MatchOption result (HasNoNewline bytes.now) (λ newline_offset. (newline_offset < length bytes.now)
+        × HasNoNewline (take newline_offset bytes.now)
+        × (slice_index bytes.now newline_offset ≡ 10)) }
 {
     memchr(b'\n', bytes)
 }
 
 // Returns the text of a line that comes after this number of lines.
-fn text(before: u64, line: &[u8]) -> &[u8]
-    ensures { result.now ≡ line_text before line.now }
+fn text(lines_before: u64, line: &[u8]) -> &[u8]
+    ensures { result.now ≡ line_text lines_before line.now }
 {
-    if before == 0 && line.starts_with(&BYTE_ORDER_MARK) {
+    if lines_before == 0 && line.starts_with(&BYTE_ORDER_MARK) {
         &line[3..]
     } else {
         line
@@ -92,8 +93,9 @@ fn convert_or_check(
     scratch: &mut Scratch,
 ) -> Result<Option<Vec<u8>>, Error>
     ensures blank { result ≡ Ok None → IsBlank text.now }
-    ensures ok { IfOk result (λ some. IfSome some (λ output. WritesIn settings.options settings.task text.now output.items)) }
-    ensures utf8 { WritesText settings.task → IfOk result (λ some. IfSome some (λ output. IsUtf8 output.items)) }
+    ensures ok { IfOk result (λ optional_output. IfSome optional_output (λ output. WritesOutputForTask settings.options settings.task text.now output.items)) }
+    ensures utf8 { WritesText settings.task
+        → IfOk result (λ optional_output. IfSome optional_output (λ output. IsUtf8 output.items)) }
     ensures fault { IfErr result (λ fault. IsConversionFailure settings.options settings.task fault text.now) }
 {
     if is_blank(text) {
@@ -102,21 +104,21 @@ fn convert_or_check(
     let options = settings.options;
     match settings.task {
         Task::Write(mode) => {
-            Ok(Some(convert_by(alloc, options.key_order, options, mode, text, scratch)?))
+            Ok(Some(convert_in_key_order(alloc, options.key_order, options, mode, text, scratch)?))
         }
         Task::Check(criterion) => {
-            check(alloc, options, criterion, text, scratch)?;
+            check_by_criterion(alloc, options, criterion, text, scratch)?;
             Ok(Some(Vec::new(alloc)))
         }
         Task::Encode => Ok(Some(encode_line(alloc, options, text, scratch)?)),
         Task::Preprocessed(preprocessing, inner_task) => {
-            Ok(Some(check_preprocessed(alloc, options, preprocessing, inner_task, text, scratch)?))
+            Ok(Some(run_preprocessed(alloc, options, preprocessing, inner_task, text, scratch)?))
         }
     }
 }
 
 // Checks a text that is not blank by a criterion.
-fn check(
+fn check_by_criterion(
     alloc: Global,
     options: Options,
     criterion: Criterion,
@@ -124,7 +126,7 @@ fn check(
     scratch: &mut Scratch,
 ) -> Result<(), Error>
     requires { ¬ IsBlank text.now }
-    ensures ok { OnOk result (ChecksIn options criterion text.now) }
+    ensures ok { OnOk result (CriterionAccepts options criterion text.now) }
     ensures fault { IfErr result (λ fault. IsConversionFailure options (Check criterion) fault text.now) }
 {
     match criterion {
@@ -137,7 +139,7 @@ fn check(
 }
 
 // Returns the output for a text that is not blank, after preprocessing.
-fn check_preprocessed(
+fn run_preprocessed(
     alloc: Global,
     options: Options,
     preprocessing: Preprocessing,
@@ -146,7 +148,7 @@ fn check_preprocessed(
     scratch: &mut Scratch,
 ) -> Result<Vec<u8>, Error>
     requires { ¬ IsBlank text.now }
-    ensures ok { IfOk result (λ output. WritesIn options (Preprocessed preprocessing inner_task) text.now output.items) }
+    ensures ok { IfOk result (λ output. WritesOutputForTask options (Preprocessed preprocessing inner_task) text.now output.items) }
     ensures utf8 { IfOk result (λ output. IsUtf8 output.items) }
     ensures fault { IfErr result (λ fault. IsConversionFailure options (Preprocessed preprocessing inner_task) fault text.now) }
 {
@@ -163,12 +165,12 @@ fn run_inner_task(
     text: &[u8],
     scratch: &mut Scratch,
 ) -> Result<Vec<u8>, Error>
-    ensures ok { IfOk result (λ output. WritesPreprocessedIn options inner_task text.now output.items) }
+    ensures ok { IfOk result (λ output. WritesOutputForInnerTask options inner_task text.now output.items) }
     ensures utf8 { IfOk result (λ output. IsUtf8 output.items) }
     ensures fault { IfErr result (λ fault. IsRejectedIn options fault text.now) }
 {
     match inner_task {
-        InnerTask::Write(mode) => convert_by(
+        InnerTask::Write(mode) => convert_in_key_order(
             alloc,
             options.key_order,
             options,
@@ -197,7 +199,7 @@ fn diagnostic_line(
 }
 
 /// Removes the bytes, and frees the memory of many.
-pub(crate) fn empty(bytes: &mut Vec<u8>)
+pub(crate) fn clear_buffer(bytes: &mut Vec<u8>)
     ensures { bytes.new.items ≡ [] }
 {
     let is_long = bytes.len() > LARGE_OUTPUT;
@@ -208,12 +210,12 @@ pub(crate) fn empty(bytes: &mut Vec<u8>)
 }
 
 // Adds more bytes.
-fn append(bytes: &mut Vec<u8>, more: &[u8]) -> Step
-    ensures ok { OnOk result (bytes.new.items ≡ bytes.old.items ++ more.now) }
+fn append(bytes: &mut Vec<u8>, appended_bytes: &[u8]) -> StepResult
+    ensures ok { OnOk result (bytes.new.items ≡ bytes.old.items ++ appended_bytes.now) }
     ensures err { OnErr result (bytes.new.items ≡ bytes.old.items) }
-    ensures fault { IfErr result (λ e. e ≡ Error.OutOfMemory) }
+    ensures fault { IfErr result (λ failure. failure ≡ Error.OutOfMemory) }
 {
-    match bytes.extend_from_slice(more) {
+    match bytes.extend_from_slice(appended_bytes) {
         Ok(()) => Ok(()),
         Err(_) => Err(Error::OutOfMemory),
     }
@@ -222,7 +224,7 @@ fn append(bytes: &mut Vec<u8>, more: &[u8]) -> Step
 impl LineRunState {
     /// Makes the state before the first line.
     pub fn new(alloc: Global) -> LineRunState
-        ensures start { IsStart result }
+        ensures start { IsBeforeFirstLine result }
         ensures room { LineCountFits result }
     {
         LineRunState {
@@ -247,24 +249,24 @@ impl LineRunState {
     }
 
     // Appends bytes to the line.
-    fn extend_line(&mut self, span: &[u8]) -> Step
-        ensures ok { OnOk result (self.new.line.items ≡ self.old.line.items ++ span.now) }
-        ensures same { HaveSameResults self.old self.new }
-        ensures fault { IfErr result (λ e. e ≡ Error.OutOfMemory) }
+    fn extend_line(&mut self, line_part: &[u8]) -> StepResult
+        ensures ok { OnOk result (self.new.line.items ≡ self.old.line.items ++ line_part.now) }
+        ensures unchanged { HaveSameResults self.old self.new }
+        ensures fault { IfErr result (λ failure. failure ≡ Error.OutOfMemory) }
     {
-        append(&mut self.line, span)
+        append(&mut self.line, line_part)
     }
 
     // Finishes the buffered line: its output or diagnostic is added, and the next line is empty.
-    fn end_line(&mut self, alloc: Global, settings: Settings) -> Step
+    fn end_line(&mut self, alloc: Global, settings: Settings) -> StepResult
         requires room { LineCountFits self.old }
         ensures room { LineCountFits self.new }
         ensures ok { OnOk result (EndsLine settings.options settings.task settings.on_refusal self.old self.new) }
-        ensures same { OnErr result (HaveSameResults self.old self.new) }
+        ensures unchanged { OnErr result (HaveSameResults self.old self.new) }
         ensures keeps_line { OnErr result (self.new.line ≡ self.old.line) }
         ensures fault { IfErr result
-            (λ e. IsStoppedIn settings.options settings.task settings.on_refusal e (line_text self.old.lines self.old.line.items)) }
-        ensures count { IfErr result (λ e. IsLineCountOverflow e self.old.lines) }
+            (λ failure. IsStoppedAtText settings.options settings.task settings.on_refusal failure (line_text self.old.lines self.old.line.items)) }
+        ensures count { IfErr result (λ failure. IsLineCountOverflow failure self.old.lines) }
     {
         if self.lines + 1 == u64::MAX {
             // A count that no run reaches.
@@ -273,8 +275,8 @@ impl LineRunState {
         let line = text(self.lines, &self.line);
         match convert_or_check(alloc, settings, line, &mut self.scratch) {
             Ok(None) => {}
-            Ok(Some(output)) => self.add(output)?,
-            Err(fault) => self.refuse(alloc, settings, fault)?,
+            Ok(Some(output)) => self.add_output(output)?,
+            Err(fault) => self.refuse_line(alloc, settings, fault)?,
         }
         self.line.clear();
         self.lines += 1;
@@ -282,12 +284,12 @@ impl LineRunState {
     }
 
     // Adds the output of a line. A long output is moved, so that it is not in memory twice.
-    fn add(&mut self, output: Vec<u8>) -> Step
+    fn add_output(&mut self, output: Vec<u8>) -> StepResult
         ensures ok { OnOk result (self.new.output.items ≡ self.old.output.items ++ output.items) }
         ensures err { OnErr result (self.new.output.items ≡ self.old.output.items) }
-        ensures same { (self.new.line ≡ self.old.line) × (self.new.diagnostics ≡ self.old.diagnostics)
+        ensures unchanged { (self.new.line ≡ self.old.line) × (self.new.diagnostics ≡ self.old.diagnostics)
             × (self.new.lines ≡ self.old.lines) × (self.new.refused ≡ self.old.refused) }
-        ensures fault { IfErr result (λ e. e ≡ Error.OutOfMemory) }
+        ensures fault { IfErr result (λ failure. failure ≡ Error.OutOfMemory) }
     {
         if self.output.is_empty() && output.len() > LARGE_OUTPUT {
             self.output = output;
@@ -297,7 +299,7 @@ impl LineRunState {
     }
 
     // Adds a diagnostic, if rejected lines do not stop the run.
-    fn refuse(&mut self, alloc: Global, settings: Settings, fault: Error) -> Step
+    fn refuse_line(&mut self, alloc: Global, settings: Settings, fault: Error) -> StepResult
         requires room { LineCountFits self.old }
         ensures ok { OnOk result ((fault ≢ Error.OutOfMemory) × (settings.on_refusal ≢ Stop)
             × (self.new.refused ≡ self.old.refused + 1)
@@ -305,11 +307,12 @@ impl LineRunState {
             (line_text self.old.lines self.old.line.items) self.old.diagnostics.items self.new.diagnostics.items)) }
         ensures err { OnErr result ((self.new.diagnostics.items ≡ self.old.diagnostics.items)
             × (self.new.refused ≡ self.old.refused)) }
-        ensures same { (self.new.line ≡ self.old.line) × (self.new.output ≡ self.old.output)
+        ensures unchanged { (self.new.line ≡ self.old.line) × (self.new.output ≡ self.old.output)
             × (self.new.lines ≡ self.old.lines) }
-        ensures fault { IfErr result (λ e. (e ≡ Error.OutOfMemory) ⊎ ((settings.on_refusal ≡ Stop) × (e ≡ fault))) }
+        ensures fault { IfErr result (λ failure. (failure ≡ Error.OutOfMemory)
+            ⊎ ((settings.on_refusal ≡ Stop) × (failure ≡ fault))) }
     {
-        if fault.is_memory() {
+        if fault.is_out_of_memory() {
             return Err(fault);
         }
         if settings.on_refusal == OnRefusal::Stop {
@@ -330,7 +333,7 @@ impl LineRunState {
             ((options : Options) (task : Task) → IsDiagnosticAppended options task (self.old.lines + 1) fault.now
             (line_text self.old.lines self.old.line.items) self.old.diagnostics.items self.new.diagnostics.items) }
         ensures err { OnErr result (self.new.diagnostics.items ≡ self.old.diagnostics.items) }
-        ensures same { (self.new.line ≡ self.old.line) × (self.new.output ≡ self.old.output)
+        ensures unchanged { (self.new.line ≡ self.old.line) × (self.new.output ≡ self.old.output)
             × (self.new.lines ≡ self.old.lines) × (self.new.refused ≡ self.old.refused) }
     {
         let place = self.place(alloc, task, fault)?;
@@ -340,29 +343,41 @@ impl LineRunState {
     }
 
     /// Reads bytes: each line that ends in them, and the beginning of the next.
-    pub fn take(&mut self, alloc: Global, settings: Settings, bytes: &[u8]) -> Step
+    ///
+    /// # Errors
+    ///
+    /// - The error of the first line that has one, if `settings.on_refusal` is `Stop`.
+    /// - `OutOfMemory`: an allocation failed.
+    /// - `CannotRead`: the number of lines does not fit in 64 bits.
+    pub fn take(&mut self, alloc: Global, settings: Settings, bytes: &[u8]) -> StepResult
         requires room { LineCountFits self.old }
         ensures room { LineCountFits self.new }
         ensures ok { OnOk result (ReadsBytes settings.options settings.task settings.on_refusal bytes.now self.old self.new) }
-        ensures fault { IfErr result (λ e. StopsInBytes settings.options settings.task settings.on_refusal bytes.now e self.old self.new) }
-        ensures count { IfErr result (λ e. IsLineCountOverflow e self.new.lines) }
+        ensures fault { IfErr result (λ failure. StopsInBytes settings.options settings.task settings.on_refusal bytes.now failure self.old self.new) }
+        ensures count { IfErr result (λ failure. IsLineCountOverflow failure self.new.lines) }
     {
-        let mut rest = bytes;
-        while let Some(at) = newline_at(rest) {
-            self.extend_line(&rest[..at])?;
+        let mut unread_bytes = bytes;
+        while let Some(newline_offset) = newline_at(unread_bytes) {
+            self.extend_line(&unread_bytes[..newline_offset])?;
             self.end_line(alloc, settings)?;
-            rest = &rest[at + 1..];
+            unread_bytes = &unread_bytes[newline_offset + 1..];
         }
-        self.extend_line(rest)
+        self.extend_line(unread_bytes)
     }
 
     /// Finishes a last line that has no newline, unless it is empty.
-    pub fn take_last(&mut self, alloc: Global, settings: Settings) -> Step
+    ///
+    /// # Errors
+    ///
+    /// - The error of the first line that has one, if `settings.on_refusal` is `Stop`.
+    /// - `OutOfMemory`: an allocation failed.
+    /// - `CannotRead`: the number of lines does not fit in 64 bits.
+    pub fn finish_last_line(&mut self, alloc: Global, settings: Settings) -> StepResult
         requires room { LineCountFits self.old }
         ensures room { LineCountFits self.new }
         ensures ok { OnOk result (EndsLastLine settings.options settings.task settings.on_refusal self.old self.new) }
-        ensures fault { IfErr result (λ e. StopsAtLastLine settings.options settings.task settings.on_refusal e self.old self.new) }
-        ensures count { IfErr result (λ e. IsLineCountOverflow e self.new.lines) }
+        ensures fault { IfErr result (λ failure. StopsAtLastLine settings.options settings.task settings.on_refusal failure self.old self.new) }
+        ensures count { IfErr result (λ failure. IsLineCountOverflow failure self.new.lines) }
     {
         if self.line.is_empty() {
             return Ok(());

@@ -3,12 +3,12 @@ ghost use Rattle.std.specs.Prelude.{◌≡◌, ◌+◌, ℕ, List, Option, IfOk,
 ghost use Rattle.std.specs.Prelude.{string_bytes};
 ghost use Rattle.std.specs.Io.KnownBytes.{Appends, Consumes, IsAtEnd};
 ghost use Rattle.bson.specs.Options.{default_options};
-ghost use Rattle.bson_run.specs.Lines.{DoneLinesIn, FailsAtIn, line_number_of, buffered_text};
+ghost use Rattle.bson_run.specs.Lines.{RunHasDoneAllLines, RunFailsAtLine, line_number_of, buffered_text};
 ghost use Rattle.bson_run.specs.LinesSteps.{CannotWriteBoth, LineCountFits, HasFlushed, IsLineCountOverflow};
-ghost use Rattle.bson_run.specs.LinesSteps.{IsStart, RunProgress};
+ghost use Rattle.bson_run.specs.LinesSteps.{IsBeforeFirstLine, RunProgress};
 ghost use Rattle.bson_run.specs.ErrorMessages.{IsPositionMessage};
 
-use crate::line_run_state::{LineRunState, Settings, empty};
+use crate::line_run_state::{LineRunState, Settings, clear_buffer};
 use crate::task::{OnRefusal, Task};
 use bson::extjson::Options;
 use bson_convert::error::Error;
@@ -17,7 +17,7 @@ use std::alloc::{AllocError, Global};
 use std::io::{Read, Write};
 
 /// The capacity of a pipe.
-const BLOCK: usize = 65536;
+const BLOCK_SIZE: usize = 65536;
 
 /// How many lines there were.
 ///
@@ -63,7 +63,8 @@ pub struct LineRun {
 impl LineRun {
     /// Makes a run that did not begin, with the options by default.
     pub fn new(alloc: Global, task: Task, on_refusal: OnRefusal) -> LineRun
-        ensures settings { (result.options ≡ default_options) × (result.task ≡ task) × (result.on_refusal ≡ on_refusal) }
+        ensures settings { (result.options ≡ default_options) × (result.task ≡ task)
+            × (result.on_refusal ≡ on_refusal) }
     {
         LineRun {
             options: Options::default(),
@@ -92,7 +93,7 @@ impl LineRun {
     /// - `NotJson`, `NotExtendedJson`, `NoBytes` or `NotCanonical`: the line is rejected, and
     ///   `on_refusal` stops the run.
     /// - `CannotRead`: the reader failed, `Interrupted` too.
-    /// - `CannotWrite`: the writer or the report failed, `Interrupted` too, or accepted no byte.
+    /// - `CannotWrite`: the writer or the diagnostics writer failed, `Interrupted` too, or accepted no byte.
     ///   Either not all diagnostics were written, or all of them were and not all output was.
     /// - `OutOfMemory`: an allocation failed.
     pub fn run<R: Read, W: Write, T: Write>(
@@ -100,15 +101,17 @@ impl LineRun {
         alloc: Global,
         reader: &mut R,
         writer: &mut W,
-        report: &mut T,
+        diagnostics_writer: &mut T,
     ) -> Result<Counts, Error>
-        ensures done { IfOk result (λ counts. DoneLinesIn self.old.options self.old.task self.old.on_refusal
+        ensures done { IfOk result (λ counts. RunHasDoneAllLines self.old.options self.old.task self.old.on_refusal
             (R.remaining reader.old) (R.remaining reader.new) (W.contents writer.old) (W.contents writer.new)
-            (T.contents report.old) (T.contents report.new) counts.lines counts.refused) }
-        ensures fails { IfErr result (λ e. FailsAtIn self.old.options e self.old.task self.old.on_refusal
+            (T.contents diagnostics_writer.old) (T.contents diagnostics_writer.new) counts.lines counts.refused) }
+        ensures fails { IfErr result
+            (λ failure. RunFailsAtLine self.old.options failure self.old.task self.old.on_refusal
             (R.remaining reader.old) (R.remaining reader.new) (W.contents writer.old) (W.contents writer.new)
-            (T.contents report.old) (T.contents report.new) (line_number_of self.new) (buffered_text self.new.state)) }
-        ensures same { (self.new.options ≡ self.old.options) × (self.new.task ≡ self.old.task)
+            (T.contents diagnostics_writer.old) (T.contents diagnostics_writer.new) (line_number_of self.new)
+            (buffered_text self.new.state)) }
+        ensures keeps_settings { (self.new.options ≡ self.old.options) × (self.new.task ≡ self.old.task)
             × (self.new.on_refusal ≡ self.old.on_refusal) }
     {
         let settings = Settings {
@@ -117,7 +120,14 @@ impl LineRun {
             on_refusal: self.on_refusal,
         };
         self.state = LineRunState::new(alloc);
-        run_on(alloc, settings, &mut self.state, reader, writer, report)
+        run_from_start(
+            alloc,
+            settings,
+            &mut self.state,
+            reader,
+            writer,
+            diagnostics_writer,
+        )
     }
 
     /// Returns the number of the line at which the run is: the first that was not done. Lines are
@@ -134,103 +144,124 @@ impl LineRun {
     ///
     /// `AllocError` if an allocation fails.
     pub fn place(&self, alloc: Global, fault: &Error) -> Result<String, AllocError>
-        ensures { IfOk result (λ place. IsPositionMessage (buffered_text self.now.state) fault.now (string_bytes place)) }
+        ensures { IfOk result
+            (λ place. IsPositionMessage (buffered_text self.now.state) fault.now (string_bytes place)) }
     {
         self.state.place(alloc, self.task, fault)
     }
 }
 
 // Runs from the state before the first line.
-fn run_on<R: Read, W: Write, T: Write>(
+fn run_from_start<R: Read, W: Write, T: Write>(
     alloc: Global,
     settings: Settings,
     state: &mut LineRunState,
     reader: &mut R,
     writer: &mut W,
-    report: &mut T,
+    diagnostics_writer: &mut T,
 ) -> Result<Counts, Error>
-    requires start { IsStart state.old }
+    requires start { IsBeforeFirstLine state.old }
     requires room { LineCountFits state.old }
     ensures room { LineCountFits state.new }
     ensures done { IfOk result
-        (λ counts. DoneLinesIn settings.options settings.task settings.on_refusal (R.remaining reader.old) (R.remaining reader.new)
-        (W.contents writer.old) (W.contents writer.new) (T.contents report.old) (T.contents report.new) counts.lines
+        (λ counts. RunHasDoneAllLines settings.options settings.task settings.on_refusal (R.remaining reader.old)
+        (R.remaining reader.new)
+        (W.contents writer.old) (W.contents writer.new) (T.contents diagnostics_writer.old)
+        (T.contents diagnostics_writer.new) counts.lines
         counts.refused) }
     ensures fails { IfErr result
-        (λ e. FailsAtIn settings.options e settings.task settings.on_refusal (R.remaining reader.old) (R.remaining reader.new)
-        (W.contents writer.old) (W.contents writer.new) (T.contents report.old) (T.contents report.new) (state.new.lines + 1) (buffered_text state.new)) }
+        (λ failure. RunFailsAtLine settings.options failure settings.task settings.on_refusal (R.remaining reader.old)
+        (R.remaining reader.new)
+        (W.contents writer.old) (W.contents writer.new) (T.contents diagnostics_writer.old)
+        (T.contents diagnostics_writer.new) (state.new.lines + 1) (buffered_text state.new)) }
 {
-    let mut block = [0u8; BLOCK];
+    let mut block = [0u8; BLOCK_SIZE];
     for _ in 0..u64::MAX {
-        let Ok(count) = reader.read(&mut block) else {
+        let Ok(read_count) = reader.read(&mut block) else {
             return Err(Error::CannotRead);
         };
-        if count == 0 {
-            return end(alloc, settings, state, writer, report);
+        if read_count == 0 {
+            return finish_run(alloc, settings, state, writer, diagnostics_writer);
         }
-        pass_on(alloc, settings, state, &block[..count], writer, report)?;
+        process_block(
+            alloc,
+            settings,
+            state,
+            &block[..read_count],
+            writer,
+            diagnostics_writer,
+        )?;
     }
     // A count that no run reaches.
     Err(Error::CannotRead)
 }
 
 // Reads a block, and writes the output of its lines.
-fn pass_on<W: Write, T: Write>(
+fn process_block<W: Write, T: Write>(
     alloc: Global,
     settings: Settings,
     state: &mut LineRunState,
     block: &[u8],
     writer: &mut W,
-    report: &mut T,
+    diagnostics_writer: &mut T,
 ) -> Result<(), Error>
     requires room { LineCountFits state.old }
     ensures room { LineCountFits state.new }
-    ensures ok { OnOk result ((before given after output_before diagnostics_before : Option (List ℕ))
-        → RunProgress settings.options settings.task settings.on_refusal before given output_before (W.contents writer.old) diagnostics_before (T.contents report.old)
-        state.old
-        → Consumes given after block.now
-        → RunProgress settings.options settings.task settings.on_refusal before after output_before (W.contents writer.new) diagnostics_before (T.contents report.new)
-        state.new) }
-    ensures fails { IfErr result (λ e. (before given after output_before diagnostics_before : Option (List ℕ))
-        → RunProgress settings.options settings.task settings.on_refusal before given output_before (W.contents writer.old) diagnostics_before (T.contents report.old)
-        state.old
-        → Consumes given after block.now
-        → FailsAtIn settings.options e settings.task settings.on_refusal before after output_before (W.contents writer.new) diagnostics_before
-        (T.contents report.new) (state.new.lines + 1) (buffered_text state.new)) }
-    ensures count { IfErr result (λ e. IsLineCountOverflow e state.new.lines) }
+    ensures ok { OnOk result
+        ((input_before input_before_block input_after output_before diagnostics_before : Option (List ℕ))
+        → RunProgress settings.options settings.task settings.on_refusal input_before input_before_block output_before
+        (W.contents writer.old)
+        diagnostics_before (T.contents diagnostics_writer.old) state.old
+        → Consumes input_before_block input_after block.now
+        → RunProgress settings.options settings.task settings.on_refusal input_before input_after output_before
+        (W.contents writer.new)
+        diagnostics_before (T.contents diagnostics_writer.new) state.new) }
+    ensures fails { IfErr result
+        (λ failure. (input_before input_before_block input_after output_before diagnostics_before : Option (List ℕ))
+        → RunProgress settings.options settings.task settings.on_refusal input_before input_before_block output_before
+        (W.contents writer.old)
+        diagnostics_before (T.contents diagnostics_writer.old) state.old
+        → Consumes input_before_block input_after block.now
+        → RunFailsAtLine settings.options failure settings.task settings.on_refusal input_before input_after output_before (W.contents writer.new) diagnostics_before
+        (T.contents diagnostics_writer.new) (state.new.lines + 1) (buffered_text state.new)) }
+    ensures count { IfErr result (λ failure. IsLineCountOverflow failure state.new.lines) }
 {
-    let step = state.take(alloc, settings, block);
-    write_out(state, writer, report)?;
-    step
+    let step_result = state.take(alloc, settings, block);
+    flush_buffers(state, writer, diagnostics_writer)?;
+    step_result
 }
 
 // Finishes a last line that has no newline, and writes its output.
-fn end<W: Write, T: Write>(
+fn finish_run<W: Write, T: Write>(
     alloc: Global,
     settings: Settings,
     state: &mut LineRunState,
     writer: &mut W,
-    report: &mut T,
+    diagnostics_writer: &mut T,
 ) -> Result<Counts, Error>
     requires room { LineCountFits state.old }
     ensures room { LineCountFits state.new }
-    ensures done { IfOk result (λ counts. (before after output_before diagnostics_before : Option (List ℕ))
-        → RunProgress settings.options settings.task settings.on_refusal before after output_before (W.contents writer.old) diagnostics_before (T.contents report.old)
-        state.old
-        → IsAtEnd after
-        → DoneLinesIn settings.options settings.task settings.on_refusal before after output_before (W.contents writer.new) diagnostics_before
-        (T.contents report.new) counts.lines counts.refused) }
-    ensures fails { IfErr result (λ e. (before after output_before diagnostics_before : Option (List ℕ))
-        → RunProgress settings.options settings.task settings.on_refusal before after output_before (W.contents writer.old) diagnostics_before (T.contents report.old)
-        state.old
-        → IsAtEnd after
-        → FailsAtIn settings.options e settings.task settings.on_refusal before after output_before (W.contents writer.new) diagnostics_before
-        (T.contents report.new) (state.new.lines + 1) (buffered_text state.new)) }
-    ensures count { IfErr result (λ e. IsLineCountOverflow e state.new.lines) }
+    ensures done { IfOk result (λ counts. (input_before input_after output_before diagnostics_before : Option (List ℕ))
+        → RunProgress settings.options settings.task settings.on_refusal input_before input_after output_before
+        (W.contents writer.old)
+        diagnostics_before (T.contents diagnostics_writer.old) state.old
+        → IsAtEnd input_after
+        → RunHasDoneAllLines settings.options settings.task settings.on_refusal input_before input_after output_before
+        (W.contents writer.new) diagnostics_before
+        (T.contents diagnostics_writer.new) counts.lines counts.refused) }
+    ensures fails { IfErr result
+        (λ failure. (input_before input_after output_before diagnostics_before : Option (List ℕ))
+        → RunProgress settings.options settings.task settings.on_refusal input_before input_after output_before
+        (W.contents writer.old)
+        diagnostics_before (T.contents diagnostics_writer.old) state.old
+        → IsAtEnd input_after
+        → RunFailsAtLine settings.options failure settings.task settings.on_refusal input_before input_after output_before (W.contents writer.new) diagnostics_before
+        (T.contents diagnostics_writer.new) (state.new.lines + 1) (buffered_text state.new)) }
+    ensures count { IfErr result (λ failure. IsLineCountOverflow failure state.new.lines) }
 {
-    let step = state.take_last(alloc, settings);
-    write_out(state, writer, report)?;
-    step?;
+    let step_result = state.finish_last_line(alloc, settings);
+    flush_buffers(state, writer, diagnostics_writer)?;
+    step_result?;
     Ok(Counts {
         lines: state.lines,
         refused: state.refused,
@@ -239,29 +270,30 @@ fn end<W: Write, T: Write>(
 
 // Writes the output and the diagnostics that are in memory. The diagnostics come first, so that a
 // writer that fails loses none.
-fn write_out<W: Write, T: Write>(
+fn flush_buffers<W: Write, T: Write>(
     state: &mut LineRunState,
     writer: &mut W,
-    report: &mut T,
+    diagnostics_writer: &mut T,
 ) -> Result<(), Error>
     requires room { LineCountFits state.old }
     ensures room { LineCountFits state.new }
     ensures ok { OnOk result (HasFlushed state.old state.new) }
     ensures written { OnOk result (Appends (W.contents writer.old) (W.contents writer.new) state.old.output.items) }
-    ensures reports_appended { OnOk result (Appends (T.contents report.old) (T.contents report.new) state.old.diagnostics.items) }
-    ensures cut { OnErr result
-        (CannotWriteBoth (W.contents writer.old) (W.contents writer.new) (T.contents report.old)
-        (T.contents report.new) state.old.output.items state.old.diagnostics.items) }
-    ensures same { OnErr result (state.new.lines ≡ state.old.lines) }
-    ensures fault { IfErr result (λ e. e ≡ Error.CannotWrite) }
+    ensures reports_appended { OnOk result
+        (Appends (T.contents diagnostics_writer.old) (T.contents diagnostics_writer.new) state.old.diagnostics.items) }
+    ensures partly_written { OnErr result
+        (CannotWriteBoth (W.contents writer.old) (W.contents writer.new) (T.contents diagnostics_writer.old)
+        (T.contents diagnostics_writer.new) state.old.output.items state.old.diagnostics.items) }
+    ensures keeps_line_count { OnErr result (state.new.lines ≡ state.old.lines) }
+    ensures fault { IfErr result (λ failure. failure ≡ Error.CannotWrite) }
 {
-    let Ok(()) = write_whole(report, &state.diagnostics) else {
+    let Ok(()) = write_whole(diagnostics_writer, &state.diagnostics) else {
         return Err(Error::CannotWrite);
     };
     let Ok(()) = write_whole(writer, &state.output) else {
         return Err(Error::CannotWrite);
     };
-    empty(&mut state.output);
+    clear_buffer(&mut state.output);
     state.diagnostics.clear();
     Ok(())
 }

@@ -13,7 +13,11 @@ const MAX_CHARS: usize = 60;
 
 /// Returns the part of a message that quotes the value at a path in the text. It follows the part that says
 /// what was expected. It is empty if there is no value. For a duplicate key it quotes the last value.
-pub(crate) fn quote(alloc: Global, segments: &[Segment], text: &[u8]) -> Result<String, AllocError>
+pub(crate) fn quote_value_at(
+    alloc: Global,
+    segments: &[Segment],
+    text: &[u8],
+) -> Result<String, AllocError>
     ensures { IfOk result (λ full_message. IsQuotedValue text.now (string_bytes full_message)) }
 {
     let Ok(text) = simdutf8::compat::from_utf8(text) else {
@@ -21,10 +25,10 @@ pub(crate) fn quote(alloc: Global, segments: &[Segment], text: &[u8]) -> Result<
     };
     let mut scratch = Scratch::new(alloc);
     let mut reader = Reader::new(text, &mut scratch)?;
-    let Ok(Some((from, following))) = value_at(&mut reader, segments) else {
+    let Ok(Some((start_offset, end_offset))) = value_at(&mut reader, segments) else {
         return Ok(String::new(alloc));
     };
-    match part(text, from, following) {
+    match subslice(text, start_offset, end_offset) {
         Some(value) => found_text(alloc, value),
         None => Ok(String::new(alloc)),
     }
@@ -39,13 +43,13 @@ fn found_text(alloc: Global, value: &str) -> Result<String, AllocError>
 }
 
 // The value that begins there, without what separates it from the next.
-fn part(text: &str, from: usize, following: usize) -> Option<&str>
-    ensures { IfSome result (λ part. IsSubslice part.now text.now) }
+fn subslice(text: &str, start_offset: usize, end_offset: usize) -> Option<&str>
+    ensures { IfSome result (λ subslice. IsSubslice subslice.now text.now) }
 {
-    let (front, _) = text.split_at_checked(following)?;
-    let (_, part) = front.split_at_checked(from)?;
-    let part = part.trim_ascii_end().trim_end_matches(',');
-    Some(part.trim_ascii_end())
+    let (front, _) = text.split_at_checked(end_offset)?;
+    let (_, subslice) = front.split_at_checked(start_offset)?;
+    let subslice = subslice.trim_ascii_end().trim_end_matches(',');
+    Some(subslice.trim_ascii_end())
 }
 
 // Skips a value. Returns the offset of the value at the end of a path into it, and the offset of
@@ -55,32 +59,32 @@ fn value_at(
     reader: &mut Reader<'_>,
     segments: &[Segment],
 ) -> Result<Option<(usize, usize)>, Invalid> {
-    let Some((segment, inner)) = segments.split_last() else {
-        let from = reader.offset();
+    let Some((segment, inner_segments)) = segments.split_last() else {
+        let start_offset = reader.offset();
         reader.skip_value(MAX_DEPTH)?;
-        return Ok(Some((from, reader.offset())));
+        return Ok(Some((start_offset, reader.offset())));
     };
     match reader.next().ok_or(Invalid)? {
-        Token::BeginArray => value_in_list(reader, segment, inner),
-        Token::BeginObject => value_in_object(reader, segment, inner),
+        Token::BeginArray => value_in_array(reader, segment, inner_segments),
+        Token::BeginObject => value_in_object(reader, segment, inner_segments),
         _ => Ok(None),
     }
 }
 
 // The same of an array whose bracket was read, into which the segment leads.
 #[cycle(passing)]
-fn value_in_list(
+fn value_in_array(
     reader: &mut Reader<'_>,
     segment: &Segment,
-    inner: &[Segment],
+    inner_segments: &[Segment],
 ) -> Result<Option<(usize, usize)>, Invalid> {
-    let mut found = None;
-    for at in 0..usize::MAX {
+    let mut found_range = None;
+    for element_index in 0..usize::MAX {
         if reader.take_end_array() {
-            return Ok(found);
+            return Ok(found_range);
         }
-        if is_element(segment, at) {
-            found = value_at(reader, inner)?;
+        if is_element(segment, element_index) {
+            found_range = value_at(reader, inner_segments)?;
         } else {
             reader.skip_value(MAX_DEPTH)?;
         }
@@ -93,15 +97,15 @@ fn value_in_list(
 fn value_in_object(
     reader: &mut Reader<'_>,
     segment: &Segment,
-    inner: &[Segment],
+    inner_segments: &[Segment],
 ) -> Result<Option<(usize, usize)>, Invalid> {
-    let mut found = None;
+    let mut found_range = None;
     for _ in 0..usize::MAX {
         let Some(key) = reader.next_key()? else {
-            return Ok(found);
+            return Ok(found_range);
         };
         if is_key(segment, key) {
-            found = value_at(reader, inner)?;
+            found_range = value_at(reader, inner_segments)?;
         } else {
             reader.skip_value(MAX_DEPTH)?;
         }
@@ -109,10 +113,10 @@ fn value_in_object(
     Err(Invalid)
 }
 
-fn is_element(segment: &Segment, at: usize) -> bool {
-    matches!(segment, Segment::Element(place) if *place == at)
+fn is_element(segment: &Segment, element_index: usize) -> bool {
+    matches!(segment, Segment::Element(wanted_index) if *wanted_index == element_index)
 }
 
 fn is_key(segment: &Segment, key: &str) -> bool {
-    matches!(segment, Segment::Key(wanted) if wanted.as_str() == key)
+    matches!(segment, Segment::Key(wanted_key) if wanted_key.as_str() == key)
 }

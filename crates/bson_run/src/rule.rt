@@ -11,19 +11,19 @@ ghost use Rattle.bson_run.specs.TaskNames.{rule_message};
 /// ```
 #[derive(Clone, Copy, PartialEq, Eq, Debug)]
 pub enum Rule {
-    /// The bytes are no UTF-8.
+    /// The bytes are not UTF-8.
     Utf8,
-    /// The text ends before its value is whole; a text of blanks too.
+    /// The text ends before its value is complete, or is blank.
     UnexpectedEnd,
-    /// A key has no double quotes, or a text has others.
+    /// A key or a string has no double quotes, or has other quotes.
     Quotes,
-    /// No value begins as it does there.
-    NoValue,
-    /// A number is written as JSON writes none: `01`, `+1`, `1.`, `.5`, `0x10`.
+    /// There is no value where one is expected.
+    ExpectedValue,
+    /// A number does not have the grammar of JSON: `01`, `+1`, `1.`, `.5`, `0x10`.
     Number,
-    /// A text has a character below U+0020 in it, as a tab or a newline.
+    /// A string contains a character below U+0020, for example a tab or a newline.
     ControlCharacter,
-    /// A string has an escape that denotes no character, such as `\x41` or half of a surrogate pair.
+    /// A string has an escape that denotes no character: `\x41`, or half of a surrogate pair.
     Escape,
     /// There is neither a comma nor the closing bracket after an element; or a bracket is closed that
     /// is not open, or a key is outside of an object.
@@ -51,7 +51,7 @@ impl Rule {
             Rule::Utf8 => "invalid UTF-8",
             Rule::UnexpectedEnd => "unexpected end of input",
             Rule::Quotes => "keys and strings must be in double quotes",
-            Rule::NoValue => "expected a value",
+            Rule::ExpectedValue => "expected a value",
             Rule::Number => "invalid number",
             Rule::ControlCharacter => "unescaped control character in a string",
             Rule::Escape => "invalid escape sequence",

@@ -12,11 +12,12 @@ pub(crate) fn shorten(
     max_chars: usize,
     escapes: bool,
 ) -> Result<String, AllocError>
-    ensures { IfOk result (λ shortened. string_bytes shortened ≡ truncated max_chars (char_or_escape escapes) full_message.now) }
+    ensures { IfOk result
+        (λ shortened. string_bytes shortened ≡ truncated max_chars (char_or_escape escapes) full_message.now) }
 {
     let mut shortened = String::new(alloc);
-    for c in full_message.chars().take(max_chars) {
-        push_char(alloc, &mut shortened, c, escapes)?;
+    for character in full_message.chars().take(max_chars) {
+        push_char(alloc, &mut shortened, character, escapes)?;
     }
     if full_message.chars().nth(max_chars).is_some() {
         shortened.push_str("..")?;
@@ -28,31 +29,32 @@ pub(crate) fn shorten(
 fn push_char(
     alloc: Global,
     shortened: &mut String,
-    c: char,
+    character: char,
     escapes: bool,
 ) -> Result<(), AllocError>
-    ensures { OnOk result (string_bytes shortened.new ≡ string_bytes shortened.old ++ char_or_escape escapes c) }
+    ensures { OnOk result
+        (string_bytes shortened.new ≡ string_bytes shortened.old ++ char_or_escape escapes character) }
 {
     if escapes {
-        push_escaped(alloc, shortened, c)
+        push_escaped(alloc, shortened, character)
     } else {
-        shortened.push(c)
+        shortened.push(character)
     }
 }
 
 // Appends a character, or its escape.
-fn push_escaped(alloc: Global, shortened: &mut String, c: char) -> Result<(), AllocError>
-    ensures { OnOk result (string_bytes shortened.new ≡ string_bytes shortened.old ++ escaped_char c) }
+fn push_escaped(alloc: Global, shortened: &mut String, character: char) -> Result<(), AllocError>
+    ensures { OnOk result (string_bytes shortened.new ≡ string_bytes shortened.old ++ escaped_char character) }
 {
-    if c == '\u{2028}' {
+    if character == '\u{2028}' {
         return shortened.push_str("\\u2028");
     }
-    if c == '\u{2029}' {
+    if character == '\u{2029}' {
         return shortened.push_str("\\u2029");
     }
-    if c.is_control() {
-        let escape = format!(in alloc; "\\u00{:02x}", u32::from(c))?;
+    if character.is_control() {
+        let escape = format!(in alloc; "\\u00{:02x}", u32::from(character))?;
         return shortened.push_str(&escape);
     }
-    shortened.push(c)
+    shortened.push(character)
 }

@@ -1,7 +1,7 @@
 //! The offset at which bytes are not JSON.
 ghost use Rattle.std.specs.Prelude.{◌≡◌, ◌↔◌, IfOk, IsTrue, false, string_bytes};
 ghost use Rattle.bson.specs.TextMeaning.{IsNotJsonText};
-ghost use Rattle.bson_run.specs.ErrorMessages.{BreaksRule, HasGrammar, HasTree, column_and_rule, bytes_before, column_at, line_at};
+ghost use Rattle.bson_run.specs.ErrorMessages.{BreaksRule, IsWellFormedJson, IsTextOfTree, column_and_rule, bytes_before, column_at, line_at};
 
 use crate::broken_rule::find_broken_rule;
 use crate::rule::Rule;
@@ -44,7 +44,8 @@ impl SyntaxError {
     ///
     /// Returns `AllocError` if a request for memory is refused.
     pub fn of(alloc: Global, bytes: &[u8]) -> Result<SyntaxError, AllocError>
-        ensures grammar { IfOk result (λ syntax_error. IsTrue syntax_error.is_number ↔ HasGrammar bytes.now × IsNotJsonText bytes.now) }
+        ensures grammar { IfOk result (λ syntax_error. IsTrue syntax_error.is_number ↔ IsWellFormedJson bytes.now
+            × IsNotJsonText bytes.now) }
         ensures rule { IfOk result (λ syntax_error. BreaksRule bytes.now syntax_error.rule) }
     {
         match simdutf8::compat::from_utf8(bytes) {
@@ -61,15 +62,18 @@ impl SyntaxError {
     pub fn line(self, bytes: &[u8]) -> usize
         ensures { result ≡ line_at self.offset bytes.now }
     {
-        let before = self.before(bytes);
-        1 + before.iter().filter(|byte| **byte == b'\n').count()
+        let preceding_bytes = self.preceding_bytes(bytes);
+        1 + preceding_bytes
+            .iter()
+            .filter(|byte| **byte == b'\n')
+            .count()
     }
 
     /// Returns the column of the byte there, or of the last byte if the bytes end, counted from 1.
     pub fn column(self, bytes: &[u8]) -> usize
         ensures { result ≡ column_at self.offset bytes.now }
     {
-        let line = self.before(bytes).iter().rev();
+        let line = self.preceding_bytes(bytes).iter().rev();
         1 + line.take_while(|byte| **byte != b'\n').count()
     }
 
@@ -79,7 +83,8 @@ impl SyntaxError {
     ///
     /// `AllocError` if an allocation fails.
     pub fn message(self, alloc: Global, bytes: &[u8]) -> Result<String, AllocError>
-        ensures { IfOk result (λ full_message. string_bytes full_message ≡ column_and_rule (column_at self.offset bytes.now) self.rule) }
+        ensures { IfOk result
+            (λ full_message. string_bytes full_message ≡ column_and_rule (column_at self.offset bytes.now) self.rule) }
     {
         let column = self.column(bytes);
         let rule = self.rule.message();
@@ -87,7 +92,7 @@ impl SyntaxError {
     }
 
     // The bytes before it, which are not all.
-    fn before(self, bytes: &[u8]) -> &[u8]
+    fn preceding_bytes(self, bytes: &[u8]) -> &[u8]
         ensures { result.now ≡ bytes_before self.offset bytes.now }
     {
         &bytes[..self.offset.min(bytes.len().saturating_sub(1))]
@@ -96,7 +101,8 @@ impl SyntaxError {
 
 // Finds the offset at which the text is not JSON.
 fn find_syntax_error(alloc: Global, text: &str) -> Result<SyntaxError, AllocError>
-    ensures grammar { IfOk result (λ syntax_error. IsTrue syntax_error.is_number ↔ HasGrammar text.now × IsNotJsonText text.now) }
+    ensures grammar { IfOk result (λ syntax_error. IsTrue syntax_error.is_number ↔ IsWellFormedJson text.now
+        × IsNotJsonText text.now) }
     ensures rule { IfOk result (λ syntax_error. BreaksRule text.now syntax_error.rule) }
 {
     let mut scratch = Scratch::new(alloc);
@@ -132,8 +138,8 @@ fn find_syntax_error(alloc: Global, text: &str) -> Result<SyntaxError, AllocErro
 
 // Whether a text is that of a tree: it has the grammar of JSON, and its numbers are in range.
 fn has_tree(alloc: Global, text: &str) -> Result<bool, AllocError>
-    ensures yes { IfOk result (λ has. IsTrue has → HasTree text.now) }
-    ensures no { IfOk result (λ has. has ≡ false → IsNotJsonText text.now) }
+    ensures yes { IfOk result (λ is_tree_text. IsTrue is_tree_text → IsTextOfTree text.now) }
+    ensures no { IfOk result (λ is_tree_text. is_tree_text ≡ false → IsNotJsonText text.now) }
 {
     match normalize_text(alloc, Arrangement::FirstPositions, text) {
         Ok(_) => Ok(true),
@@ -145,12 +151,12 @@ fn has_tree(alloc: Global, text: &str) -> Result<bool, AllocError>
 // Returns the offset of the first number that has no finite double, or 0 if there is none.
 fn number_out_of_range(text: &str, scratch: &mut Scratch) -> Result<usize, AllocError> {
     let mut reader = Reader::new(text, scratch)?;
-    let mut following = 0usize;
+    let mut token_end = 0usize;
     while let Some(token) = reader.next() {
         if is_out_of_range(token) {
-            return Ok(following.saturating_add(blanks(text.as_bytes(), following)));
+            return Ok(token_end.saturating_add(bytes_before_number(text.as_bytes(), token_end)));
         }
-        following = reader.offset();
+        token_end = reader.offset();
     }
     Ok(0)
 }
@@ -160,11 +166,11 @@ fn is_out_of_range(token: Token<'_>) -> bool {
 }
 
 // Counts the bytes from there on before a number.
-fn blanks(bytes: &[u8], from: usize) -> usize {
+fn bytes_before_number(bytes: &[u8], from_offset: usize) -> usize {
     let is_digit = |byte: &u8| *byte == b'-' || byte.is_ascii_digit();
     bytes
         .iter()
-        .skip(from)
+        .skip(from_offset)
         .take_while(|byte| !is_digit(*byte))
         .count()
 }

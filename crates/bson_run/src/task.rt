@@ -91,7 +91,7 @@ impl Task {
     /// Returns the task of this name: that of a mode, whose output is written, `check` or `encode`.
     pub fn from_name(name: &str) -> Option<Task>
         ensures named { IfSome result (λ task. name.now ≡ task_name task) }
-        ensures other { result ≡ None → (task : Task) → name.now ≡ task_name task → ⊥ }
+        ensures unknown_name { result ≡ None → (task : Task) → name.now ≡ task_name task → ⊥ }
     {
         if name == "check" {
             return Some(Task::Check(Criterion::Valid));

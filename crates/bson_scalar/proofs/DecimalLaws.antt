@@ -12,14 +12,14 @@ use Rattle.bson_decimal.specs.ParseResult.{IsParseResult}
 use Rattle.bson_decimal.specs.DecimalBits.{encoded_finite, canonical_decimal}
 use Rattle.bson_decimal.specs.DecimalText.{decimal128_text as decimal_text}
 use Rattle.bson_decimal.specs.ParseSteps.{finite}
-use Rattle.bson_decimal.specs.DecimalStrings.{DenotesDecimal, IsSpecialWord, nan, snan, infinity, inf, lowercase}
+use Rattle.bson_decimal.specs.DecimalStrings.{DenotesDecimal, IsNanOrInfinityWord, nan, snan, infinity, inf, lowercase}
 use Rattle.bson_decimal.proofs.Offered.{special-parses, finite-parses, refused-parses, display_text-parses}
 use Rattle.bson_decimal.proofs.Offered.{display_text-same, display_text-canon}
 use Rattle.serde_json.specs.Data.{Data}
 use Rattle.bson_scalar.specs.Means.{MeansScalar, number_decimal}
-use Rattle.bson_scalar.specs.Reading.{special_decimal, decimal_at, decimal_pattern, decimal_read}
+use Rattle.bson_scalar.specs.Reading.{nan_or_infinity_bits, special_or_finite_decimal, decimal_pattern, decimal_read}
 use Rattle.bson_scalar.specs.Scalar.{Scalar}
-use Rattle.bson_scalar.specs.TreeParts.{object_of_one}
+use Rattle.bson_scalar.specs.TreeParts.{one_key_object}
 use Rattle.bson_scalar.proofs.InverseLemmas.{means_by, un_ok, text_then, some_then}
 
 same : (xs ys : List ℕ) → bytes_eq xs ys ≡ true → xs ≡ ys
@@ -30,12 +30,12 @@ is_itself xs = (bytes_eq-Decides xs xs).1 refl
 
 -- a word has the pattern of its text
 abbrev WordIs : List ℕ → Option ℕ → Type 0
-WordIs w None = (n : ℕ) → ¬ (IsSpecialWord w n)
-WordIs w (Some n) = IsSpecialWord w n
+WordIs w None = (n : ℕ) → ¬ (IsNanOrInfinityWord w n)
+WordIs w (Some n) = IsNanOrInfinityWord w n
 
 no_word : (w : List ℕ) → bytes_eq (lowercase w) (codes "nan") ≡ false → bytes_eq (lowercase w) (codes "snan") ≡ false
     → bytes_eq (lowercase w) (codes "infinity") ≡ false → bytes_eq (lowercase w) (codes "inf") ≡ false
-    → (n : ℕ) → ¬ (IsSpecialWord w n)
+    → (n : ℕ) → ¬ (IsNanOrInfinityWord w n)
 no_word w a b c d n (nan e) = let h = rw e at a in cc
 no_word w a b c d n (snan e) = let h = rw e at b in cc
 no_word w a b c d n (infinity e) = let h = rw e at c in cc
@@ -52,7 +52,7 @@ word_is-at w false false true d e f g h = infinity (same _ _ g)
 word_is-at w false false false true e f g h = inf (same _ _ h)
 word_is-at w false false false false e f g h = no_word w e f g h
 
-word_is : (w : List ℕ) → WordIs w (special_decimal w)
+word_is : (w : List ℕ) → WordIs w (nan_or_infinity_bits w)
 word_is w = word_is-at w _ _ _ _ refl refl refl refl
 
 -- the pattern is that of the text, and there is no other
@@ -60,13 +60,13 @@ abbrev Answers : List ℕ → Option (List ℕ) → Type 0
 Answers s None = (b : List ℕ) → ¬ (DenotesDecimal s b)
 Answers s (Some d) = DenotesDecimal s d × ((b : List ℕ) → DenotesDecimal s b → b ≡ d)
 
-finite_answers : (s : List ℕ) → ((n : ℕ) → ¬ (IsSpecialWord (without_leading_sign s) n)) → (r : Result (ℕ × ℕ) ParseError)
+finite_answers : (s : List ℕ) → ((n : ℕ) → ¬ (IsNanOrInfinityWord (without_leading_sign s) n)) → (r : Result (ℕ × ℕ) ParseError)
     → finite (without_leading_sign s) ≡ r
     → Answers s (option_map (λ p. to_le_bytes w128 (encoded_finite (starts_with_minus s) p.0 p.1)) (result_ok r))
 finite_answers s plain (Ok r) is = finite-parses s r plain is
 finite_answers s plain (Err k) is = refused-parses s k plain is
 
-answers_at : (s : List ℕ) (o : Option ℕ) → WordIs (without_leading_sign s) o → Answers s (decimal_at s o)
+answers_at : (s : List ℕ) (o : Option ℕ) → WordIs (without_leading_sign s) o → Answers s (special_or_finite_decimal s o)
 answers_at s None plain = finite_answers s plain _ refl
 answers_at s (Some n) word = special-parses s n word
 
@@ -104,7 +104,7 @@ pub canon-again : (b : List ℕ) → canonical_decimal (canonical_decimal b) ≡
 canon-again b = (display_text-same (canonical_decimal b) b).0 (display_text-canon b)
 
 pub decimal_from : (d : Data) (x : Scalar) → decimal_read d ≡ Ok x
-    → MeansScalar (object_of_one (codes "$numberDecimal") d) x
+    → MeansScalar (one_key_object (codes "$numberDecimal") d) x
 decimal_from d x h =
     let t = text_then d _ x h in
     let b = some_then (decimal_pattern t.0) _ x t.2 in

@@ -3,7 +3,7 @@ use Rattle.std.proofs.Common.{◌≡◌, ◌^◌, ◌/◌, ℕ, List, Bool, true
 use Rattle.std.proofs.Common.{sym, ap, ◌∙◌, subst, nat_eq, nat_lt, arith}
 use Rattle.std.specs.Prelude.{codes, is_some}
 use Rattle.std.proofs.lemmas.Bool.{eqb-true, eqb-false, ltb-true, ltb-false, ne_eqb}
-use Rattle.bson_scalar.specs.Doubles.{double_pattern, double_text, normal_double, is_nan, is_minus_nan, is_special}
+use Rattle.bson_scalar.specs.Doubles.{special_double_pattern, double_text, normal_double, is_nan, is_minus_nan, is_special}
 use Rattle.bson_scalar.specs.Normal.{IsReadScalar}
 use Rattle.bson_scalar.specs.Scalar.{double}
 use Rattle.bson_scalar.proofs.InverseLemmas.{un_some}
@@ -24,7 +24,7 @@ form_at false false false false true f p h = subst (λ x. IsReadScalar (double x
 form_at false false false false false true p h = subst (λ x. IsReadScalar (double x)) (un_some _ _ h) (refl, refl)
 form_at false false false false false false p h = cc
 
-pub double_form : (s : List ℕ) (p : ℕ) → double_pattern s ≡ Some p → IsReadScalar (double p)
+pub double_form : (s : List ℕ) (p : ℕ) → special_double_pattern s ≡ Some p → IsReadScalar (double p)
 double_form s p h = form_at _ _ _ _ _ _ p h
 
 -- ---- a pattern, its text and its form
@@ -32,10 +32,10 @@ double_form s p h = form_at _ _ _ _ _ _ p h
 -- the text reads as the form of the pattern, which has the same text
 abbrev Again : ℕ → Type 0
 Again p = (double_text (normal_double p) ≡ double_text p)
-    × ((s : List ℕ) → double_text p ≡ Some s → double_pattern s ≡ Some (normal_double p))
+    × ((s : List ℕ) → double_text p ≡ Some s → special_double_pattern s ≡ Some (normal_double p))
 
-at_text : (t s : List ℕ) (o : Option ℕ) → Some t ≡ Some s → double_pattern t ≡ o → double_pattern s ≡ o
-at_text t s o e h = subst (λ u. double_pattern u ≡ o) (un_some _ _ e) h
+at_text : (t s : List ℕ) (o : Option ℕ) → Some t ≡ Some s → special_double_pattern t ≡ o → special_double_pattern s ≡ o
+at_text t s o e h = subst (λ u. special_double_pattern u ≡ o) (un_some _ _ e) h
 
 again_at : (a b c d e f : Bool) (p : ℕ) → nat_eq p 0 ≡ a → nat_eq p 0x8000000000000000 ≡ b
     → nat_eq p 0x7FF0000000000000 ≡ c → nat_eq p 0xFFF0000000000000 ≡ d → is_nan p ≡ e → is_minus_nan p ≡ f → Again p
@@ -66,7 +66,7 @@ again p = again_at _ _ _ _ _ _ p refl refl refl refl refl refl
 pub double_text-form : (p : ℕ) → double_text (normal_double p) ≡ double_text p
 double_text-form p = (again p).0
 
-pub double_again : (p : ℕ) (s : List ℕ) → double_text p ≡ Some s → double_pattern s ≡ Some (normal_double p)
+pub double_again : (p : ℕ) (s : List ℕ) → double_text p ≡ Some s → special_double_pattern s ≡ Some (normal_double p)
 double_again p = (again p).1
 
 form_again_at : (e f : Bool) (p : ℕ) → is_nan p ≡ e → is_minus_nan p ≡ f

@@ -7,13 +7,13 @@ use Rattle.serde_json.specs.Data.{Data}
 use Rattle.serde_json.specs.Data as tree
 use Rattle.bson_double.specs.FiniteDoubles.{is_finite, parsed_finite_bits}
 use Rattle.bson_double.proofs.Offered.{read_back}
-use Rattle.bson_scalar.specs.Doubles.{double_pattern, double_in, double_text, double_text_in, normal_double}
-use Rattle.bson_scalar.specs.Doubles.{is_special, is_writable, or_finite_text, or_finite_of, IsDoubleTextIn}
+use Rattle.bson_scalar.specs.Doubles.{special_double_pattern, double_bits_of_text, double_text, double_text_in, normal_double}
+use Rattle.bson_scalar.specs.Doubles.{is_special, is_writable, or_finite_text, or_parsed_finite_bits, IsDoubleTextIn}
 use Rattle.bson_scalar.specs.Means.{MeansScalarIn, MeansScalar, number_double, nearest_to_text}
 use Rattle.bson_scalar.specs.Normal.{IsReadScalarIn, IsReadScalar}
 use Rattle.bson_scalar.specs.Reading.{double_read_in}
 use Rattle.bson_scalar.specs.Scalar.{Scalar, double}
-use Rattle.bson_scalar.specs.TreeParts.{object_of_one}
+use Rattle.bson_scalar.specs.TreeParts.{one_key_object}
 use Rattle.bson_scalar.specs.declared.form.Doubles.{Doubles}
 use Rattle.bson_scalar.specs.declared.form.Doubles.TheVariants.{Special, Finite}
 use Rattle.bson_scalar.proofs.DoubleLaws.{double_form, double_again, double_text-form, special_is}
@@ -30,35 +30,35 @@ in_each Special h = h
 in_each Finite h = inl h
 
 -- the mode `Finite` reads a text as the grammar says
-two_ways : (o : Option ℕ) (s : List ℕ) (p : ℕ) → double_pattern s ≡ o → or_finite_of o s ≡ Some p
-    → MeansScalarIn Finite (object_of_one (codes "$numberDouble") (tree.string s)) (double p)
+two_ways : (o : Option ℕ) (s : List ℕ) (p : ℕ) → special_double_pattern s ≡ o → or_parsed_finite_bits o s ≡ Some p
+    → MeansScalarIn Finite (one_key_object (codes "$numberDouble") (tree.string s)) (double p)
 two_ways (Some q) s p is h = inl (number_double s p (is ∙ h))
 two_ways None s p is h = inr (nearest_to_text s p h)
 
-pub double_means : (m : Doubles) (s : List ℕ) (p : ℕ) → double_in m s ≡ Some p
-    → MeansScalarIn m (object_of_one (codes "$numberDouble") (tree.string s)) (double p)
+pub double_means : (m : Doubles) (s : List ℕ) (p : ℕ) → double_bits_of_text m s ≡ Some p
+    → MeansScalarIn m (one_key_object (codes "$numberDouble") (tree.string s)) (double p)
 double_means Special s p h = number_double s p h
-double_means Finite s p h = two_ways (double_pattern s) s p refl h
+double_means Finite s p h = two_ways (special_double_pattern s) s p refl h
 
 pub double_from : (m : Doubles) (d : Data) (x : Scalar) → double_read_in m d ≡ Ok x
-    → MeansScalarIn m (object_of_one (codes "$numberDouble") d) x
+    → MeansScalarIn m (one_key_object (codes "$numberDouble") d) x
 double_from m d x h =
     let t = text_then d _ x h in
-    let n = some_then (double_in m t.0) _ x t.2 in
-    subst (λ e. MeansScalarIn m (object_of_one (codes "$numberDouble") e) x) (sym t.1)
-    (subst (λ y. MeansScalarIn m (object_of_one (codes "$numberDouble") (tree.string t.0)) y) (sym (un_ok _ _ n.2))
+    let n = some_then (double_bits_of_text m t.0) _ x t.2 in
+    subst (λ e. MeansScalarIn m (one_key_object (codes "$numberDouble") e) x) (sym t.1)
+    (subst (λ y. MeansScalarIn m (one_key_object (codes "$numberDouble") (tree.string t.0)) y) (sym (un_ok _ _ n.2))
     (double_means m t.0 n.0 n.1))
 
-pub double_to : (m : Doubles) (s : List ℕ) (p : ℕ) → double_pattern s ≡ Some p → double_in m s ≡ Some p
+pub double_to : (m : Doubles) (s : List ℕ) (p : ℕ) → special_double_pattern s ≡ Some p → double_bits_of_text m s ≡ Some p
 double_to Special s p h = h
 double_to Finite s p h = rw h refl
 
-finite_at : (o : Option ℕ) (s : List ℕ) (p : ℕ) → double_pattern s ≡ o → parsed_finite_bits s ≡ Some p → or_finite_of o s ≡ Some p
+finite_at : (o : Option ℕ) (s : List ℕ) (p : ℕ) → special_double_pattern s ≡ o → parsed_finite_bits s ≡ Some p → or_parsed_finite_bits o s ≡ Some p
 finite_at (Some q) s p is h = ap Some (agree s q is p h)
 finite_at None s p is h = h
 
-pub finite_to : (s : List ℕ) (p : ℕ) → parsed_finite_bits s ≡ Some p → double_in Finite s ≡ Some p
-finite_to s p h = finite_at (double_pattern s) s p refl h
+pub finite_to : (s : List ℕ) (p : ℕ) → parsed_finite_bits s ≡ Some p → double_bits_of_text Finite s ≡ Some p
+finite_to s p h = finite_at (special_double_pattern s) s p refl h
 
 or_true : (a b : Bool) → b ≡ true → (a || b) ≡ true
 or_true true b h = refl
@@ -72,7 +72,7 @@ true_or false b h = cc
 pub finite_form : (p : ℕ) → is_finite p ≡ true → IsReadScalarIn Finite (double p)
 finite_form p h = (or_true (is_special p) (is_finite p) h, ap double (finite_normal p h))
 
-pub double_form_in : (m : Doubles) (s : List ℕ) (p : ℕ) → double_pattern s ≡ Some p → IsReadScalarIn m (double p)
+pub double_form_in : (m : Doubles) (s : List ℕ) (p : ℕ) → special_double_pattern s ≡ Some p → IsReadScalarIn m (double p)
 double_form_in Special s p h = double_form s p h
 double_form_in Finite s p h =
     let f : IsReadScalar (double p) = double_form s p h in (true_or (is_special p) (is_finite p) f.0, f.1)
@@ -139,14 +139,14 @@ text_form Finite p =
 
 -- what is written is read as the normal form
 again_at : (o : Option (List ℕ)) (p : ℕ) (s : List ℕ) → p < 2 ^ 64 → double_text p ≡ o → or_finite_text o p ≡ Some s
-    → double_in Finite s ≡ Some (normal_double p)
+    → double_bits_of_text Finite s ≡ Some (normal_double p)
 again_at (Some t) p s small is h = double_to Finite s _ (double_again p s (is ∙ h))
 again_at None p s small is h =
     let t = finite_text_is p s h in
     finite_to s _ (read_back p s small t.0 t.1 ∙ ap Some (sym (finite_normal p t.0)))
 
 pub again : (m : Doubles) (p : ℕ) (s : List ℕ) → p < 2 ^ 64 → double_text_in m p ≡ Some s
-    → double_in m s ≡ Some (normal_double p)
+    → double_bits_of_text m s ≡ Some (normal_double p)
 again Special p s small h = double_again p s h
 again Finite p s small h = again_at (double_text p) p s small refl h
 

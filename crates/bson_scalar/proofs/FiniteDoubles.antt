@@ -14,7 +14,7 @@ use Rattle.ryu.proofs.Signs.{parts, finite_number as number_of_finite}
 use Rattle.bson_double.specs.FiniteDoubles.{is_finite, is_number, finite_bits, parsed_finite_bits}
 use Rattle.bson_double.specs.DoubleText.{IsDoubleText}
 use Rattle.bson_double.proofs.Offered.{one_text, read_back}
-use Rattle.bson_scalar.specs.Doubles.{double_pattern, double_text, normal_double, is_nan, is_minus_nan, finite_pattern}
+use Rattle.bson_scalar.specs.Doubles.{special_double_pattern, double_text, normal_double, is_nan, is_minus_nan, finite_float_bits}
 use Rattle.bson_scalar.specs.Shortest.{finite_double_text}
 use Rattle.bson_scalar.proofs.InverseLemmas.{un_some, if_some, key_is}
 use Rattle.bson_scalar.proofs.ShortestText.{finite_text-some, finite_text_is}
@@ -35,7 +35,7 @@ both_if true true n p h = (refl, refl, un_some _ _ h)
 both_if true false n p h = cc
 both_if false b n p h = cc
 
-pub pattern_finite : (x : Float) (p : ℕ) → finite_pattern x ≡ Some p → IsPattern p
+pub pattern_finite : (x : Float) (p : ℕ) → finite_float_bits x ≡ Some p → IsPattern p
 pattern_finite x p h =
     let g = both_if _ _ _ p h in
     subst IsPattern g.2 (bits_finite x (subst T (sym g.0) tt) g.1)
@@ -184,5 +184,5 @@ agree_at false false false false true f s q i j k l m n h = rw (key_is s _ m) (n
 agree_at false false false false false true s q i j k l m n h = rw (key_is s _ n) (no_number (codes "-NaN") q refl)
 agree_at false false false false false false s q i j k l m n h = cc
 
-pub agree : (s : List ℕ) (q : ℕ) → double_pattern s ≡ Some q → Agree s q
+pub agree : (s : List ℕ) (q : ℕ) → special_double_pattern s ≡ Some q → Agree s q
 agree s q h = agree_at _ _ _ _ _ _ s q refl refl refl refl refl refl h

@@ -15,24 +15,24 @@ use Rattle.serde_json.specs.Data as tree
 use Rattle.bson_scalar.specs.Ints.{fits_bits, narrowest_int}
 use Rattle.bson_scalar.specs.Means.{MeansScalar, narrow_number, wide_number, number_int, number_long}
 use Rattle.bson_scalar.specs.Means.{MeansScalarIn, nearest_to_number}
-use Rattle.bson_scalar.specs.Reading.{number_read, number_read_in, or_double_read, int32_read, int64_read, int_of}
+use Rattle.bson_scalar.specs.Reading.{number_read, number_read_in, integer_or_double_read, int32_read, int64_read, parsed_int}
 use Rattle.bson_scalar.specs.Scalar.{Scalar, int32, int64}
-use Rattle.bson_scalar.specs.TreeParts.{object_of_one}
+use Rattle.bson_scalar.specs.TreeParts.{one_key_object}
 use Rattle.bson_scalar.specs.declared.form.Doubles.{Doubles}
 use Rattle.bson_scalar.specs.declared.form.Doubles.TheVariants.{Special, Finite}
 use Rattle.bson_scalar.proofs.InverseLemmas.{means_by, un_ok, text_then, some_then}
 use Rattle.bson_scalar.proofs.IntText.{fits_true, fits_from, int_of_from, int_of_parsed}
 
-pub int32_from : (d : Data) (x : Scalar) → int32_read d ≡ Ok x → MeansScalar (object_of_one (codes "$numberInt") d) x
+pub int32_from : (d : Data) (x : Scalar) → int32_read d ≡ Ok x → MeansScalar (one_key_object (codes "$numberInt") d) x
 int32_from d x h =
     let t = text_then d _ x h in
-    let n = some_then (int_of 31 t.0) _ x t.2 in
+    let n = some_then (parsed_int 31 t.0) _ x t.2 in
     means_by (codes "$numberInt") d _ x _ t.1 (un_ok _ _ n.2) (number_int t.0 n.0 (int_of_from w32 t.0 n.0 n.1))
 
-pub int64_from : (d : Data) (x : Scalar) → int64_read d ≡ Ok x → MeansScalar (object_of_one (codes "$numberLong") d) x
+pub int64_from : (d : Data) (x : Scalar) → int64_read d ≡ Ok x → MeansScalar (one_key_object (codes "$numberLong") d) x
 int64_from d x h =
     let t = text_then d _ x h in
-    let n = some_then (int_of 63 t.0) _ x t.2 in
+    let n = some_then (parsed_int 63 t.0) _ x t.2 in
     means_by (codes "$numberLong") d _ x _ t.1 (un_ok _ _ n.2) (number_long t.0 n.0 (int_of_from w64 t.0 n.0 n.1))
 
 number_at : (b : Bool) (n : Num) (z : ℤ) (x : Scalar) → as_i64 n ≡ Some z → fits_bits 31 z ≡ b
@@ -43,7 +43,7 @@ number_at false n z x is h e = rw e (wide_number n z is (λ f. let t = fits_true
 number_from : (n : Num) (x : Scalar) → number_read n ≡ Ok x → MeansScalar (tree.number n) x
 number_from n x h = let t = some_then (as_i64 n) _ x h in number_at _ n t.0 x t.1 refl (un_ok _ _ t.2)
 
-either_from : (o : Option ℤ) (n : Num) (x : Scalar) → as_i64 n ≡ o → or_double_read o n ≡ Ok x
+either_from : (o : Option ℤ) (n : Num) (x : Scalar) → as_i64 n ≡ o → integer_or_double_read o n ≡ Ok x
     → MeansScalarIn Finite (tree.number n) x
 either_from (Some z) n x is h = inl (number_at _ n z x is refl (un_ok _ _ h))
 either_from None n x is h =
@@ -72,14 +72,14 @@ pub wide_read : (m : Doubles) (n : Num) (z : ℤ) → as_i64 n ≡ Some z → (F
 wide_read m n z is never = whole_read m n z is ∙ ap (λ b. Ok (cond b (int32 z) (int64 z))) (wide _ z refl never)
 
 -- a written number is read again
-pub int_again : (w : Width) (z : ℤ) → FitsSigned w z → mag z < 2 ^ 63 → int_of (hbits w) (signed_decimal z) ≡ Some z
+pub int_again : (w : Width) (z : ℤ) → FitsSigned w z → mag z < 2 ^ 63 → parsed_int (hbits w) (signed_decimal z) ≡ Some z
 int_again w z fits small =
     int_of_parsed w (signed_decimal z) z (λ r h. parse-signed_decimal w z (signed_decimal z) r fits small refl h)
 
-pub int32_again : (z : ℤ) → FitsSigned w32 z → int_of 31 (signed_decimal z) ≡ Some z
+pub int32_again : (z : ℤ) → FitsSigned w32 z → parsed_int 31 (signed_decimal z) ≡ Some z
 int32_again z fits = int_again w32 z fits (let small : mag z < 2 ^ 31 = fits.sfits in omega arith)
 
-pub int64_again : (z : ℤ) → FitsSigned w64 z → int_of 63 (signed_decimal z) ≡ Some z
+pub int64_again : (z : ℤ) → FitsSigned w64 z → parsed_int 63 (signed_decimal z) ≡ Some z
 int64_again z fits = int_again w64 z fits fits.sfits
 
 pub integer_again : (z : ℤ) → FitsSigned w64 z → as_i64 (of_integer z) ≡ Some z

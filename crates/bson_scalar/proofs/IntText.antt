@@ -11,7 +11,7 @@ use lib.Signed.{mag}
 use mir.Syntax.{Width}
 use mir.Val.{hbits}
 use Rattle.bson_scalar.specs.Ints.{IsIntText, fits_bits}
-use Rattle.bson_scalar.specs.Reading.{int_of, is_numeral}
+use Rattle.bson_scalar.specs.Reading.{parsed_int, is_numeral}
 
 own : IsNumeralModel (λ ds. all_ascii_digits ds ≡ true) (digits_value 10)
 own = numerals_by_value _ tells_all_ascii_digits
@@ -36,8 +36,8 @@ chosen false z h = refl
 
 -- what `parse` answers at a signed type is what the definition says
 pub parsed_signed : {E : Type 0} (w : Width) (bs : List ℕ) (r : Result ℤ E) → ParsesSigned w 10 bs r
-    → result_ok r ≡ int_of (hbits w) bs
-unfolding int_of
+    → result_ok r ≡ parsed_int (hbits w) bs
+unfolding parsed_int
 parsed_signed w bs (Ok x) h =
     let digits = numeral_true (without_leading_sign bs) h.0.0 in
     let fits = fits_true (hbits w) (signed_digits_value 10 bs) h.0.1.sfits in
@@ -50,16 +50,16 @@ guarded : (b : Bool) (y z : ℤ) → cond b (Some y) None ≡ Some z → (b ≡ 
 guarded true y z h = (refl, cc)
 guarded false y z h = cc
 
-pub int_of_from : (w : Width) (s : List ℕ) (z : ℤ) → int_of (hbits w) s ≡ Some z → IsIntText w s z
-unfolding int_of
+pub int_of_from : (w : Width) (s : List ℕ) (z : ℤ) → parsed_int (hbits w) s ≡ Some z → IsIntText w s z
+unfolding parsed_int
 int_of_from w s z h =
     let g = guarded _ _ z h in
     let p = and_parts _ _ g.0 in
     let fits : FitsSigned w (signed_digits_value 10 s) = record { sfits = fits_from (hbits w) _ p.1 } in
     (numeral_from _ p.0, g.1, subst (FitsSigned w) (sym g.1) fits)
 
-pub int_of_some : (w : Width) (s : List ℕ) (z : ℤ) → IsIntText w s z → int_of (hbits w) s ≡ Some z
-unfolding int_of
+pub int_of_some : (w : Width) (s : List ℕ) (z : ℤ) → IsIntText w s z → parsed_int (hbits w) s ≡ Some z
+unfolding parsed_int
 int_of_some w s z h =
     let fits : FitsSigned w (signed_digits_value 10 s) = subst (FitsSigned w) h.1 h.2 in
     rw (numeral_true (without_leading_sign s) h.0, fits_true (hbits w) (signed_digits_value 10 s) fits.sfits)
@@ -82,8 +82,8 @@ back_to_some None z h = cc
 
 -- what each parser of the text would give, the definition gives
 pub int_of_parsed : (w : Width) (s : List ℕ) (z : ℤ) → ((r : Result ℤ (Unit {0})) → ParsesSigned w 10 s r → r ≡ Ok z)
-    → int_of (hbits w) s ≡ Some z
-unfolding int_of
+    → parsed_int (hbits w) s ≡ Some z
+unfolding parsed_int
 int_of_parsed w s z each =
     back_to_some _ z (each _ (parses_at w _ s
     (λ b. let p = and_parts _ _ b in (numeral_from _ p.0, record { sfits = fits_from (hbits w) _ p.1 }))

@@ -11,7 +11,7 @@ use Rattle.bson_scalar.specs.Faults.{Fault, ◌>>=◌, or_wrong_shape}
 use Rattle.bson_scalar.specs.Means.{MeansScalar}
 use Rattle.bson_scalar.specs.Reading.{single_key_member, two_members, on_text, on_single_key, on_two_keys}
 use Rattle.bson_scalar.specs.Scalar.{Scalar}
-use Rattle.bson_scalar.specs.TreeParts.{object_of_one, object_of_two}
+use Rattle.bson_scalar.specs.TreeParts.{one_key_object, two_key_object}
 
 pub un_ok : {A : Type 0} (x y : A) → ◌≡◌ {A = Result A Fault} (Ok x) (Ok y) → y ≡ x
 un_ok x y h = cc
@@ -48,7 +48,7 @@ string_is (tree.string t) s h = ap tree.string (un_some _ _ h)
 string_is (tree.array ds) s h = cc
 string_is (tree.object ns) s h = cc
 
-pub lone_is : (a : List ℕ) (d e : Data) → single_key_member a d ≡ Some e → d ≡ object_of_one a e
+pub lone_is : (a : List ℕ) (d e : Data) → single_key_member a d ≡ Some e → d ≡ one_key_object a e
 lone_is a tree.null e h = cc
 lone_is a (tree.boolean b) e h = cc
 lone_is a (tree.number n) e h = cc
@@ -56,10 +56,10 @@ lone_is a (tree.string t) e h = cc
 lone_is a (tree.array ds) e h = cc
 lone_is a (tree.object no_members) e h = cc
 lone_is a (tree.object (member k d no_members)) e h = let g = if_some _ d e h in
-    rw (key_is k a g.0) (ap (λ x. object_of_one a x) g.1)
+    rw (key_is k a g.0) (ap (λ x. one_key_object a x) g.1)
 lone_is a (tree.object (member k d (member l f ms))) e h = cc
 
-pub two_are : (a b : List ℕ) (d : Data) (p : Data × Data) → two_members a b d ≡ Some p → d ≡ object_of_two a p.0 b p.1
+pub two_are : (a b : List ℕ) (d : Data) (p : Data × Data) → two_members a b d ≡ Some p → d ≡ two_key_object a p.0 b p.1
 two_are a b tree.null p h = cc
 two_are a b (tree.boolean t) p h = cc
 two_are a b (tree.number n) p h = cc
@@ -70,7 +70,7 @@ two_are a b (tree.object (member k d no_members)) p h = cc
 two_are a b (tree.object (member k d (member l e no_members))) p h =
     let g = if_some _ (d, e) p h in
     let keys = and_parts _ _ g.0 in
-    rw (key_is k a keys.0, key_is l b keys.1) (ap (λ (q : Data × Data). object_of_two a q.0 b q.1) g.1)
+    rw (key_is k a keys.0, key_is l b keys.1) (ap (λ (q : Data × Data). two_key_object a q.0 b q.1) g.1)
 two_are a b (tree.object (member k d (member l e (member m f ms)))) p h = cc
 
 pub text_then : {X : Type 0} (d : Data) (f : List ℕ → Result X Fault) (x : X) → on_text d f ≡ Ok x
@@ -78,19 +78,19 @@ pub text_then : {X : Type 0} (d : Data) (f : List ℕ → Result X Fault) (x : X
 text_then d f x h = let t = some_then (as_str d) f x h in (t.0, string_is d t.0 t.1, t.2)
 
 pub lone_then : {X : Type 0} (a : List ℕ) (d : Data) (f : Data → Result X Fault) (x : X) → on_single_key a d f ≡ Ok x
-    → (e : Data) × (d ≡ object_of_one a e) × (f e ≡ Ok x)
+    → (e : Data) × (d ≡ one_key_object a e) × (f e ≡ Ok x)
 lone_then a d f x h = let t = some_then (single_key_member a d) f x h in (t.0, lone_is a d t.0 t.1, t.2)
 
 pub two_then : {X : Type 0} (a b : List ℕ) (d : Data) (f : Data → Data → Result X Fault) (x : X) → on_two_keys a b d f ≡ Ok x
-    → (e : Data) × (g : Data) × (d ≡ object_of_two a e b g) × (f e g ≡ Ok x)
+    → (e : Data) × (g : Data) × (d ≡ two_key_object a e b g) × (f e g ≡ Ok x)
 two_then a b d f x h = let t = some_then (two_members a b d) (λ p. f p.0 p.1) x h in
     (t.0.0, t.0.1, two_are a b d t.0 t.1, t.2)
 
-pub two_same : (a b : List ℕ) {d e f g : Data} → d ≡ e → f ≡ g → object_of_two a d b f ≡ object_of_two a e b g
-two_same a b {d} {e} {f} {g} p q = ap (λ x. object_of_two a x b f) p ∙ ap (λ x. object_of_two a e b x) q
+pub two_same : (a b : List ℕ) {d e f g : Data} → d ≡ e → f ≡ g → two_key_object a d b f ≡ two_key_object a e b g
+two_same a b {d} {e} {f} {g} p q = ap (λ x. two_key_object a x b f) p ∙ ap (λ x. two_key_object a e b x) q
 
 -- what the tree is, and what the scalar is, in a production
-pub means_by : (k : List ℕ) (d e : Data) (x y : Scalar) → d ≡ e → x ≡ y → MeansScalar (object_of_one k e) y
-    → MeansScalar (object_of_one k d) x
+pub means_by : (k : List ℕ) (d e : Data) (x y : Scalar) → d ≡ e → x ≡ y → MeansScalar (one_key_object k e) y
+    → MeansScalar (one_key_object k d) x
 means_by k d e x y p q m =
-    subst (λ t. MeansScalar (object_of_one k t) x) (sym p) (subst (λ z. MeansScalar (object_of_one k e) z) (sym q) m)
+    subst (λ t. MeansScalar (one_key_object k t) x) (sym p) (subst (λ z. MeansScalar (one_key_object k e) z) (sym q) m)

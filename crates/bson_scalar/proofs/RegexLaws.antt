@@ -5,11 +5,11 @@ use Rattle.serde_json.specs.Data.{Data}
 use Rattle.bson_scalar.specs.Means.{MeansScalar, regular_expression}
 use Rattle.bson_scalar.specs.Reading.{regex_read}
 use Rattle.bson_scalar.specs.Scalar.{Scalar}
-use Rattle.bson_scalar.specs.TreeParts.{object_of_one}
+use Rattle.bson_scalar.specs.TreeParts.{one_key_object}
 use Rattle.bson_scalar.proofs.InverseLemmas.{means_by, un_ok, text_then, two_then, two_same}
 
 pub regex_from : (d : Data) (x : Scalar) → regex_read d ≡ Ok x
-    → MeansScalar (object_of_one (codes "$regularExpression") d) x
+    → MeansScalar (one_key_object (codes "$regularExpression") d) x
 regex_from d x h =
     let a = two_then (codes "options") (codes "pattern") d _ x h in
     let o = text_then a.0 _ x a.3 in

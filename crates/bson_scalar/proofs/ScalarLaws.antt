@@ -9,12 +9,12 @@ use Rattle.serde_json.specs.Data.{Data, no_members, member}
 use Rattle.serde_json.specs.Data as tree
 use Rattle.serde_json.specs.Find.{of_integer}
 use Rattle.serde_json.specs.Written.{has_float}
-use Rattle.bson_types.specs.Base64.{padded_text}
-use Rattle.bson_scalar.specs.TreeParts.{object_of_one, object_of_two}
+use Rattle.bson_types.specs.Base64.{padded_base64}
+use Rattle.bson_scalar.specs.TreeParts.{one_key_object, two_key_object}
 use Rattle.bson_types.specs.BinarySubtypes.{subtype_byte, subtype_of}
 use Rattle.bson_decimal.specs.DecimalBits.{canonical_decimal}
 use Rattle.bson_decimal.proofs.Offered.{display_text-canon, parses-form}
-use Rattle.bson_scalar.specs.Dates.{is_recent, relaxed_date_tree}
+use Rattle.bson_scalar.specs.Dates.{is_in_years_1970_to_9999, relaxed_date_tree}
 use lib.Signed.{mag}
 use Rattle.bson_scalar.specs.Decimals.{decimal_tree}
 use Rattle.bson_scalar.specs.Doubles.{normal_double}
@@ -44,7 +44,7 @@ use Rattle.bson_scalar.proofs.InverseLemmas as inverse
 use Rattle.bson_scalar.proofs.IntText.{fits_true, int_of_some}
 use Rattle.bson_scalar.proofs.BinaryLaws.{binary_from, uuid_from, bytes_to, bytes_again, byte_again, subtype_byte-of}
 use Rattle.bson_datetime.proofs.Offered.{denotes-names}
-use Rattle.bson_types.proofs.Offered.{hyphenated_to, sized_to, sorted_text-again}
+use Rattle.bson_types.proofs.Offered.{hyphenated_to, sized_to, sorted_regex_options-again}
 use Rattle.bson_scalar.proofs.DateLaws.{date_from, recent_denoted}
 use Rattle.bson_scalar.proofs.DecimalLaws.{decimal_from, decimal_of-some, decimal_of-display_text, canon-again}
 use Rattle.bson_scalar.proofs.DoubleLaws.{nan_form-again}
@@ -64,7 +64,7 @@ use Rattle.bson_scalar.proofs.WrittenDoubles.{double_from as double_from_tree, d
 -- ---- what is read is the meaning
 
 under : (m : Doubles) (w : Wrapper) (d : Data) (x : Scalar) → wrapper_read_in m w d ≡ Ok x
-    → MeansScalarIn m (object_of_one (key_of w) d) x
+    → MeansScalarIn m (one_key_object (key_of w) d) x
 under m Oid d x h = in_each m (oid_from d x h)
 under m Symbol d x h = in_each m (symbol_from d x h)
 under m RegularExpression d x h = in_each m (regex_from d x h)
@@ -100,9 +100,9 @@ key_from k w =
     (key_at k MaxKey _ _ w (is MaxKey) (key_at k Undefined _ _ w (is Undefined) (λ h. cc))))))))))))))))
 
 single_from : (m : Doubles) (k : List ℕ) (d : Data) (o : Option Wrapper) (x : Scalar) → o ≡ wrapper_of k
-    → optional_wrapper_read_in m o d ≡ Ok x → MeansScalarIn m (object_of_one k d) x
+    → optional_wrapper_read_in m o d ≡ Ok x → MeansScalarIn m (one_key_object k d) x
 single_from m k d (Some w) x is h =
-    subst (λ a. MeansScalarIn m (object_of_one a d) x) (sym (key_from k w (sym is))) (under m w d x h)
+    subst (λ a. MeansScalarIn m (one_key_object a d) x) (sym (key_from k w (sym is))) (under m w d x h)
 single_from m k d None x is h = cc
 
 guarded : (b : Bool) (r : Result Scalar Fault) (x : Scalar) → cond b r (Err wrong_shape) ≡ Ok x
@@ -111,11 +111,11 @@ guarded true r x h = (refl, h)
 guarded false r x h = cc
 
 code_text : (e d : Data) (x : Scalar) → code_if_scope_is_null e d ≡ Ok x
-    → MeansScalar (object_of_two (codes "$code") d (codes "$scope") e) x
+    → MeansScalar (two_key_object (codes "$code") d (codes "$scope") e) x
 code_text tree.null d x h =
     let t = inverse.text_then d _ x h in
-    subst (λ e. MeansScalar (object_of_two (codes "$code") e (codes "$scope") tree.null) x) (sym t.1)
-    (subst (λ y. MeansScalar (object_of_two (codes "$code") (tree.string t.0) (codes "$scope") tree.null) y)
+    subst (λ e. MeansScalar (two_key_object (codes "$code") e (codes "$scope") tree.null) x) (sym t.1)
+    (subst (λ y. MeansScalar (two_key_object (codes "$code") (tree.string t.0) (codes "$scope") tree.null) y)
     (sym (inverse.un_ok _ _ t.2)) (means.code_without_scope t.0))
 code_text (tree.boolean b) d x h = cc
 code_text (tree.number n) d x h = cc
@@ -125,12 +125,12 @@ code_text (tree.object ms) d x h = cc
 
 scope_from : (k l : List ℕ) (d e : Data) (x : Scalar)
     → cond (bytes_eq k (codes "$code") && bytes_eq l (codes "$scope")) (code_if_scope_is_null e d) (Err wrong_shape) ≡ Ok x
-    → MeansScalar (object_of_two k d l e) x
+    → MeansScalar (two_key_object k d l e) x
 scope_from k l d e x h =
     let g = guarded _ _ x h in
     let keys = and_parts _ _ g.0 in
-    subst (λ a. MeansScalar (object_of_two a d l e) x) (sym (inverse.key_is k _ keys.0))
-    (subst (λ a. MeansScalar (object_of_two (codes "$code") d a e) x) (sym (inverse.key_is l _ keys.1))
+    subst (λ a. MeansScalar (two_key_object a d l e) x) (sym (inverse.key_is k _ keys.0))
+    (subst (λ a. MeansScalar (two_key_object (codes "$code") d a e) x) (sym (inverse.key_is l _ keys.1))
     (code_text e d x g.1))
 
 pub scalar_from : (m : Doubles) (t : Data) (x : Scalar) → scalar_read_in m t ≡ Ok x → MeansScalarIn m t x
@@ -186,7 +186,7 @@ scalar_one m t x y h g = inverse.un_ok _ _ (sym (scalar_to m t y g) ∙ scalar_t
 -- a scalar that is read is writable, and in normal form, or a NaN of a decimal
 form_each : (m : Doubles) {t : Data} {x : Scalar} → MeansScalar t x → IsReadScalarIn m x
 form_each m (means.number_double s p is) = double_form_in m s p is
-form_each m (means.regular_expression p o) = (refl, ap (regex p) (sorted_text-again o))
+form_each m (means.regular_expression p o) = (refl, ap (regex p) (sorted_regex_options-again o))
 form_each m (means.binary s k bytes n is at) = (refl, ap (λ k. binary (subtype_of k) bytes) (subtype_byte-of n))
 form_each m (means.number_decimal s b is) = (refl, parses-form s b is)
 form_each m means.null = (refl, refl)
@@ -229,22 +229,22 @@ un_ok : {A : Type 0} (x y : A) → ◌≡◌ {A = Result A WriteFault} (Ok x) (O
 un_ok x y h = cc
 
 decimal_same : (b : List ℕ) → decimal_tree (canonical_decimal b) ≡ decimal_tree b
-decimal_same b = ap (λ s. object_of_one (codes "$numberDecimal") (tree.string s)) (display_text-canon b)
+decimal_same b = ap (λ s. one_key_object (codes "$numberDecimal") (tree.string s)) (display_text-canon b)
 
 -- a scalar's tree is that of its normal form
 pub nf_written : (m : Doubles) (f : Form) (x : Scalar) → writes_scalar_in m f (normal_scalar x) ≡ writes_scalar_in m f x
 nf_written m f (double p) = double_normal m f p
-nf_written m f (regex p o) = ap (λ s. Ok (regex_tree p s)) (sorted_text-again o)
+nf_written m f (regex p o) = ap (λ s. Ok (regex_tree p s)) (sorted_regex_options-again o)
 nf_written m f (binary k bytes) =
-    ap (λ n. Ok (object_of_one (codes "$binary")
-    (object_of_two (codes "base64") (tree.string (padded_text bytes)) (codes "subType")
+    ap (λ n. Ok (one_key_object (codes "$binary")
+    (two_key_object (codes "base64") (tree.string (padded_base64 bytes)) (codes "subType")
     (tree.string (encode_lower (n ∷ [])))))) (subtype_byte-of (subtype_byte k))
 nf_written m f (decimal b) = ap Ok (decimal_same b)
 nf_written m f x = refl
 
 pub nf_again : (x : Scalar) → normal_scalar (normal_scalar x) ≡ normal_scalar x
 nf_again (double p) = ap double (nan_form-again p)
-nf_again (regex p o) = ap (regex p) (sorted_text-again o)
+nf_again (regex p o) = ap (regex p) (sorted_regex_options-again o)
 nf_again (binary k bytes) = ap (λ n. binary (subtype_of n) bytes) (subtype_byte-of (subtype_byte k))
 nf_again (decimal b) = ap decimal (canon-again b)
 nf_again x = refl
@@ -253,13 +253,13 @@ nf_again x = refl
 written_at : (m : Doubles) (f : Form) (x : Scalar) (t : Data) → writes_scalar_in m f (normal_scalar x) ≡ Ok t
     → WrittenScalarIn m f (normal_scalar x) t
 written_at m f (double p) t h = double_from_tree m f (normal_double p) t h
-written_at m f (regex p o) t h = un_ok _ _ h ∙ ap (regex_tree p) (sorted_text-again o)
+written_at m f (regex p o) t h = un_ok _ _ h ∙ ap (regex_tree p) (sorted_regex_options-again o)
 written_at m f x t h = un_ok _ _ h
 
 writes_at : (m : Doubles) (f : Form) (x : Scalar) (t : Data) → WrittenScalarIn m f (normal_scalar x) t
     → writes_scalar_in m f (normal_scalar x) ≡ Ok t
 writes_at m f (double p) t h = double_to_tree m f (normal_double p) t h
-writes_at m f (regex p o) t h = ap Ok (ap (regex_tree p) (sorted_text-again o) ∙ sym h)
+writes_at m f (regex p o) t h = ap Ok (ap (regex_tree p) (sorted_regex_options-again o) ∙ sym h)
 writes_at m f x t h = ap Ok (sym h)
 
 pub written_from : (m : Doubles) (f : Form) (x : Scalar) (t : Data) → writes_scalar_in m f x ≡ Ok t → WrittenScalarIn m f (normal_scalar x) t
@@ -289,7 +289,7 @@ int64_back : (m : Doubles) (f : Form) (z : ℤ) → FitsSigned w64 z → scalar_
 int64_back m Canonical z r = rw (int64_again z r) refl
 int64_back m Relaxed z r = number_again m z r
 
-recent_back : (m : Doubles) (b : Bool) (z : ℤ) → is_recent z ≡ b → FitsSigned w64 z → scalar_read_in m (relaxed_date_tree z) ≡ Ok (date z)
+recent_back : (m : Doubles) (b : Bool) (z : ℤ) → is_in_years_1970_to_9999 z ≡ b → FitsSigned w64 z → scalar_read_in m (relaxed_date_tree z) ≡ Ok (date z)
 recent_back m true z e r = rw e (rw (recent_denoted z e) refl)
 recent_back m false z e r = rw e (rw (int64_again z r) refl)
 
@@ -315,7 +315,7 @@ back m f (int64 z) t h r = rw (un_ok _ _ h) (int64_back m f z r)
 back m f (text s) t h r = rw (un_ok _ _ h) refl
 back m f (symbol s) t h r = rw (un_ok _ _ h) refl
 back m f (code s) t h r = rw (un_ok _ _ h) refl
-back m f (regex p o) t h r = rw (un_ok _ _ h) (ap (λ s. Ok (regex p s)) (sorted_text-again o))
+back m f (regex p o) t h r = rw (un_ok _ _ h) (ap (λ s. Ok (regex p s)) (sorted_regex_options-again o))
 back m f (timestamp s i) t h r = rw (un_ok _ _ h) (rw (natural_again s r.0, natural_again i r.1) refl)
 back m f (binary k bytes) t h r = rw (un_ok _ _ h) (rw (bytes_again bytes r.1, byte_again (subtype_byte k) r.0) refl)
 back m f (object_id id) t h r = rw (un_ok _ _ h) (rw (id_again id r.0 r.1) refl)
@@ -375,7 +375,7 @@ int64_none : (f : Form) (z : ℤ) → has_float (int64_form f z) ≡ false
 int64_none Canonical z = refl
 int64_none Relaxed z = whole_none z
 
-recent_none : (b : Bool) (z : ℤ) → is_recent z ≡ b → has_float (relaxed_date_tree z) ≡ false
+recent_none : (b : Bool) (z : ℤ) → is_in_years_1970_to_9999 z ≡ b → has_float (relaxed_date_tree z) ≡ false
 recent_none true z e = rw e refl
 recent_none false z e = rw e refl
 

@@ -4,11 +4,11 @@ use Rattle.std.proofs.Common.{◌||◌, cond, refl, sym, ap, ◌∙◌, subst, i
 use Rattle.std.specs.Prelude.{codes, Some, None, is_some}
 use Rattle.std.proofs.lemmas.Bool.{cases_order, eqb-true, eqb-false, ltb-true, ltb-false}
 use Rattle.bson_double.specs.FiniteDoubles.{is_finite}
-use Rattle.bson_double.specs.ShortestDecimal.{DecimalRoundsTo, IsShortest, HasNoDecimalFrom, scaled_double, scaled_step}
+use Rattle.bson_double.specs.ShortestDecimal.{DecimalRoundsTo, IsShortest, HasNoDecimalFrom, scaled_double, scaled_power_of_ten}
 use Rattle.bson_double.specs.DoubleText.{IsDoubleText, IsUnsignedText, decimal_text}
 use Rattle.bson_double.proofs.Offered.{has_shortest, none_above, beside, floor_under, floor_over, low_taken}
 use Rattle.bson_double.proofs.Offered.{high_taken, IsPositive, step_pos, read_by_bits}
-use Rattle.bson_scalar.specs.Shortest.{is_read, multiple_below, is_some_read, top_power, read_one, digits_at}
+use Rattle.bson_scalar.specs.Shortest.{multiple_rounds, multiple_below, either_multiple_rounds, highest_exponent, chosen_multiple, digits_at_exponent}
 use Rattle.bson_scalar.specs.Shortest.{unsigned_text, finite_double_text}
 use Rattle.bson_scalar.proofs.InverseLemmas.{if_some}
 
@@ -17,23 +17,23 @@ or_no true b h = cc
 or_no false b h = (refl, h)
 
 module _ (p : ℕ) (h : IsPositive p) where
-  is_so : (d k : ℕ) → is_read p d k ≡ true → DecimalRoundsTo p d k
+  is_so : (d k : ℕ) → multiple_rounds p d k ≡ true → DecimalRoundsTo p d k
   is_so d k e = (read_by_bits p d k (let s = h.small in omega arith) h.finite).0 e
 
-  is_not : (d k : ℕ) → is_read p d k ≡ false → DecimalRoundsTo p d k → ⊥
+  is_not : (d k : ℕ) → multiple_rounds p d k ≡ false → DecimalRoundsTo p d k → ⊥
   is_not d k e r = true≢false (sym ((read_by_bits p d k (let s = h.small in omega arith) h.finite).1 r) ∙ e)
 
-  none_read : (k : ℕ) → is_some_read p k ≡ false → (c : ℕ) → DecimalRoundsTo p c k → ⊥
+  none_read : (k : ℕ) → either_multiple_rounds p k ≡ false → (c : ℕ) → DecimalRoundsTo p c k → ⊥
   none_read k e c y =
       let g = or_no _ _ e in
       elim (beside p k c h y) [ inl r ↦ is_not _ k g.0 r | inr r ↦ is_not _ k g.1 r ]
 
   -- the power found is the highest at which a multiple is read
   IsTop : ℕ → Type 0
-  IsTop k = HasNoDecimalFrom p (suc k) × (is_some_read p k ≡ true)
+  IsTop k = HasNoDecimalFrom p (suc k) × (either_multiple_rounds p k ≡ true)
 
-  top_step : (n : ℕ) (b : Bool) → is_some_read p n ≡ b → HasNoDecimalFrom p (suc n)
-      → (HasNoDecimalFrom p n → IsTop (top_power p n)) → IsTop (cond b n (top_power p n))
+  top_step : (n : ℕ) (b : Bool) → either_multiple_rounds p n ≡ b → HasNoDecimalFrom p (suc n)
+      → (HasNoDecimalFrom p n → IsTop (highest_exponent p n)) → IsTop (cond b n (highest_exponent p n))
   unfolding IsTop
   top_step n true e none rest = (none, e)
   top_step n false e none rest = rest (λ c j l y. elim (cases_order j n) [
@@ -42,16 +42,16 @@ module _ (p : ℕ) (h : IsPositive p) where
     | inr (inr m) ↦ none c j (omega (arith, m)) y
   ])
 
-  top_is : (n : ℕ) → HasNoDecimalFrom p n → IsTop (top_power p n)
-  unfolding top_power
+  top_is : (n : ℕ) → HasNoDecimalFrom p n → IsTop (highest_exponent p n)
+  unfolding highest_exponent
   top_is zero none = let x = has_shortest p h in absurd (none x.0 x.1 (omega arith) x.2.read)
-  top_is (suc n) none = top_step n (is_some_read p n) refl none (top_is n)
+  top_is (suc n) none = top_step n (either_multiple_rounds p n) refl none (top_is n)
 
-  -- of the two multiples beside the double the one that is taken
-  near_at : (k f : ℕ) (l e v : Bool) → HasNoDecimalFrom p (suc k) → f * scaled_step k ≤ scaled_double p
-      → scaled_double p < (f + 1) * scaled_step k → DecimalRoundsTo p f k → DecimalRoundsTo p (f + 1) k
-      → nat_lt (2 * scaled_double p) ((2 * f + 1) * scaled_step k) ≡ l
-      → nat_eq (2 * scaled_double p) ((2 * f + 1) * scaled_step k) ≡ e → nat_eq (f % 2) 0 ≡ v
+  -- of the two multiples beside the double the one that is chosen
+  near_at : (k f : ℕ) (l e v : Bool) → HasNoDecimalFrom p (suc k) → f * scaled_power_of_ten k ≤ scaled_double p
+      → scaled_double p < (f + 1) * scaled_power_of_ten k → DecimalRoundsTo p f k → DecimalRoundsTo p (f + 1) k
+      → nat_lt (2 * scaled_double p) ((2 * f + 1) * scaled_power_of_ten k) ≡ l
+      → nat_eq (2 * scaled_double p) ((2 * f + 1) * scaled_power_of_ten k) ≡ e → nat_eq (f % 2) 0 ≡ v
       → IsShortest p (cond l f (cond (e && v) f (f + 1))) k
   near_at k f true e v none under beyond x y i j n =
       low_taken p k f h none under x (inr (inl (ltb-true _ _ i)))
@@ -59,7 +59,7 @@ module _ (p : ℕ) (h : IsPositive p) where
       low_taken p k f h none under x (inr (inr (eqb-true _ _ j, eqb-true _ _ n)))
   near_at k f false true false none under beyond x y i j n =
       high_taken p k f h none beyond y
-      (inr (inr (middle (scaled_double p) (scaled_step k) (eqb-true _ _ j), odd (eqb-false _ _ n))))
+      (inr (inr (middle (scaled_double p) (scaled_power_of_ten k) (eqb-true _ _ j), odd (eqb-false _ _ n))))
     where
       middle : (X Y : ℕ) → 2 * X ≡ (2 * f + 1) * Y → (2 * (f + 1) - 1) * Y ≡ 2 * X
       middle X Y e = (let at : 2 * (f + 1) - 1 ≡ 2 * f + 1 = omega arith in ap (λ z. z * Y) at ∙ sym e)
@@ -68,7 +68,7 @@ module _ (p : ℕ) (h : IsPositive p) where
       odd uneven = omega (arith, uneven)
   near_at k f false false v none under beyond x y i j n =
       high_taken p k f h none beyond y
-      (inr (inl (past (scaled_double p) (scaled_step k) (ltb-false _ _ i) (eqb-false _ _ j))))
+      (inr (inl (past (scaled_double p) (scaled_power_of_ten k) (ltb-false _ _ i) (eqb-false _ _ j))))
     where
       past : (X Y : ℕ) → (2 * f + 1) * Y ≤ 2 * X → (2 * X ≡ (2 * f + 1) * Y → ⊥) → (2 * (f + 1) - 1) * Y < 2 * X
       past X Y l other = (let at : 2 * (f + 1) - 1 ≡ 2 * f + 1 = omega arith in
@@ -77,9 +77,9 @@ module _ (p : ℕ) (h : IsPositive p) where
           apart : (a b : ℕ) → a ≤ b → (a ≡ b → ⊥) → a < b
           apart a b l other = omega (arith, l, other)
 
-  pick : (k f : ℕ) (a b : Bool) → HasNoDecimalFrom p (suc k) → f * scaled_step k ≤ scaled_double p
-      → scaled_double p < (f + 1) * scaled_step k → is_read p f k ≡ a → is_read p (f + 1) k ≡ b → (a || b) ≡ true
-      → IsShortest p (read_one a b p k f) k
+  pick : (k f : ℕ) (a b : Bool) → HasNoDecimalFrom p (suc k) → f * scaled_power_of_ten k ≤ scaled_double p
+      → scaled_double p < (f + 1) * scaled_power_of_ten k → multiple_rounds p f k ≡ a → multiple_rounds p (f + 1) k ≡ b → (a || b) ≡ true
+      → IsShortest p (chosen_multiple a b p k f) k
   pick k f true true none under beyond i j some =
       near_at k f _ _ _ none under beyond (is_so f k i) (is_so (f + 1) k j) refl refl refl
   pick k f true false none under beyond i j some =
@@ -89,19 +89,19 @@ module _ (p : ℕ) (h : IsPositive p) where
       (inl (λ x. is_not f k i (let same : f + 1 - 1 ≡ f = omega arith in subst (λ d. DecimalRoundsTo p d k) same x)))
   pick k f false false none under beyond i j some = cc
 
-  digits_shortest : (k : ℕ) → IsTop k → IsShortest p (digits_at p k) k
-  unfolding IsTop digits_at
+  digits_shortest : (k : ℕ) → IsTop k → IsShortest p (digits_at_exponent p k) k
+  unfolding IsTop digits_at_exponent
   digits_shortest k top =
-      pick k (multiple_below p k) _ _ top.0 (floor_under (scaled_double p) (scaled_step k))
-      (floor_over (scaled_double p) (scaled_step k) (step_pos k)) refl refl top.1
+      pick k (multiple_below p k) _ _ top.0 (floor_under (scaled_double p) (scaled_power_of_ten k))
+      (floor_over (scaled_double p) (scaled_power_of_ten k) (step_pos k)) refl refl top.1
 
-  pub positive_text : IsUnsignedText p (decimal_text (digits_at p (top_power p 1500)) (top_power p 1500))
+  pub positive_text : IsUnsignedText p (decimal_text (digits_at_exponent p (highest_exponent p 1500)) (highest_exponent p 1500))
   positive_text =
-      let top = top_power p 1500 in
-      inr (digits_at p top, top, digits_shortest top (top_is 1500 (none_above p h)), refl)
+      let top = highest_exponent p 1500 in
+      inr (digits_at_exponent p top, top, digits_shortest top (top_is 1500 (none_above p h)), refl)
 
 text_at : (p : ℕ) (b : Bool) → nat_eq p 0 ≡ b → p < 2 ^ 63 → is_finite p ≡ true
-    → IsUnsignedText p (cond b (codes "0.0") (decimal_text (digits_at p (top_power p 1500)) (top_power p 1500)))
+    → IsUnsignedText p (cond b (codes "0.0") (decimal_text (digits_at_exponent p (highest_exponent p 1500)) (highest_exponent p 1500)))
 text_at p true e small finite = inl (eqb-true p 0 e, refl)
 text_at p false e small finite =
     let other = eqb-false p 0 e in

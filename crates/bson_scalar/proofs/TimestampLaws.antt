@@ -6,11 +6,11 @@ use Rattle.serde_json.specs.Data.{Data}
 use Rattle.bson_scalar.specs.Means.{MeansScalar, timestamp}
 use Rattle.bson_scalar.specs.Reading.{timestamp_read}
 use Rattle.bson_scalar.specs.Scalar.{Scalar}
-use Rattle.bson_scalar.specs.TreeParts.{u32_at, object_of_one, natural}
+use Rattle.bson_scalar.specs.TreeParts.{u32_at, one_key_object, natural}
 use Rattle.bson_scalar.proofs.InverseLemmas.{means_by, un_ok, some_then, two_then}
 
 pub timestamp_from : (d : Data) (x : Scalar) → timestamp_read d ≡ Ok x
-    → MeansScalar (object_of_one (codes "$timestamp") d) x
+    → MeansScalar (one_key_object (codes "$timestamp") d) x
 timestamp_from d x h =
     let a = two_then (codes "i") (codes "t") d _ x h in
     let i = some_then (u32_at a.0) _ x a.3 in

@@ -3,15 +3,15 @@
 use Rattle.std.specs.Prelude.{true}
 use Rattle.serde_json.specs.Data.{Data}
 use Rattle.serde_json.specs.Data as tree
-use Rattle.bson_scalar.specs.TreeParts.{object_of_one, natural}
+use Rattle.bson_scalar.specs.TreeParts.{one_key_object, natural}
 use Rattle.bson_scalar.specs.Table.{key_of}
 use Rattle.bson_scalar.specs.declared.wrapper.Wrapper.TheVariants.{MinKey, MaxKey, Undefined}
 
 abbrev pub min_key_tree : Data
-min_key_tree = object_of_one (key_of MinKey) (natural 1)
+min_key_tree = one_key_object (key_of MinKey) (natural 1)
 
 abbrev pub max_key_tree : Data
-max_key_tree = object_of_one (key_of MaxKey) (natural 1)
+max_key_tree = one_key_object (key_of MaxKey) (natural 1)
 
 abbrev pub undefined_tree : Data
-undefined_tree = object_of_one (key_of Undefined) (tree.boolean true)
+undefined_tree = one_key_object (key_of Undefined) (tree.boolean true)

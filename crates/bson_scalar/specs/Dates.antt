@@ -6,16 +6,18 @@ use Rattle.bson_datetime.specs.DateTimeText.{rfc3339_text}
 use Rattle.serde_json.specs.Data.{Data}
 use Rattle.serde_json.specs.Data as tree
 use Rattle.bson_scalar.specs.Ints.{int64_tree}
-use Rattle.bson_scalar.specs.TreeParts.{object_of_one}
+use Rattle.bson_scalar.specs.TreeParts.{one_key_object}
 use Rattle.bson_scalar.specs.Table.{key_of}
 use Rattle.bson_scalar.specs.declared.wrapper.Wrapper.TheVariants.{Date}
 
-abbrev pub date_tree : ℤ → Data
-date_tree z = object_of_one (key_of Date) (int64_tree z)
+abbrev pub date_tree : (millis : ℤ) → Data
+date_tree millis = one_key_object (key_of Date) (int64_tree millis)
 
 -- from the epoch to the end of the year 9999
-abbrev pub is_recent : ℤ → Bool
-is_recent z = int_le (pos 0) z && int_le z (pos 253_402_300_799_999)
+abbrev pub is_in_years_1970_to_9999 : (millis : ℤ) → Bool
+is_in_years_1970_to_9999 millis = int_le (pos 0) millis && int_le millis (pos 253_402_300_799_999)
 
-abbrev pub relaxed_date_tree : ℤ → Data
-relaxed_date_tree z = if is_recent z then object_of_one (key_of Date) (tree.string (rfc3339_text z)) else date_tree z
+abbrev pub relaxed_date_tree : (millis : ℤ) → Data
+relaxed_date_tree millis =
+    if is_in_years_1970_to_9999 millis then one_key_object (key_of Date) (tree.string (rfc3339_text millis))
+    else date_tree millis

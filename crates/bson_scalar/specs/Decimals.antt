@@ -4,9 +4,9 @@ use Rattle.std.specs.Prelude.{ℕ, List}
 use Rattle.bson_decimal.specs.DecimalText.{decimal128_text as decimal_text}
 use Rattle.serde_json.specs.Data.{Data}
 use Rattle.serde_json.specs.Data as tree
-use Rattle.bson_scalar.specs.TreeParts.{object_of_one}
+use Rattle.bson_scalar.specs.TreeParts.{one_key_object}
 use Rattle.bson_scalar.specs.Table.{key_of}
 use Rattle.bson_scalar.specs.declared.wrapper.Wrapper.TheVariants.{NumberDecimal}
 
-abbrev pub decimal_tree : List ℕ → Data
-decimal_tree b = object_of_one (key_of NumberDecimal) (tree.string (decimal_text b))
+abbrev pub decimal_tree : (decimal_bytes : List ℕ) → Data
+decimal_tree decimal_bytes = one_key_object (key_of NumberDecimal) (tree.string (decimal_text decimal_bytes))

@@ -11,7 +11,7 @@ use Rattle.bson_double.specs.DoubleText.{IsDoubleText}
 use Rattle.serde_json.specs.Data.{Data, Num}
 use Rattle.serde_json.specs.Data as tree
 use Rattle.serde_json.specs.Find.{to_float}
-use Rattle.bson_scalar.specs.TreeParts.{object_of_one}
+use Rattle.bson_scalar.specs.TreeParts.{one_key_object}
 use Rattle.bson_scalar.specs.Shortest.{finite_double_text}
 use Rattle.bson_scalar.specs.Table.{key_of}
 use Rattle.bson_scalar.specs.declared.form.Doubles.{Doubles}
@@ -20,33 +20,36 @@ use Rattle.bson_scalar.specs.declared.wrapper.Wrapper.TheVariants.{NumberDouble}
 
 -- a zero, an infinity or a NaN: all bits but the sign are 0; or the exponent, 11 bits below the sign, is all ones
 -- (IEEE 754-2008 section 3.4)
-abbrev pub is_special : ℕ → Bool
-is_special bit_pattern = (bit_pattern == 0 || bit_pattern == 2 ^ 63) || (bit_pattern / 2 ^ 52 == 0x7FF || bit_pattern / 2 ^ 52 == 0xFFF)
+abbrev pub is_special : (bit_pattern : ℕ) → Bool
+is_special bit_pattern =
+    (bit_pattern == 0 || bit_pattern == 2 ^ 63) || (bit_pattern / 2 ^ 52 == 0x7FF || bit_pattern / 2 ^ 52 == 0xFFF)
 
 -- the pattern that a text means
-abbrev pub double_pattern : List ℕ → Option ℕ
-double_pattern s =
-    if bytes_eq s (codes "0.0") then Some 0
-    else if bytes_eq s (codes "-0.0") then Some 0x8000000000000000
-    else if bytes_eq s (codes "Infinity") then Some 0x7FF0000000000000
-    else if bytes_eq s (codes "-Infinity") then Some 0xFFF0000000000000
-    else if bytes_eq s (codes "NaN") then Some 0x7FF8000000000000
-    else if bytes_eq s (codes "-NaN") then Some 0xFFF8000000000000
+abbrev pub special_double_pattern : (text_bytes : List ℕ) → Option ℕ
+special_double_pattern text_bytes =
+    if bytes_eq text_bytes (codes "0.0") then Some 0
+    else if bytes_eq text_bytes (codes "-0.0") then Some 0x8000000000000000
+    else if bytes_eq text_bytes (codes "Infinity") then Some 0x7FF0000000000000
+    else if bytes_eq text_bytes (codes "-Infinity") then Some 0xFFF0000000000000
+    else if bytes_eq text_bytes (codes "NaN") then Some 0x7FF8000000000000
+    else if bytes_eq text_bytes (codes "-NaN") then Some 0xFFF8000000000000
     else None
 
 -- all bits of the exponent set, and one of the significand: with sign bit 0, and with sign bit 1
-abbrev pub is_nan : ℕ → Bool
+abbrev pub is_nan : (bit_pattern : ℕ) → Bool
 is_nan bit_pattern = nat_lt 0x7FF0000000000000 bit_pattern && nat_lt bit_pattern 0x8000000000000000
 
-abbrev pub is_minus_nan : ℕ → Bool
+abbrev pub is_minus_nan : (bit_pattern : ℕ) → Bool
 is_minus_nan bit_pattern = nat_lt 0xFFF0000000000000 bit_pattern && nat_lt bit_pattern 0x10000000000000000
 
 -- a NaN as the pattern that its text means
-abbrev pub normal_double : ℕ → ℕ
-normal_double bit_pattern = if is_nan bit_pattern then 0x7FF8000000000000 else if is_minus_nan bit_pattern then 0xFFF8000000000000 else bit_pattern
+abbrev pub normal_double : (bit_pattern : ℕ) → ℕ
+normal_double bit_pattern =
+    if is_nan bit_pattern then 0x7FF8000000000000 else if is_minus_nan bit_pattern then 0xFFF8000000000000
+    else bit_pattern
 
 -- the text of a pattern, if it has one
-abbrev pub double_text : ℕ → Option (List ℕ)
+abbrev pub double_text : (bit_pattern : ℕ) → Option (List ℕ)
 double_text bit_pattern =
     if bit_pattern == 0 then Some (codes "0.0")
     else if bit_pattern == 0x8000000000000000 then Some (codes "-0.0")
@@ -56,42 +59,43 @@ double_text bit_pattern =
     else if is_minus_nan bit_pattern then Some (codes "-NaN")
     else None
 
-abbrev pub double_tree : List ℕ → Data
-double_tree s = object_of_one (key_of NumberDouble) (tree.string s)
+abbrev pub double_tree : (text_bytes : List ℕ) → Data
+double_tree text_bytes = one_key_object (key_of NumberDouble) (tree.string text_bytes)
 
 -- ---- in each of the two modes
 
-abbrev pub or_finite_of : Option ℕ → List ℕ → Option ℕ
-or_finite_of (Some bit_pattern) s = Some bit_pattern
-or_finite_of None s = parsed_finite_bits s
+abbrev pub or_parsed_finite_bits : (special_bits : Option ℕ) → (text_bytes : List ℕ) → Option ℕ
+or_parsed_finite_bits (Some bit_pattern) text_bytes = Some bit_pattern
+or_parsed_finite_bits None text_bytes = parsed_finite_bits text_bytes
 
 -- the pattern that a text means: in the mode `Finite` also that of the double nearest to a decimal number
-abbrev pub double_in : Doubles → List ℕ → Option ℕ
-double_in Special s = double_pattern s
-double_in Finite s = or_finite_of (double_pattern s) s
+abbrev pub double_bits_of_text : Doubles → (text_bytes : List ℕ) → Option ℕ
+double_bits_of_text Special text_bytes = special_double_pattern text_bytes
+double_bits_of_text Finite text_bytes = or_parsed_finite_bits (special_double_pattern text_bytes) text_bytes
 
 -- the pattern of the double nearest to a JSON number, where it is finite
-abbrev pub finite_pattern : Float → Option ℕ
-finite_pattern x = if fits binary64 x then finite_bits x else None
+abbrev pub finite_float_bits : Float → Option ℕ
+finite_float_bits float_value = if fits binary64 float_value then finite_bits float_value else None
 
 abbrev pub finite_number : Num → Option ℕ
-finite_number n = finite_pattern (to_float n)
+finite_number json_number = finite_float_bits (to_float json_number)
 
 -- whether the pattern has a text
-abbrev pub is_writable : Doubles → ℕ → Bool
+abbrev pub is_writable : Doubles → (bit_pattern : ℕ) → Bool
 is_writable Special bit_pattern = is_special bit_pattern
 is_writable Finite bit_pattern = is_special bit_pattern || is_finite bit_pattern
 
 -- the pattern has this text: in the mode `Finite` also its shortest decimal
-abbrev pub IsDoubleTextIn : Doubles → ℕ → List ℕ → Type 0
-IsDoubleTextIn Special bit_pattern s = double_text bit_pattern ≡ Some s
-IsDoubleTextIn Finite bit_pattern s = (double_text bit_pattern ≡ Some s) ⊎ ((is_finite bit_pattern ≡ true) × IsDoubleText bit_pattern s)
+abbrev pub IsDoubleTextIn : Doubles → (bit_pattern : ℕ) (text_bytes : List ℕ) → Type 0
+IsDoubleTextIn Special bit_pattern text_bytes = double_text bit_pattern ≡ Some text_bytes
+IsDoubleTextIn Finite bit_pattern text_bytes = (double_text bit_pattern ≡ Some text_bytes)
+    ⊎ ((is_finite bit_pattern ≡ true) × IsDoubleText bit_pattern text_bytes)
 
 -- the same as functions, for the proofs
-abbrev pub or_finite_text : Option (List ℕ) → ℕ → Option (List ℕ)
-or_finite_text (Some s) bit_pattern = Some s
+abbrev pub or_finite_text : (special_text : Option (List ℕ)) → (bit_pattern : ℕ) → Option (List ℕ)
+or_finite_text (Some text_bytes) bit_pattern = Some text_bytes
 or_finite_text None bit_pattern = finite_double_text bit_pattern
 
-abbrev pub double_text_in : Doubles → ℕ → Option (List ℕ)
+abbrev pub double_text_in : Doubles → (bit_pattern : ℕ) → Option (List ℕ)
 double_text_in Special bit_pattern = double_text bit_pattern
 double_text_in Finite bit_pattern = or_finite_text (double_text bit_pattern) bit_pattern

@@ -9,7 +9,7 @@ use Rattle.serde_json.specs.Find.{as_i64}
 -- what the texts in a tree mean, each in the words of its own standard
 pub use Rattle.bson_types.specs.Base64.{IsBase64}
 pub use Rattle.bson_types.specs.ObjectIds.{IsOidText}
-pub use Rattle.bson_types.specs.Regex.{sorted_text}
+pub use Rattle.bson_types.specs.Regex.{sorted_regex_options}
 pub use Rattle.bson_types.specs.BinarySubtypes.{subtype_of}
 pub use Rattle.bson_types.specs.Uuid.{IsHyphenatedText}
 pub use Rattle.bson_types.specs.declared.spec.BinarySubtype.TheVariants.{Uuid}
@@ -17,78 +17,90 @@ pub use Rattle.bson_datetime.specs.Rfc3339Grammar.{DenotesDateTime}
 pub use Rattle.bson_decimal.specs.DecimalStrings.{DenotesDecimal}
 pub use Rattle.bson_scalar.specs.Binaries.{IsByteText}
 use Rattle.bson_double.specs.FiniteDoubles.{parsed_finite_bits}
-use Rattle.bson_scalar.specs.Doubles.{double_pattern, finite_number}
+use Rattle.bson_scalar.specs.Doubles.{special_double_pattern, finite_number}
 use Rattle.bson_scalar.specs.Ints.{IsIntText}
 use Rattle.bson_scalar.specs.Scalar.{Scalar}
 use Rattle.bson_scalar.specs.Scalar as kind
-use Rattle.bson_scalar.specs.TreeParts.{object_of_one, object_of_two, i64_at, u32_at}
+use Rattle.bson_scalar.specs.TreeParts.{one_key_object, two_key_object, i64_at, u32_at}
 use Rattle.bson_scalar.specs.declared.form.Doubles.{Doubles}
 use Rattle.bson_scalar.specs.declared.form.Doubles.TheVariants.{Special, Finite}
 
 -- the tree means the scalar
 pub data MeansScalar : Data → Scalar → Type 0 where
   null : MeansScalar tree.null kind.null
-  boolean : (b : Bool) → MeansScalar (tree.boolean b) (kind.boolean b)
-  text : (s : List ℕ) → MeansScalar (tree.string s) (kind.text s)
+  boolean : (truth_value : Bool) → MeansScalar (tree.boolean truth_value) (kind.boolean truth_value)
+  text : (text_bytes : List ℕ) → MeansScalar (tree.string text_bytes) (kind.text text_bytes)
   -- an integer, as the narrower kind that has it
-  narrow_number : (n : Num) (z : ℤ) → as_i64 n ≡ Some z → FitsSigned w32 z → MeansScalar (tree.number n) (kind.int32 z)
-  wide_number : (n : Num) (z : ℤ) → as_i64 n ≡ Some z → (FitsSigned w32 z → ⊥)
-      → MeansScalar (tree.number n) (kind.int64 z)
-  number_int : (s : List ℕ) (z : ℤ) → IsIntText w32 s z
-      → MeansScalar (object_of_one (codes "$numberInt") (tree.string s)) (kind.int32 z)
-  number_long : (s : List ℕ) (z : ℤ) → IsIntText w64 s z
-      → MeansScalar (object_of_one (codes "$numberLong") (tree.string s)) (kind.int64 z)
-  number_double : (s : List ℕ) (pattern : ℕ) → double_pattern s ≡ Some pattern
-      → MeansScalar (object_of_one (codes "$numberDouble") (tree.string s)) (kind.double pattern)
-  number_decimal : (s b : List ℕ) → DenotesDecimal s b
-      → MeansScalar (object_of_one (codes "$numberDecimal") (tree.string s)) (kind.decimal b)
-  symbol : (s : List ℕ) → MeansScalar (object_of_one (codes "$symbol") (tree.string s)) (kind.symbol s)
-  code : (s : List ℕ) → MeansScalar (object_of_one (codes "$code") (tree.string s)) (kind.code s)
-  code_without_scope : (s : List ℕ)
-      → MeansScalar (object_of_two (codes "$code") (tree.string s) (codes "$scope") tree.null) (kind.code s)
+  narrow_number : (json_number : Num) (integer_value : ℤ) → as_i64 json_number ≡ Some integer_value
+      → FitsSigned w32 integer_value → MeansScalar (tree.number json_number) (kind.int32 integer_value)
+  wide_number : (json_number : Num) (integer_value : ℤ) → as_i64 json_number ≡ Some integer_value
+      → (FitsSigned w32 integer_value → ⊥)
+      → MeansScalar (tree.number json_number) (kind.int64 integer_value)
+  number_int : (text_bytes : List ℕ) (integer_value : ℤ) → IsIntText w32 text_bytes integer_value
+      → MeansScalar (one_key_object (codes "$numberInt") (tree.string text_bytes)) (kind.int32 integer_value)
+  number_long : (text_bytes : List ℕ) (integer_value : ℤ) → IsIntText w64 text_bytes integer_value
+      → MeansScalar (one_key_object (codes "$numberLong") (tree.string text_bytes)) (kind.int64 integer_value)
+  number_double : (text_bytes : List ℕ) (pattern : ℕ) → special_double_pattern text_bytes ≡ Some pattern
+      → MeansScalar (one_key_object (codes "$numberDouble") (tree.string text_bytes)) (kind.double pattern)
+  number_decimal : (text_bytes decimal_bytes : List ℕ) → DenotesDecimal text_bytes decimal_bytes
+      → MeansScalar (one_key_object (codes "$numberDecimal") (tree.string text_bytes)) (kind.decimal decimal_bytes)
+  symbol : (text_bytes : List ℕ)
+      → MeansScalar (one_key_object (codes "$symbol") (tree.string text_bytes)) (kind.symbol text_bytes)
+  code : (text_bytes : List ℕ)
+      → MeansScalar (one_key_object (codes "$code") (tree.string text_bytes)) (kind.code text_bytes)
+  code_without_scope : (text_bytes : List ℕ)
+      → MeansScalar (two_key_object (codes "$code") (tree.string text_bytes) (codes "$scope") tree.null)
+      (kind.code text_bytes)
   regular_expression : (pattern options : List ℕ)
       → MeansScalar
-      (object_of_one (codes "$regularExpression")
-      (object_of_two (codes "options") (tree.string options) (codes "pattern") (tree.string pattern)))
-      (kind.regex pattern (sorted_text options))
-  oid : (s id : List ℕ) → IsOidText s id
-      → MeansScalar (object_of_one (codes "$oid") (tree.string s)) (kind.object_id id)
-  db_pointer : (name s id : List ℕ) → IsOidText s id
+      (one_key_object (codes "$regularExpression")
+      (two_key_object (codes "options") (tree.string options) (codes "pattern") (tree.string pattern)))
+      (kind.regex pattern (sorted_regex_options options))
+  oid : (text_bytes id : List ℕ) → IsOidText text_bytes id
+      → MeansScalar (one_key_object (codes "$oid") (tree.string text_bytes)) (kind.object_id id)
+  db_pointer : (namespace text_bytes id : List ℕ) → IsOidText text_bytes id
       → MeansScalar
-      (object_of_one (codes "$dbPointer")
-      (object_of_two (codes "$id") (object_of_one (codes "$oid") (tree.string s)) (codes "$ref")
-      (tree.string name)))
-      (kind.db_pointer name id)
+      (one_key_object (codes "$dbPointer")
+      (two_key_object (codes "$id") (one_key_object (codes "$oid") (tree.string text_bytes)) (codes "$ref")
+      (tree.string namespace)))
+      (kind.db_pointer namespace id)
   -- t is the time, i the increment
-  timestamp : (i t : Data) (m n : ℕ) → u32_at i ≡ Some m → u32_at t ≡ Some n
-      → MeansScalar (object_of_one (codes "$timestamp") (object_of_two (codes "i") i (codes "t") t))
-      (kind.timestamp n m)
-  date_of_millis : (s : List ℕ) (z : ℤ) → IsIntText w64 s z
-      → MeansScalar (object_of_one (codes "$date") (object_of_one (codes "$numberLong") (tree.string s))) (kind.date z)
-  date_of_text : (s : List ℕ) (z : ℤ) → DenotesDateTime s z
-      → MeansScalar (object_of_one (codes "$date") (tree.string s)) (kind.date z)
-  date_of_number : (n : Num) (z : ℤ) → as_i64 n ≡ Some z
-      → MeansScalar (object_of_one (codes "$date") (tree.number n)) (kind.date z)
-  binary : (s k bytes : List ℕ) (n : ℕ) → IsBase64 s bytes → IsByteText k n
+  timestamp : (increment_tree time_tree : Data) (increment time : ℕ) → u32_at increment_tree ≡ Some increment
+      → u32_at time_tree ≡ Some time
       → MeansScalar
-      (object_of_one (codes "$binary")
-      (object_of_two (codes "base64") (tree.string s) (codes "subType") (tree.string k)))
-      (kind.binary (subtype_of n) bytes)
-  uuid : (s id : List ℕ) → IsHyphenatedText s id
-      → MeansScalar (object_of_one (codes "$uuid") (tree.string s)) (kind.binary Uuid id)
+      (one_key_object (codes "$timestamp") (two_key_object (codes "i") increment_tree (codes "t") time_tree))
+      (kind.timestamp time increment)
+  date_of_millis : (text_bytes : List ℕ) (integer_value : ℤ) → IsIntText w64 text_bytes integer_value
+      → MeansScalar (one_key_object (codes "$date") (one_key_object (codes "$numberLong") (tree.string text_bytes)))
+      (kind.date integer_value)
+  date_of_text : (text_bytes : List ℕ) (integer_value : ℤ) → DenotesDateTime text_bytes integer_value
+      → MeansScalar (one_key_object (codes "$date") (tree.string text_bytes)) (kind.date integer_value)
+  date_of_number : (json_number : Num) (integer_value : ℤ) → as_i64 json_number ≡ Some integer_value
+      → MeansScalar (one_key_object (codes "$date") (tree.number json_number)) (kind.date integer_value)
+  binary : (base64_text subtype_text bytes : List ℕ) (subtype_number : ℕ) → IsBase64 base64_text bytes
+      → IsByteText subtype_text subtype_number
+      → MeansScalar
+      (one_key_object (codes "$binary")
+      (two_key_object (codes "base64") (tree.string base64_text) (codes "subType") (tree.string subtype_text)))
+      (kind.binary (subtype_of subtype_number) bytes)
+  uuid : (text_bytes id : List ℕ) → IsHyphenatedText text_bytes id
+      → MeansScalar (one_key_object (codes "$uuid") (tree.string text_bytes)) (kind.binary Uuid id)
   -- the number 1
-  min_key : (d : Data) → i64_at d ≡ Some (pos 1) → MeansScalar (object_of_one (codes "$minKey") d) kind.min_key
-  max_key : (d : Data) → i64_at d ≡ Some (pos 1) → MeansScalar (object_of_one (codes "$maxKey") d) kind.max_key
-  undefined : MeansScalar (object_of_one (codes "$undefined") (tree.boolean true)) kind.undefined
+  min_key : (content : Data) → i64_at content ≡ Some (pos 1)
+      → MeansScalar (one_key_object (codes "$minKey") content) kind.min_key
+  max_key : (content : Data) → i64_at content ≡ Some (pos 1)
+      → MeansScalar (one_key_object (codes "$maxKey") content) kind.max_key
+  undefined : MeansScalar (one_key_object (codes "$undefined") (tree.boolean true)) kind.undefined
 
 -- the tree means the double that is nearest to a decimal number, and finite
 pub data MeansFinite : Data → Scalar → Type 0 where
-  nearest_to_text : (s : List ℕ) (pattern : ℕ) → parsed_finite_bits s ≡ Some pattern
-      → MeansFinite (object_of_one (codes "$numberDouble") (tree.string s)) (kind.double pattern)
+  nearest_to_text : (text_bytes : List ℕ) (pattern : ℕ) → parsed_finite_bits text_bytes ≡ Some pattern
+      → MeansFinite (one_key_object (codes "$numberDouble") (tree.string text_bytes)) (kind.double pattern)
   -- a number that is no i64
-  nearest_to_number : (n : Num) (pattern : ℕ) → as_i64 n ≡ None → finite_number n ≡ Some pattern
-      → MeansFinite (tree.number n) (kind.double pattern)
+  nearest_to_number : (json_number : Num) (pattern : ℕ) → as_i64 json_number ≡ None
+      → finite_number json_number ≡ Some pattern
+      → MeansFinite (tree.number json_number) (kind.double pattern)
 
 abbrev pub MeansScalarIn : Doubles → Data → Scalar → Type 0
-MeansScalarIn Special t x = MeansScalar t x
-MeansScalarIn Finite t x = MeansScalar t x ⊎ MeansFinite t x
+MeansScalarIn Special json_tree scalar_value = MeansScalar json_tree scalar_value
+MeansScalarIn Finite json_tree scalar_value = MeansScalar json_tree scalar_value ⊎ MeansFinite json_tree scalar_value

@@ -6,7 +6,7 @@ use Rattle.bson_decimal.specs.DecimalBits.{canonical_decimal, decoded_decimal, i
 use Rattle.hex.specs.Hex.{IsBytes}
 use Rattle.bson_scalar.specs.Doubles.{normal_double, is_writable}
 use Rattle.bson_scalar.specs.Ints.{narrowest_int}
-use Rattle.bson_types.specs.Regex.{sorted_text}
+use Rattle.bson_types.specs.Regex.{sorted_regex_options}
 use Rattle.bson_scalar.specs.declared.form.Doubles.{Doubles}
 use Rattle.bson_scalar.specs.declared.form.Doubles.TheVariants.{Special}
 use Rattle.bson_scalar.specs.declared.form.Form.{Form}
@@ -18,25 +18,25 @@ use Rattle.bson_scalar.specs.Scalar.{db_pointer}
 -- canonical pattern; all else kept
 abbrev pub normal_scalar : Scalar → Scalar
 normal_scalar (double pattern) = double (normal_double pattern)
-normal_scalar (regex pattern options) = regex pattern (sorted_text options)
-normal_scalar (binary k bytes) = binary (subtype_of (subtype_byte k)) bytes
-normal_scalar (decimal b) = decimal (canonical_decimal b)
-normal_scalar x = x
+normal_scalar (regex pattern options) = regex pattern (sorted_regex_options options)
+normal_scalar (binary binary_subtype bytes) = binary (subtype_of (subtype_byte binary_subtype)) bytes
+normal_scalar (decimal decimal_bytes) = decimal (canonical_decimal decimal_bytes)
+normal_scalar scalar_value = scalar_value
 
 -- an Int64 as its tree in this form reads back
-abbrev pub int64_as_read_back : Form → ℤ → Scalar
-int64_as_read_back Canonical z = int64 z
-int64_as_read_back Relaxed z = narrowest_int z
+abbrev pub int64_as_read_back : Form → (integer : ℤ) → Scalar
+int64_as_read_back Canonical integer = int64 integer
+int64_as_read_back Relaxed integer = narrowest_int integer
 
 -- a scalar as its tree in this form reads back: narrowed if the form is the relaxed one
 abbrev pub scalar_as_read_back : Form → Scalar → Scalar
-scalar_as_read_back form (int64 z) = int64_as_read_back form z
-scalar_as_read_back form x = x
+scalar_as_read_back form (int64 integer) = int64_as_read_back form integer
+scalar_as_read_back form scalar_value = scalar_value
 
 -- whether it has a tree: a double is a zero, an infinity or a NaN, or in the mode `Finite` any
 abbrev pub writable_scalar_in : Doubles → Scalar → Bool
 writable_scalar_in doubles (double pattern) = is_writable doubles pattern
-writable_scalar_in doubles x = true
+writable_scalar_in doubles scalar_value = true
 
 abbrev pub writable_scalar : Scalar → Bool
 writable_scalar = writable_scalar_in Special
@@ -44,23 +44,23 @@ writable_scalar = writable_scalar_in Special
 -- each number in it is in the range of its Rust type
 abbrev pub ScalarInRange : Scalar → Type 0
 ScalarInRange (double pattern) = pattern < 2 ^ 64
-ScalarInRange (int32 z) = FitsSigned w32 z
-ScalarInRange (int64 z) = FitsSigned w64 z
-ScalarInRange (timestamp t i) = (t < 2 ^ 32) × (i < 2 ^ 32)
-ScalarInRange (binary k bytes) = (subtype_byte k < 256) × IsBytes bytes
+ScalarInRange (int32 integer) = FitsSigned w32 integer
+ScalarInRange (int64 integer) = FitsSigned w64 integer
+ScalarInRange (timestamp seconds increment) = (seconds < 2 ^ 32) × (increment < 2 ^ 32)
+ScalarInRange (binary binary_subtype bytes) = (subtype_byte binary_subtype < 256) × IsBytes bytes
 ScalarInRange (object_id id) = (length id ≡ 12) × IsBytes id
-ScalarInRange (date z) = FitsSigned w64 z
-ScalarInRange (db_pointer s id) = (length id ≡ 12) × IsBytes id
-ScalarInRange x = Unit {0}
+ScalarInRange (date integer) = FitsSigned w64 integer
+ScalarInRange (db_pointer namespace id) = (length id ≡ 12) × IsBytes id
+ScalarInRange scalar_value = Unit {0}
 
 -- in normal form, or a NaN of a decimal: its text can have a sign, or say that it signals
 abbrev pub IsNormalOrNan : Scalar → Type 0
-IsNormalOrNan (decimal b) = (canonical_decimal b ≡ b) ⊎ (is_decimal_nan (decoded_decimal b) ≡ true)
-IsNormalOrNan x = normal_scalar x ≡ x
+IsNormalOrNan (decimal decimal_bytes) = (canonical_decimal decimal_bytes ≡ decimal_bytes) ⊎ (is_decimal_nan (decoded_decimal decimal_bytes) ≡ true)
+IsNormalOrNan scalar_value = normal_scalar scalar_value ≡ scalar_value
 
 -- what is known of every scalar that is read
 abbrev pub IsReadScalarIn : Doubles → Scalar → Type 0
-IsReadScalarIn doubles x = (writable_scalar_in doubles x ≡ true) × IsNormalOrNan x
+IsReadScalarIn doubles scalar_value = (writable_scalar_in doubles scalar_value ≡ true) × IsNormalOrNan scalar_value
 
 abbrev pub IsReadScalar : Scalar → Type 0
 IsReadScalar = IsReadScalarIn Special

@@ -14,15 +14,15 @@ use Rattle.bson_datetime.specs.Rfc3339Parser.{parsed_rfc3339_millis}
 use Rattle.bson_decimal.specs.DecimalBits.{encoded_finite, sign_bit}
 use Rattle.bson_decimal.specs.ParseSteps.{finite}
 use Rattle.bson_decimal.specs.DecimalStrings.{lowercase}
-use Rattle.bson_types.specs.Base64.{padded_text}
+use Rattle.bson_types.specs.Base64.{padded_base64}
 use Rattle.bson_types.specs.UuidByteOrder.{parsed_hyphenated}
-use Rattle.bson_types.specs.Regex.{sorted_text}
+use Rattle.bson_types.specs.Regex.{sorted_regex_options}
 use Rattle.bson_types.specs.BinarySubtypes.{subtype_of}
 use Rattle.bson_types.specs.declared.spec.BinarySubtype.TheVariants as subtype
 use Rattle.serde_json.specs.Data.{Data, Num, Members, no_members, member}
 use Rattle.serde_json.specs.Data as tree
 use Rattle.serde_json.specs.Find.{as_i64, as_str}
-use Rattle.bson_scalar.specs.Doubles.{double_in, finite_number}
+use Rattle.bson_scalar.specs.Doubles.{double_bits_of_text, finite_number}
 use Rattle.bson_scalar.specs.Faults.{Fault, wrong_shape, wrong_id, ◌>>=◌, or_wrong_shape}
 use Rattle.bson_scalar.specs.Ints.{fits_bits, narrowest_int}
 use Rattle.bson_scalar.specs.Scalar.{Scalar, null, undefined, min_key, max_key, boolean, double, int32, int64, text}
@@ -37,167 +37,193 @@ use Rattle.bson_scalar.specs.declared.form.Doubles.TheVariants.{Special, Finite}
 -- ---- shapes
 
 -- the value of a map that has this key alone
-abbrev pub single_key_member : List ℕ → Data → Option Data
-single_key_member a (tree.object (member k d no_members)) = if bytes_eq k a then Some d else None
-single_key_member a _ = None
+abbrev pub single_key_member : (key : List ℕ) → Data → Option Data
+single_key_member key (tree.object (member key_text content no_members)) =
+    if bytes_eq key_text key then Some content else None
+single_key_member key _ = None
 
--- the values of a map that has just these two keys, of which a is the lesser
-abbrev pub two_members : List ℕ → List ℕ → Data → Option (Data × Data)
-two_members a b (tree.object (member k d (member l e no_members))) = if bytes_eq k a && bytes_eq l b then Some (d, e)
+-- the values of a map that has just these two keys, of which the first is the lesser
+abbrev pub two_members : (first_key second_key : List ℕ) → Data → Option (Data × Data)
+two_members first_key second_key (tree.object (member key_text content (member other_key other_content no_members))) =
+    if bytes_eq key_text first_key && bytes_eq other_key second_key then Some (content, other_content)
     else None
-two_members a b _ = None
+two_members first_key second_key _ = None
 
 -- what a text, the value of a lone key and those of two keys are read as; anything else is wrong
 abbrev pub on_text : {X : Type 0} → Data → (List ℕ → Result X Fault) → Result X Fault
-on_text d f = or_wrong_shape (as_str d) >>= f
+on_text content read_content = or_wrong_shape (as_str content) >>= read_content
 
-abbrev pub on_single_key : {X : Type 0} → List ℕ → Data → (Data → Result X Fault) → Result X Fault
-on_single_key a d f = or_wrong_shape (single_key_member a d) >>= f
+abbrev pub on_single_key : {X : Type 0} → (key : List ℕ) → Data → (Data → Result X Fault) → Result X Fault
+on_single_key key content read_content = or_wrong_shape (single_key_member key content) >>= read_content
 
-abbrev pub on_two_keys : {X : Type 0} → List ℕ → List ℕ → Data → (Data → Data → Result X Fault) → Result X Fault
-on_two_keys a b d f = or_wrong_shape (two_members a b d) >>= λ p. f p.0 p.1
+abbrev pub on_two_keys : {X : Type 0} → (first_key second_key : List ℕ) → Data → (Data → Data → Result X Fault)
+    → Result X Fault
+on_two_keys first_key second_key content read_content =
+    or_wrong_shape (two_members first_key second_key content) >>= λ two_values. read_content two_values.0 two_values.1
 
 -- ---- numbers
 
-abbrev pub is_numeral : List ℕ → Bool
-is_numeral ds = nat_lt 0 (length ds) && all_ascii_digits ds
+abbrev pub is_numeral : (digit_text : List ℕ) → Bool
+is_numeral digit_text = nat_lt 0 (length digit_text) && all_ascii_digits digit_text
 
 -- the number of an int text
-unfoldable pub int_of : ℕ → List ℕ → Option ℤ
-int_of h bs = if is_numeral (without_leading_sign bs) && fits_bits h (signed_digits_value 10 bs)
-    then Some (signed_digits_value 10 bs) else None
+unfoldable pub parsed_int : (magnitude_bits : ℕ) (numeral_text : List ℕ) → Option ℤ
+parsed_int magnitude_bits numeral_text =
+    if is_numeral (without_leading_sign numeral_text) && fits_bits magnitude_bits (signed_digits_value 10 numeral_text)
+    then Some (signed_digits_value 10 numeral_text) else None
 
 abbrev pub number_read : Num → Result Scalar Fault
-number_read n = or_wrong_shape (as_i64 n) >>= λ z. Ok (narrowest_int z)
+number_read json_number = or_wrong_shape (as_i64 json_number) >>= λ integer. Ok (narrowest_int integer)
 
-abbrev pub or_double_read : Option ℤ → Num → Result Scalar Fault
-or_double_read (Some z) n = Ok (narrowest_int z)
-or_double_read None n = or_wrong_shape (finite_number n) >>= λ p. Ok (double p)
+abbrev pub integer_or_double_read : Option ℤ → Num → Result Scalar Fault
+integer_or_double_read (Some integer) json_number = Ok (narrowest_int integer)
+integer_or_double_read None json_number =
+    or_wrong_shape (finite_number json_number) >>= λ bit_pattern. Ok (double bit_pattern)
 
 abbrev pub number_read_in : Doubles → Num → Result Scalar Fault
-number_read_in Special n = number_read n
-number_read_in Finite n = or_double_read (as_i64 n) n
+number_read_in Special json_number = number_read json_number
+number_read_in Finite json_number = integer_or_double_read (as_i64 json_number) json_number
 
 abbrev pub int32_read : Data → Result Scalar Fault
-int32_read d = on_text d (λ s. or_wrong_shape (int_of 31 s) >>= λ z. Ok (int32 z))
+int32_read content =
+    on_text content (λ text_bytes. or_wrong_shape (parsed_int 31 text_bytes) >>= λ integer. Ok (int32 integer))
 
 abbrev pub int64_read : Data → Result Scalar Fault
-int64_read d = on_text d (λ s. or_wrong_shape (int_of 63 s) >>= λ z. Ok (int64 z))
+int64_read content =
+    on_text content (λ text_bytes. or_wrong_shape (parsed_int 63 text_bytes) >>= λ integer. Ok (int64 integer))
 
 abbrev pub double_read_in : Doubles → Data → Result Scalar Fault
-double_read_in doubles d = on_text d (λ s. or_wrong_shape (double_in doubles s) >>= λ p. Ok (double p))
+double_read_in doubles content =
+    on_text content
+    (λ text_bytes. or_wrong_shape (double_bits_of_text doubles text_bytes) >>= λ bit_pattern. Ok (double bit_pattern))
 
 -- the number of the pattern of a NaN or an infinity
-abbrev pub special_decimal : List ℕ → Option ℕ
-special_decimal w =
-    if bytes_eq (lowercase w) (codes "nan") then Some (124 * 2 ^ 120)
-    else if bytes_eq (lowercase w) (codes "snan") then Some (126 * 2 ^ 120)
-    else if bytes_eq (lowercase w) (codes "infinity") then Some (120 * 2 ^ 120)
-    else if bytes_eq (lowercase w) (codes "inf") then Some (120 * 2 ^ 120)
+abbrev pub nan_or_infinity_bits : (unsigned_text : List ℕ) → Option ℕ
+nan_or_infinity_bits unsigned_text =
+    if bytes_eq (lowercase unsigned_text) (codes "nan") then Some (124 * 2 ^ 120)
+    else if bytes_eq (lowercase unsigned_text) (codes "snan") then Some (126 * 2 ^ 120)
+    else if bytes_eq (lowercase unsigned_text) (codes "infinity") then Some (120 * 2 ^ 120)
+    else if bytes_eq (lowercase unsigned_text) (codes "inf") then Some (120 * 2 ^ 120)
     else None
 
-abbrev pub finite_decimal : List ℕ → Option (List ℕ)
-finite_decimal s =
-    option_map (λ r. to_le_bytes w128 (encoded_finite (starts_with_minus s) r.0 r.1))
-    (result_ok (finite (without_leading_sign s)))
+abbrev pub finite_decimal : (text_bytes : List ℕ) → Option (List ℕ)
+finite_decimal text_bytes =
+    option_map (λ number_parts. to_le_bytes w128
+    (encoded_finite (starts_with_minus text_bytes) number_parts.0 number_parts.1))
+    (result_ok (finite (without_leading_sign text_bytes)))
 
-abbrev pub decimal_at : List ℕ → Option ℕ → Option (List ℕ)
-decimal_at s (Some n) = Some (to_le_bytes w128 (sign_bit (starts_with_minus s) + n))
-decimal_at s None = finite_decimal s
+abbrev pub special_or_finite_decimal : (text_bytes : List ℕ) → (special_bits : Option ℕ) → Option (List ℕ)
+special_or_finite_decimal text_bytes (Some special_bits) =
+    Some (to_le_bytes w128 (sign_bit (starts_with_minus text_bytes) + special_bits))
+special_or_finite_decimal text_bytes None = finite_decimal text_bytes
 
 -- the pattern of a decimal text
-unfoldable pub decimal_pattern : List ℕ → Option (List ℕ)
-decimal_pattern s = decimal_at s (special_decimal (without_leading_sign s))
+unfoldable pub decimal_pattern : (text_bytes : List ℕ) → Option (List ℕ)
+decimal_pattern text_bytes =
+    special_or_finite_decimal text_bytes (nan_or_infinity_bits (without_leading_sign text_bytes))
 
 abbrev pub decimal_read : Data → Result Scalar Fault
-decimal_read d = on_text d (λ s. or_wrong_shape (decimal_pattern s) >>= λ b. Ok (decimal b))
+decimal_read content =
+    on_text content
+    (λ text_bytes. or_wrong_shape (decimal_pattern text_bytes) >>= λ decimal_bytes. Ok (decimal decimal_bytes))
 
 -- ---- texts
 
 abbrev pub symbol_read : Data → Result Scalar Fault
-symbol_read d = on_text d (λ s. Ok (symbol s))
+symbol_read content = on_text content (λ text_bytes. Ok (symbol text_bytes))
 
 abbrev pub code_read : Data → Result Scalar Fault
-code_read d = on_text d (λ s. Ok (code s))
+code_read content = on_text content (λ text_bytes. Ok (code text_bytes))
 
 abbrev pub regex_read : Data → Result Scalar Fault
-regex_read d =
-    on_two_keys (codes "options") (codes "pattern") d (λ options_member p.
-    on_text options_member (λ options. on_text p (λ pattern. Ok (regex pattern (sorted_text options)))))
+regex_read content =
+    on_two_keys (codes "options") (codes "pattern") content (λ options_member pattern_member.
+    on_text options_member
+    (λ options. on_text pattern_member (λ pattern. Ok (regex pattern (sorted_regex_options options)))))
 
 -- ---- object ids
 
-abbrev pub id_or_fault : List ℕ → Result (List ℕ) FromHexError → Result (List ℕ) Fault
-id_or_fault s (Ok id) = Ok id
-id_or_fault s (Err e) = Err (wrong_id s)
+abbrev pub id_or_fault : (text_bytes : List ℕ) → Result (List ℕ) FromHexError → Result (List ℕ) Fault
+id_or_fault text_bytes (Ok id) = Ok id
+id_or_fault text_bytes (Err hex_error) = Err (wrong_id text_bytes)
 
 -- the object id of a text, or that it is none
-abbrev pub parsed_object_id : List ℕ → Result (List ℕ) Fault
-parsed_object_id s = id_or_fault s (decode_sized s 12)
+abbrev pub parsed_object_id : (text_bytes : List ℕ) → Result (List ℕ) Fault
+parsed_object_id text_bytes = id_or_fault text_bytes (decode_sized text_bytes 12)
 
 abbrev pub oid_read : Data → Result Scalar Fault
-oid_read d = on_text d (λ s. parsed_object_id s >>= λ id. Ok (object_id id))
+oid_read content = on_text content (λ text_bytes. parsed_object_id text_bytes >>= λ id. Ok (object_id id))
 
--- the shape first, so that an object id's text is at fault only where it alone is wrong
+-- the shape first, so that the text of an object id is at fault only where it alone is wrong
 abbrev pub pointer_read : Data → Result Scalar Fault
-pointer_read d =
-    on_two_keys (codes "$id") (codes "$ref") d (λ i r.
-    on_text r (λ name. on_single_key (codes "$oid") i (λ t. on_text t (λ s. parsed_object_id s >>= λ id. Ok (db_pointer name id)))))
+pointer_read content =
+    on_two_keys (codes "$id") (codes "$ref") content (λ id_member namespace_member.
+    on_text namespace_member
+    (λ namespace. on_single_key (codes "$oid") id_member
+    (λ oid_member. on_text oid_member
+    (λ text_bytes. parsed_object_id text_bytes >>= λ id. Ok (db_pointer namespace id)))))
 
 -- ---- moments
 
 abbrev pub timestamp_read : Data → Result Scalar Fault
-timestamp_read d =
-    on_two_keys (codes "i") (codes "t") d (λ i t. or_wrong_shape (u32_at i) >>= λ increment. or_wrong_shape (u32_at t) >>= λ n.
-    Ok (timestamp n increment))
+timestamp_read content =
+    on_two_keys (codes "i") (codes "t") content
+    (λ increment_member time_member. or_wrong_shape (u32_at increment_member)
+    >>= λ increment. or_wrong_shape (u32_at time_member) >>= λ time.
+    Ok (timestamp time increment))
 
-abbrev pub millis_of : Data → Result ℤ Fault
-millis_of (tree.string s) = or_wrong_shape (parsed_rfc3339_millis s)
-millis_of (tree.number n) = or_wrong_shape (as_i64 n)
-millis_of d = on_single_key (codes "$numberLong") d (λ t. on_text t (λ s. or_wrong_shape (int_of 63 s)))
+abbrev pub date_millis_of : Data → Result ℤ Fault
+date_millis_of (tree.string text_bytes) = or_wrong_shape (parsed_rfc3339_millis text_bytes)
+date_millis_of (tree.number json_number) = or_wrong_shape (as_i64 json_number)
+date_millis_of content =
+    on_single_key (codes "$numberLong") content
+    (λ long_member. on_text long_member (λ text_bytes. or_wrong_shape (parsed_int 63 text_bytes)))
 
 abbrev pub date_read : Data → Result Scalar Fault
-date_read d = millis_of d >>= λ z. Ok (date z)
+date_read content = date_millis_of content >>= λ integer. Ok (date integer)
 
 -- ---- bytes
 
-abbrev pub only_byte : Result (List ℕ) FromHexError → Option ℕ
-only_byte (Ok (n ∷ [])) = Some n
-only_byte _ = None
+abbrev pub single_byte : Result (List ℕ) FromHexError → Option ℕ
+single_byte (Ok (byte ∷ [])) = Some byte
+single_byte _ = None
 
-abbrev pub byte_of : List ℕ → Option ℕ
-byte_of s = only_byte (decode_sized s 1)
+abbrev pub byte_of_hex : (text_bytes : List ℕ) → Option ℕ
+byte_of_hex text_bytes = single_byte (decode_sized text_bytes 1)
 
 -- the bytes, where the text is theirs
-abbrev pub bytes_if_encoded : List ℕ → Option (List ℕ) → Option (List ℕ)
-bytes_if_encoded s (Some bytes) = if bytes_eq s (padded_text bytes) then Some bytes else None
-bytes_if_encoded s None = None
+abbrev pub bytes_if_encoded : (text_bytes : List ℕ) → (decoded_bytes : Option (List ℕ)) → Option (List ℕ)
+bytes_if_encoded text_bytes (Some bytes) = if bytes_eq text_bytes (padded_base64 bytes) then Some bytes else None
+bytes_if_encoded text_bytes None = None
 
--- the decoder takes a number above 255 for the digit of 0, so what it gives is compared with the text
-abbrev pub bytes_of : List ℕ → Option (List ℕ)
-bytes_of s = bytes_if_encoded s (result_ok (decode_of standard s))
+-- the decoder reads a number above 255 as the digit of 0, so its result is compared with the text
+abbrev pub decoded_base64 : (text_bytes : List ℕ) → Option (List ℕ)
+decoded_base64 text_bytes = bytes_if_encoded text_bytes (result_ok (decode_of standard text_bytes))
 
 abbrev pub binary_read : Data → Result Scalar Fault
-binary_read d =
-    on_two_keys (codes "base64") (codes "subType") d (λ b k.
-    on_text b
-    (λ s. on_text k (λ t. or_wrong_shape (bytes_of s) >>= λ bytes. or_wrong_shape (byte_of t) >>= λ n.
-    Ok (binary (subtype_of n) bytes))))
+binary_read content =
+    on_two_keys (codes "base64") (codes "subType") content (λ base64_member subtype_member.
+    on_text base64_member
+    (λ text_bytes. on_text subtype_member
+    (λ subtype_text. or_wrong_shape (decoded_base64 text_bytes) >>= λ bytes. or_wrong_shape (byte_of_hex subtype_text)
+    >>= λ subtype_number.
+    Ok (binary (subtype_of subtype_number) bytes))))
 
 abbrev pub uuid_read : Data → Result Scalar Fault
-uuid_read d = on_text d (λ s. or_wrong_shape (parsed_hyphenated s) >>= λ id. Ok (binary subtype.Uuid id))
+uuid_read content =
+    on_text content (λ text_bytes. or_wrong_shape (parsed_hyphenated text_bytes) >>= λ id. Ok (binary subtype.Uuid id))
 
 -- ---- the kinds of one tree
 
-abbrev pub is_one : Option ℤ → Bool
-is_one (Some (pos n)) = n == 1
-is_one _ = false
+abbrev pub is_number_one : Option ℤ → Bool
+is_number_one (Some (pos magnitude)) = magnitude == 1
+is_number_one _ = false
 
 abbrev pub number_one_read : Scalar → Data → Result Scalar Fault
-number_one_read y d = if is_one (i64_at d) then Ok y else Err wrong_shape
+number_one_read constant_scalar content = if is_number_one (i64_at content) then Ok constant_scalar else Err wrong_shape
 
 abbrev pub undefined_read : Data → Result Scalar Fault
-undefined_read (tree.boolean b) = if b then Ok undefined else Err wrong_shape
+undefined_read (tree.boolean truth_value) = if truth_value then Ok undefined else Err wrong_shape
 undefined_read _ = Err wrong_shape
 
 -- ---- all wrappers of one key
@@ -224,23 +250,25 @@ abbrev pub wrapper_read : Wrapper → Data → Result Scalar Fault
 wrapper_read = wrapper_read_in Special
 
 abbrev pub optional_wrapper_read_in : Doubles → Option Wrapper → Data → Result Scalar Fault
-optional_wrapper_read_in doubles (Some w) d = wrapper_read_in doubles w d
-optional_wrapper_read_in doubles None d = Err wrong_shape
+optional_wrapper_read_in doubles (Some wrapper) content = wrapper_read_in doubles wrapper content
+optional_wrapper_read_in doubles None content = Err wrong_shape
 
 abbrev pub optional_wrapper_read : Option Wrapper → Data → Result Scalar Fault
 optional_wrapper_read = optional_wrapper_read_in Special
 
 -- code with the scope null
-abbrev pub code_if_scope_is_null : Data → Data → Result Scalar Fault
+abbrev pub code_if_scope_is_null : (scope : Data) → (code_member : Data) → Result Scalar Fault
 code_if_scope_is_null tree.null code_member = code_read code_member
 code_if_scope_is_null scope code_member = Err wrong_shape
 
 abbrev pub scalar_read_in : Doubles → Data → Result Scalar Fault
 scalar_read_in doubles tree.null = Ok null
-scalar_read_in doubles (tree.boolean b) = Ok (boolean b)
-scalar_read_in doubles (tree.number n) = number_read_in doubles n
-scalar_read_in doubles (tree.string s) = Ok (text s)
-scalar_read_in doubles (tree.object (member k d no_members)) = optional_wrapper_read_in doubles (wrapper_of k) d
-scalar_read_in doubles (tree.object (member k d (member l e no_members))) =
-    if bytes_eq k (codes "$code") && bytes_eq l (codes "$scope") then code_if_scope_is_null e d else Err wrong_shape
+scalar_read_in doubles (tree.boolean truth_value) = Ok (boolean truth_value)
+scalar_read_in doubles (tree.number json_number) = number_read_in doubles json_number
+scalar_read_in doubles (tree.string text_bytes) = Ok (text text_bytes)
+scalar_read_in doubles (tree.object (member key_text content no_members)) =
+    optional_wrapper_read_in doubles (wrapper_of key_text) content
+scalar_read_in doubles (tree.object (member key_text content (member other_key other_content no_members))) =
+    if bytes_eq key_text (codes "$code") && bytes_eq other_key (codes "$scope")
+    then code_if_scope_is_null other_content content else Err wrong_shape
 scalar_read_in doubles _ = Err wrong_shape

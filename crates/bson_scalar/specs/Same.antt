@@ -10,7 +10,7 @@ use Rattle.bson_scalar.specs.Scalar.{Scalar, null, undefined, min_key, max_key, 
 use Rattle.bson_scalar.specs.Scalar.{symbol, code, regex, timestamp, binary, object_id, date, decimal, db_pointer}
 
 abbrev pub bool_eq : Bool → Bool → Bool
-bool_eq true b = b
+bool_eq true truth_value = truth_value
 bool_eq false true = false
 bool_eq false false = true
 
@@ -26,8 +26,8 @@ subtype_eq Encrypted Encrypted = true
 subtype_eq Column Column = true
 subtype_eq Sensitive Sensitive = true
 subtype_eq Vector Vector = true
-subtype_eq (Reserved a) (Reserved b) = a == b
-subtype_eq (UserDefined a) (UserDefined b) = a == b
+subtype_eq (Reserved byte) (Reserved other_byte) = byte == other_byte
+subtype_eq (UserDefined byte) (UserDefined other_byte) = byte == other_byte
 subtype_eq _ _ = false
 
 abbrev pub scalar_eq : Scalar → Scalar → Bool
@@ -35,18 +35,22 @@ scalar_eq null null = true
 scalar_eq undefined undefined = true
 scalar_eq min_key min_key = true
 scalar_eq max_key max_key = true
-scalar_eq (boolean a) (boolean b) = bool_eq a b
-scalar_eq (double pattern) (double pattern2) = pattern == pattern2
-scalar_eq (int32 a) (int32 b) = int_eq a b
-scalar_eq (int64 a) (int64 b) = int_eq a b
-scalar_eq (text s) (text t) = bytes_eq s t
-scalar_eq (symbol s) (symbol t) = bytes_eq s t
-scalar_eq (code s) (code t) = bytes_eq s t
-scalar_eq (regex pattern options) (regex pattern2 options2) = bytes_eq pattern pattern2 && bytes_eq options options2
-scalar_eq (timestamp t i) (timestamp u j) = (t == u) && (i == j)
-scalar_eq (binary subtype a) (binary subtype2 b) = subtype_eq subtype subtype2 && bytes_eq a b
-scalar_eq (object_id a) (object_id b) = bytes_eq a b
-scalar_eq (date y) (date z) = int_eq y z
-scalar_eq (decimal a) (decimal b) = bytes_eq a b
-scalar_eq (db_pointer s a) (db_pointer t b) = bytes_eq s t && bytes_eq a b
+scalar_eq (boolean truth_value) (boolean other_truth_value) = bool_eq truth_value other_truth_value
+scalar_eq (double pattern) (double other_pattern) = pattern == other_pattern
+scalar_eq (int32 integer) (int32 other_integer) = int_eq integer other_integer
+scalar_eq (int64 integer) (int64 other_integer) = int_eq integer other_integer
+scalar_eq (text text_bytes) (text other_text_bytes) = bytes_eq text_bytes other_text_bytes
+scalar_eq (symbol text_bytes) (symbol other_text_bytes) = bytes_eq text_bytes other_text_bytes
+scalar_eq (code text_bytes) (code other_text_bytes) = bytes_eq text_bytes other_text_bytes
+scalar_eq (regex pattern options) (regex other_pattern other_options) =
+    bytes_eq pattern other_pattern && bytes_eq options other_options
+scalar_eq (timestamp seconds increment) (timestamp other_seconds other_increment) =
+    (seconds == other_seconds) && (increment == other_increment)
+scalar_eq (binary subtype bytes) (binary other_subtype other_bytes) =
+    subtype_eq subtype other_subtype && bytes_eq bytes other_bytes
+scalar_eq (object_id id) (object_id other_id) = bytes_eq id other_id
+scalar_eq (date millis) (date other_millis) = int_eq millis other_millis
+scalar_eq (decimal decimal_bytes) (decimal other_decimal_bytes) = bytes_eq decimal_bytes other_decimal_bytes
+scalar_eq (db_pointer namespace id) (db_pointer other_namespace other_id) =
+    bytes_eq namespace other_namespace && bytes_eq id other_id
 scalar_eq _ _ = false

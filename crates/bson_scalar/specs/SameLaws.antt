@@ -12,58 +12,111 @@ use Rattle.bson_scalar.specs.Same.{bool_eq, subtype_eq, scalar_eq}
 use Rattle.bson_scalar.specs.Scalar.{Scalar, null, undefined, min_key, max_key, boolean, double, int32, int64, text}
 use Rattle.bson_scalar.specs.Scalar.{symbol, code, regex, timestamp, binary, object_id, date, decimal, db_pointer}
 
-bool_decides : (a b : Bool) → Decides (bool_eq a b) (a ≡ b)
-bool_decides true true = (λ e. refl, λ e. refl)
-bool_decides true false = (λ e. cc, λ e. cc)
-bool_decides false true = (λ e. cc, λ e. cc)
-bool_decides false false = (λ e. refl, λ e. refl)
+bool_decides : (truth_value other_truth_value : Bool)
+    → Decides (bool_eq truth_value other_truth_value) (truth_value ≡ other_truth_value)
+bool_decides true true = (λ equality. refl, λ equality. refl)
+bool_decides true false = (λ equality. cc, λ equality. cc)
+bool_decides false true = (λ equality. cc, λ equality. cc)
+bool_decides false false = (λ equality. refl, λ equality. refl)
 
-subtype_decides : (k l : BinarySubtype) → Decides (subtype_eq k l) (k ≡ l)
-subtype_decides Generic Generic = (λ e. refl, λ e. refl)
-subtype_decides Function Function = (λ e. refl, λ e. refl)
-subtype_decides BinaryOld BinaryOld = (λ e. refl, λ e. refl)
-subtype_decides UuidOld UuidOld = (λ e. refl, λ e. refl)
-subtype_decides Uuid Uuid = (λ e. refl, λ e. refl)
-subtype_decides Md5 Md5 = (λ e. refl, λ e. refl)
-subtype_decides Encrypted Encrypted = (λ e. refl, λ e. refl)
-subtype_decides Column Column = (λ e. refl, λ e. refl)
-subtype_decides Sensitive Sensitive = (λ e. refl, λ e. refl)
-subtype_decides Vector Vector = (λ e. refl, λ e. refl)
-subtype_decides (Reserved a) (Reserved b) = (λ e. ap Reserved ((Decides-eqb a b).0 e), λ e. (Decides-eqb a b).1 cc)
-subtype_decides (UserDefined a) (UserDefined b) =
-    (λ e. ap UserDefined ((Decides-eqb a b).0 e), λ e. (Decides-eqb a b).1 cc)
-subtype_decides _ _ = (λ e. cc, λ e. cc)
+subtype_decides : (subtype other_subtype : BinarySubtype)
+    → Decides (subtype_eq subtype other_subtype) (subtype ≡ other_subtype)
+subtype_decides Generic Generic = (λ equality. refl, λ equality. refl)
+subtype_decides Function Function = (λ equality. refl, λ equality. refl)
+subtype_decides BinaryOld BinaryOld = (λ equality. refl, λ equality. refl)
+subtype_decides UuidOld UuidOld = (λ equality. refl, λ equality. refl)
+subtype_decides Uuid Uuid = (λ equality. refl, λ equality. refl)
+subtype_decides Md5 Md5 = (λ equality. refl, λ equality. refl)
+subtype_decides Encrypted Encrypted = (λ equality. refl, λ equality. refl)
+subtype_decides Column Column = (λ equality. refl, λ equality. refl)
+subtype_decides Sensitive Sensitive = (λ equality. refl, λ equality. refl)
+subtype_decides Vector Vector = (λ equality. refl, λ equality. refl)
+subtype_decides (Reserved byte) (Reserved other_byte) =
+    (λ equality. ap Reserved ((Decides-eqb byte other_byte).0 equality), λ equality. (Decides-eqb byte other_byte).1 cc)
+subtype_decides (UserDefined byte) (UserDefined other_byte) = (
+  λ equality. ap UserDefined ((Decides-eqb byte other_byte).0 equality),
+  λ equality.
+      (Decides-eqb byte other_byte).1 cc,
+)
+subtype_decides _ _ = (λ equality. cc, λ equality. cc)
 
 -- where both of two parts decide, so does the whole
-both_decide : {X Y Z : Type 0} (f : X → Y → Z) (a b : Bool) (x u : X) (y v : Y) → Decides a (x ≡ u) → Decides b (y ≡ v)
-    → (f x y ≡ f u v → (x ≡ u) × (y ≡ v)) → Decides (a && b) (f x y ≡ f u v)
-both_decide f a b x u y v d e parts = (
-  λ h. let p = and_parts _ _ h in ap₂ f (d.0 p.0) (e.0 p.1),
-  λ h. let p = parts h in and_from _ _ (d.1 p.0) (e.1 p.1),
+both_decide : {X Y Z : Type 0} (build : X → Y → Z) (first_test second_test : Bool) (first_field other_first : X)
+    (second_field other_second : Y) → Decides first_test (first_field ≡ other_first)
+    → Decides second_test (second_field ≡ other_second)
+    → (build first_field second_field ≡ build other_first other_second
+    → (first_field ≡ other_first) × (second_field ≡ other_second))
+    → Decides (first_test && second_test) (build first_field second_field ≡ build other_first other_second)
+both_decide build first_test second_test first_field other_first second_field other_second first_decides second_decides parts = (
+  λ equality. let both = and_parts _ _ equality in ap₂ build (first_decides.0 both.0) (second_decides.0 both.1),
+  λ equality. let both = parts equality in and_from _ _ (first_decides.1 both.0) (second_decides.1 both.1),
 )
 
-pub scalar_decides : (x y : Scalar) → Decides (scalar_eq x y) (x ≡ y)
-scalar_decides null null = (λ e. refl, λ e. refl)
-scalar_decides undefined undefined = (λ e. refl, λ e. refl)
-scalar_decides min_key min_key = (λ e. refl, λ e. refl)
-scalar_decides max_key max_key = (λ e. refl, λ e. refl)
-scalar_decides (boolean a) (boolean b) = (λ e. ap boolean ((bool_decides a b).0 e), λ e. (bool_decides a b).1 cc)
-scalar_decides (double p) (double q) = (λ e. ap double ((Decides-eqb p q).0 e), λ e. (Decides-eqb p q).1 cc)
-scalar_decides (int32 m) (int32 n) = (λ e. ap int32 ((Decides-int_eq m n).0 e), λ e. (Decides-int_eq m n).1 cc)
-scalar_decides (int64 m) (int64 n) = (λ e. ap int64 ((Decides-int_eq m n).0 e), λ e. (Decides-int_eq m n).1 cc)
-scalar_decides (text s) (text t) = (λ e. ap text ((bytes_eq-Decides s t).0 e), λ e. (bytes_eq-Decides s t).1 cc)
-scalar_decides (symbol s) (symbol t) = (λ e. ap symbol ((bytes_eq-Decides s t).0 e), λ e. (bytes_eq-Decides s t).1 cc)
-scalar_decides (code s) (code t) = (λ e. ap code ((bytes_eq-Decides s t).0 e), λ e. (bytes_eq-Decides s t).1 cc)
-scalar_decides (regex p o) (regex q m) =
-    both_decide regex _ _ p q o m (bytes_eq-Decides p q) (bytes_eq-Decides o m) (λ e. (cc, cc))
-scalar_decides (timestamp t i) (timestamp u j) =
-    both_decide timestamp _ _ t u i j (Decides-eqb t u) (Decides-eqb i j) (λ e. (cc, cc))
-scalar_decides (binary k a) (binary l b) =
-    both_decide binary _ _ k l a b (subtype_decides k l) (bytes_eq-Decides a b) (λ e. (cc, cc))
-scalar_decides (object_id s) (object_id t) =
-    (λ e. ap object_id ((bytes_eq-Decides s t).0 e), λ e. (bytes_eq-Decides s t).1 cc)
-scalar_decides (date y) (date z) = (λ e. ap date ((Decides-int_eq y z).0 e), λ e. (Decides-int_eq y z).1 cc)
-scalar_decides (decimal s) (decimal t) = (λ e. ap decimal ((bytes_eq-Decides s t).0 e), λ e. (bytes_eq-Decides s t).1 cc)
-scalar_decides (db_pointer s a) (db_pointer t b) =
-    both_decide db_pointer _ _ s t a b (bytes_eq-Decides s t) (bytes_eq-Decides a b) (λ e. (cc, cc))
-scalar_decides _ _ = (λ e. cc, λ e. cc)
+pub scalar_decides : (scalar other_scalar : Scalar) → Decides (scalar_eq scalar other_scalar) (scalar ≡ other_scalar)
+scalar_decides null null = (λ equality. refl, λ equality. refl)
+scalar_decides undefined undefined = (λ equality. refl, λ equality. refl)
+scalar_decides min_key min_key = (λ equality. refl, λ equality. refl)
+scalar_decides max_key max_key = (λ equality. refl, λ equality. refl)
+scalar_decides (boolean truth_value) (boolean other_truth_value) = (
+  λ equality. ap boolean ((bool_decides truth_value other_truth_value).0 equality),
+  λ equality.
+      (bool_decides truth_value other_truth_value).1 cc,
+)
+scalar_decides (double pattern) (double other_pattern) = (
+  λ equality. ap double ((Decides-eqb pattern other_pattern).0 equality),
+  λ equality.
+      (Decides-eqb pattern other_pattern).1 cc,
+)
+scalar_decides (int32 integer) (int32 other_integer) = (
+  λ equality. ap int32 ((Decides-int_eq integer other_integer).0 equality),
+  λ equality.
+      (Decides-int_eq integer other_integer).1 cc,
+)
+scalar_decides (int64 integer) (int64 other_integer) = (
+  λ equality. ap int64 ((Decides-int_eq integer other_integer).0 equality),
+  λ equality.
+      (Decides-int_eq integer other_integer).1 cc,
+)
+scalar_decides (text text_bytes) (text other_text_bytes) = (
+  λ equality. ap text ((bytes_eq-Decides text_bytes other_text_bytes).0 equality),
+  λ equality.
+      (bytes_eq-Decides text_bytes other_text_bytes).1 cc,
+)
+scalar_decides (symbol text_bytes) (symbol other_text_bytes) = (
+  λ equality. ap symbol ((bytes_eq-Decides text_bytes other_text_bytes).0 equality),
+  λ equality.
+      (bytes_eq-Decides text_bytes other_text_bytes).1 cc,
+)
+scalar_decides (code text_bytes) (code other_text_bytes) = (
+  λ equality. ap code ((bytes_eq-Decides text_bytes other_text_bytes).0 equality),
+  λ equality.
+      (bytes_eq-Decides text_bytes other_text_bytes).1 cc,
+)
+scalar_decides (regex pattern options) (regex other_pattern other_options) =
+    both_decide regex _ _ pattern other_pattern options other_options (bytes_eq-Decides pattern other_pattern)
+    (bytes_eq-Decides options other_options) (λ equality. (cc, cc))
+scalar_decides (timestamp seconds increment) (timestamp other_seconds other_increment) =
+    both_decide timestamp _ _ seconds other_seconds increment other_increment (Decides-eqb seconds other_seconds)
+    (Decides-eqb increment other_increment) (λ equality. (cc, cc))
+scalar_decides (binary subtype bytes) (binary other_subtype other_bytes) =
+    both_decide binary _ _ subtype other_subtype bytes other_bytes (subtype_decides subtype other_subtype)
+    (bytes_eq-Decides bytes other_bytes) (λ equality. (cc, cc))
+scalar_decides (object_id id) (object_id other_id) = (
+  λ equality. ap object_id ((bytes_eq-Decides id other_id).0 equality),
+  λ equality.
+      (bytes_eq-Decides id other_id).1 cc,
+)
+scalar_decides (date millis) (date other_millis) = (
+  λ equality. ap date ((Decides-int_eq millis other_millis).0 equality),
+  λ equality.
+      (Decides-int_eq millis other_millis).1 cc,
+)
+scalar_decides (decimal decimal_bytes) (decimal other_decimal_bytes) = (
+  λ equality. ap decimal ((bytes_eq-Decides decimal_bytes other_decimal_bytes).0 equality),
+  λ equality.
+      (bytes_eq-Decides decimal_bytes other_decimal_bytes).1 cc,
+)
+scalar_decides (db_pointer namespace id) (db_pointer other_namespace other_id) =
+    both_decide db_pointer _ _ namespace other_namespace id other_id (bytes_eq-Decides namespace other_namespace)
+    (bytes_eq-Decides id other_id) (λ equality. (cc, cc))
+scalar_decides _ _ = (λ equality. cc, λ equality. cc)

@@ -8,17 +8,17 @@ pub data Scalar : Type 0 where
   undefined : Scalar
   min_key : Scalar
   max_key : Scalar
-  boolean : Bool → Scalar
-  double : ℕ → Scalar
-  int32 : ℤ → Scalar
-  int64 : ℤ → Scalar
-  text : List ℕ → Scalar
-  symbol : List ℕ → Scalar
-  code : List ℕ → Scalar
-  regex : List ℕ → List ℕ → Scalar
-  timestamp : ℕ → ℕ → Scalar
-  binary : BinarySubtype → List ℕ → Scalar
-  object_id : List ℕ → Scalar
-  date : ℤ → Scalar
-  decimal : List ℕ → Scalar
-  db_pointer : List ℕ → List ℕ → Scalar
+  boolean : (truth_value : Bool) → Scalar
+  double : (bit_pattern : ℕ) → Scalar
+  int32 : (integer : ℤ) → Scalar
+  int64 : (integer : ℤ) → Scalar
+  text : (bytes : List ℕ) → Scalar
+  symbol : (bytes : List ℕ) → Scalar
+  code : (bytes : List ℕ) → Scalar
+  regex : (pattern options : List ℕ) → Scalar
+  timestamp : (seconds increment : ℕ) → Scalar
+  binary : (subtype : BinarySubtype) (bytes : List ℕ) → Scalar
+  object_id : (bytes : List ℕ) → Scalar
+  date : (milliseconds : ℤ) → Scalar
+  decimal : (bytes : List ℕ) → Scalar
+  db_pointer : (namespace id : List ℕ) → Scalar

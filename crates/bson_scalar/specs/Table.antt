@@ -27,8 +27,8 @@ key_of MaxKey = codes "$maxKey"
 key_of DbPointer = codes "$dbPointer"
 key_of Undefined = codes "$undefined"
 
-abbrev pub last_wrapper : List ℕ → Option Wrapper
-last_wrapper key =
+abbrev pub timestamp_or_later_wrapper : (key : List ℕ) → Option Wrapper
+timestamp_or_later_wrapper key =
     if bytes_eq key (codes "$timestamp") then Some Timestamp
     else if bytes_eq key (codes "$date") then Some Date
     else if bytes_eq key (codes "$minKey") then Some MinKey
@@ -36,22 +36,22 @@ last_wrapper key =
     else if bytes_eq key (codes "$undefined") then Some Undefined
     else None
 
-abbrev pub number_wrapper : List ℕ → Option Wrapper
-number_wrapper key =
+abbrev pub number_or_later_wrapper : (key : List ℕ) → Option Wrapper
+number_or_later_wrapper key =
     if bytes_eq key (codes "$numberInt") then Some NumberInt
     else if bytes_eq key (codes "$numberLong") then Some NumberLong
     else if bytes_eq key (codes "$numberDouble") then Some NumberDouble
     else if bytes_eq key (codes "$numberDecimal") then Some NumberDecimal
-    else last_wrapper key
+    else timestamp_or_later_wrapper key
 
-abbrev pub later_wrapper : List ℕ → Option Wrapper
+abbrev pub later_wrapper : (key : List ℕ) → Option Wrapper
 later_wrapper key =
     if bytes_eq key (codes "$uuid") then Some Uuid
     else if bytes_eq key (codes "$code") then Some Code
     else if bytes_eq key (codes "$dbPointer") then Some DbPointer
-    else number_wrapper key
+    else number_or_later_wrapper key
 
-abbrev pub wrapper_of : List ℕ → Option Wrapper
+abbrev pub wrapper_of : (key : List ℕ) → Option Wrapper
 wrapper_of key =
     if bytes_eq key (codes "$oid") then Some Oid
     else if bytes_eq key (codes "$symbol") then Some Symbol
@@ -62,4 +62,4 @@ wrapper_of key =
 -- whether any key is a wrapper key
 abbrev pub has_wrapper : Members → Bool
 has_wrapper no_members = false
-has_wrapper (member k d ms) = is_some (wrapper_of k) || has_wrapper ms
+has_wrapper (member member_key subtree member_list) = is_some (wrapper_of member_key) || has_wrapper member_list

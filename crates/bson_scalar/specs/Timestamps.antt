@@ -2,10 +2,11 @@
 -- Read and written: {"$timestamp": {"t": 1, "i": 2}}.
 use Rattle.std.specs.Prelude.{ℕ, codes}
 use Rattle.serde_json.specs.Data.{Data}
-use Rattle.bson_scalar.specs.TreeParts.{object_of_one, object_of_two, natural}
+use Rattle.bson_scalar.specs.TreeParts.{one_key_object, two_key_object, natural}
 use Rattle.bson_scalar.specs.Table.{key_of}
 use Rattle.bson_scalar.specs.declared.wrapper.Wrapper.TheVariants.{Timestamp}
 
 -- t is the time, i the increment
-abbrev pub timestamp_tree : ℕ → ℕ → Data
-timestamp_tree t i = object_of_one (key_of Timestamp) (object_of_two (codes "i") (natural i) (codes "t") (natural t))
+abbrev pub timestamp_tree : (seconds increment : ℕ) → Data
+timestamp_tree seconds increment =
+    one_key_object (key_of Timestamp) (two_key_object (codes "i") (natural increment) (codes "t") (natural seconds))

@@ -18,50 +18,51 @@ use Rattle.bson_scalar.specs.declared.form.Form.TheVariants.{Canonical, Relaxed}
 
 -- the float is a finite double
 abbrev pub IsDouble : Float → Type 0
-IsDouble x = (fits binary64 x ≡ true) × (float_is_finite x ≡ true)
+IsDouble float_value = (fits binary64 float_value ≡ true) × (float_is_finite float_value ≡ true)
 
 abbrev pub float_text : Float → List ℕ
-float_text x = unwrap_or (finite_double_text (to_bits binary64 x)) []
+float_text float_value = unwrap_or (finite_double_text (to_bits binary64 float_value)) []
 
 abbrev pub number_text : Num → List ℕ
-number_text (unsigned n) = decimal n
-number_text (negative z) = signed_decimal z
-number_text (float x) = float_text x
+number_text (unsigned magnitude) = decimal magnitude
+number_text (negative integer) = signed_decimal integer
+number_text (float float_value) = float_text float_value
 
 -- the tree as JSON
 abbrev mutual
   pub json_of_tree : Data → json.Json
   json_of_tree null = json.null
-  json_of_tree (boolean b) = json.boolean b
-  json_of_tree (number n) = json.number (number_text n)
-  json_of_tree (string s) = json.string s
-  json_of_tree (array ds) = json.array (json_of_items ds)
-  json_of_tree (object ms) = json.object (json_of_members ms)
+  json_of_tree (boolean truth_value) = json.boolean truth_value
+  json_of_tree (number json_number) = json.number (number_text json_number)
+  json_of_tree (string text_bytes) = json.string text_bytes
+  json_of_tree (array item_list) = json.array (json_of_items item_list)
+  json_of_tree (object member_list) = json.object (json_of_members member_list)
 
   pub json_of_items : Items → json.Items
   json_of_items no_items = json.no_items
-  json_of_items (item d ds) = json.item (json_of_tree d) (json_of_items ds)
+  json_of_items (item subtree item_list) = json.item (json_of_tree subtree) (json_of_items item_list)
 
   pub json_of_members : Members → json.Members
   json_of_members no_members = json.no_members
-  json_of_members (member k d ms) = json.member k (json_of_tree d) (json_of_members ms)
+  json_of_members (member key_text subtree member_list) =
+      json.member key_text (json_of_tree subtree) (json_of_members member_list)
 
 abbrev pub tokens_of : Data → List Token
-tokens_of t = json_tokens (json_of_tree t)
+tokens_of json_tree = json_tokens (json_of_tree json_tree)
 
 -- the text of those tokens, with no space
 abbrev pub text_of : Data → List ℕ
-text_of t = print (tokens_of t)
+text_of json_tree = print (tokens_of json_tree)
 
 -- ---- in each of the two modes and forms
 
 -- but in the relaxed form of the mode `Finite` no float is written
 abbrev pub HasNoFloatIn : Doubles → Form → Data → Type 0
-HasNoFloatIn Special form t = has_float t ≡ false
-HasNoFloatIn Finite Canonical t = has_float t ≡ false
-HasNoFloatIn Finite Relaxed t = Unit {0}
+HasNoFloatIn Special form json_tree = has_float json_tree ≡ false
+HasNoFloatIn Finite Canonical json_tree = has_float json_tree ≡ false
+HasNoFloatIn Finite Relaxed json_tree = Unit {0}
 
 abbrev pub tree_text : Doubles → Form → Data → List ℕ
-tree_text Special form t = compact_text t
-tree_text Finite Canonical t = compact_text t
-tree_text Finite Relaxed t = text_of t
+tree_text Special form json_tree = compact_text json_tree
+tree_text Finite Canonical json_tree = compact_text json_tree
+tree_text Finite Relaxed json_tree = text_of json_tree

@@ -6,21 +6,21 @@ ghost use Rattle.std.specs.Prelude.{◌≡◌, ◌<◌, IfOk, OnOk, ◌∷◌, [
 ghost use Rattle.serde_json.specs.Data.{string};
 ghost use Rattle.serde_json.specs.View.{view};
 ghost use Rattle.hex.specs.Hex.{encode_lower, IsBytes};
-ghost use Rattle.bson_types.specs.Base64.{padded_text};
+ghost use Rattle.bson_types.specs.Base64.{padded_base64};
 ghost use Rattle.bson_types.specs.UuidByteOrder.{parsed_hyphenated};
 ghost use Rattle.bson_types.specs.BinarySubtypes.{subtype_byte};
 ghost use Rattle.bson_scalar.specs.Binaries.{binary_tree};
 ghost use Rattle.bson_scalar.specs.Faults.{IsReadResult, or_wrong_shape};
-ghost use Rattle.bson_scalar.specs.Reading.{binary_read, uuid_read, byte_of as byte_at};
-ghost use Rattle.bson_scalar.specs.Reading.{bytes_of as bytes_at};
-ghost use Rattle.bson_scalar.specs.TreeParts.{object_of_one, object_of_two};
+ghost use Rattle.bson_scalar.specs.Reading.{binary_read, uuid_read, byte_of_hex as hex_byte};
+ghost use Rattle.bson_scalar.specs.Reading.{decoded_base64};
+ghost use Rattle.bson_scalar.specs.TreeParts.{one_key_object, two_key_object};
 ghost use Rattle.bson_scalar.specs.View.{scalar_view};
 
 use crate::error::Error;
-use crate::object_writer::{begin_object, end_object_of_one, write_two_texts_object};
+use crate::object_writer::{begin_object, end_one_key_object, write_two_texts_object};
 use crate::scalar::Scalar;
 use crate::sink::Sink;
-use crate::tree_parts::{are_bytes, expect, expect_string, expect_two_keys};
+use crate::tree_parts::{bytes_are_below_256, expect, expect_string, expect_two_keys};
 use base64::engine::general_purpose::STANDARD;
 use bson_types::binary::{self, Binary};
 use bson_types::spec::BinarySubtype;
@@ -33,8 +33,8 @@ const BINARY_MESSAGE: &str = "`$binary` must have the strings `base64` and `subT
 const UUID_MESSAGE: &str = "`$uuid` must be a string with a hyphenated UUID";
 
 // The byte of a text of two hexadecimal digits.
-fn byte_of(text: &str) -> Option<u8>
-    ensures { result ≡ byte_at text.now }
+fn byte_of_hex(text: &str) -> Option<u8>
+    ensures { result ≡ hex_byte text.now }
 {
     let mut bytes = [0u8; 1];
     match hex::decode_to_slice(text, &mut bytes) {
@@ -43,8 +43,8 @@ fn byte_of(text: &str) -> Option<u8>
     }
 }
 
-fn bytes_of(alloc: Global, text: &str) -> Result<Vec<u8>, Error>
-    ensures { IsReadResult (λ v. v.items) result (or_wrong_shape (bytes_at text.now)) }
+fn decode_base64(alloc: Global, text: &str) -> Result<Vec<u8>, Error>
+    ensures { IsReadResult (λ byte_vector. byte_vector.items) result (or_wrong_shape (decoded_base64 text.now)) }
 {
     match Binary::from_base64(alloc, text, None) {
         Ok(Binary { subtype: _, bytes }) => Ok(bytes),
@@ -62,13 +62,13 @@ pub(crate) fn read_binary(alloc: Global, value: Value) -> Result<Scalar, Error>
     let (base64, subtype) = expect_two_keys(value, "base64", "subType", BINARY_MESSAGE)?;
     let base64 = expect_string(base64, BINARY_MESSAGE)?;
     let subtype = expect_string(subtype, BINARY_MESSAGE)?;
-    let bytes = bytes_of(alloc, base64.as_str())?;
-    let byte = expect(
-        byte_of(subtype.as_str()),
+    let bytes = decode_base64(alloc, base64.as_str())?;
+    let subtype_number = expect(
+        byte_of_hex(subtype.as_str()),
         "`subType` must be two hexadecimal digits",
     )?;
     Ok(Scalar::Binary(Binary {
-        subtype: BinarySubtype::from(byte),
+        subtype: BinarySubtype::from(subtype_number),
         bytes,
     }))
 }
@@ -88,7 +88,7 @@ fn uuid_of(text: &str) -> Option<Uuid>
 
 // What `$uuid` holds, as a binary of the subtype of UUIDs: a text of 36 bytes, with `-` at places
 // 8, 13, 18 and 23, counted from 0, and hexadecimal digits of either case elsewhere. The other
-// spellings that `Uuid::parse_str` takes are refused.
+// spellings that `Uuid::parse_str` accepts are rejected.
 pub(crate) fn read_uuid(alloc: Global, value: Value) -> Result<Scalar, Error>
     ensures { IsReadResult scalar_view result (uuid_read (view value)) }
 {
@@ -97,16 +97,16 @@ pub(crate) fn read_uuid(alloc: Global, value: Value) -> Result<Scalar, Error>
     Ok(Scalar::Binary(Binary::from_uuid(alloc, id)?))
 }
 
-fn byte_text(alloc: Global, subtype: BinarySubtype) -> Result<String, AllocError>
-    ensures text { IfOk result (λ s. string_bytes s ≡ encode_lower (subtype_byte subtype ∷ [])) }
-    ensures ranged { OnOk result (subtype_byte subtype < 256) }
+fn subtype_hex_text(alloc: Global, subtype: BinarySubtype) -> Result<String, AllocError>
+    ensures text { IfOk result (λ written_text. string_bytes written_text ≡ encode_lower (subtype_byte subtype ∷ [])) }
+    ensures within_type_range { OnOk result (subtype_byte subtype < 256) }
 {
-    let byte = u8::from(subtype);
-    hex::encode(alloc, [byte])
+    let subtype_number = u8::from(subtype);
+    hex::encode(alloc, [subtype_number])
 }
 
 fn base64_text(alloc: Global, bytes: &[u8]) -> Result<String, AllocError>
-    ensures { IfOk result (λ s. string_bytes s ≡ padded_text bytes.now) }
+    ensures { IfOk result (λ written_text. string_bytes written_text ≡ padded_base64 bytes.now) }
 {
     STANDARD.encode(alloc, bytes)
 }
@@ -119,57 +119,57 @@ struct BinaryTexts {
 }
 
 fn binary_texts_of(alloc: Global, binary: &Binary) -> Result<BinaryTexts, AllocError>
-    ensures base64 { IfOk result (λ texts. string_bytes texts.base64 ≡ padded_text binary.now.bytes.items) }
+    ensures base64 { IfOk result (λ texts. string_bytes texts.base64 ≡ padded_base64 binary.now.bytes.items) }
     ensures subtype { IfOk result (λ texts. string_bytes texts.subtype
         ≡ encode_lower (subtype_byte binary.now.subtype ∷ [])) }
-    ensures ranged { OnOk result ((subtype_byte binary.now.subtype < 256) × IsBytes binary.now.bytes.items) }
+    ensures within_type_range { OnOk result ((subtype_byte binary.now.subtype < 256) × IsBytes binary.now.bytes.items) }
 {
-    are_bytes(binary.bytes.as_slice());
+    bytes_are_below_256(binary.bytes.as_slice());
     let base64 = base64_text(alloc, binary.bytes.as_slice())?;
-    let subtype = byte_text(alloc, binary.subtype)?;
+    let subtype = subtype_hex_text(alloc, binary.subtype)?;
     Ok(BinaryTexts { base64, subtype })
 }
 
-fn write_texts<S: Sink>(texts: BinaryTexts, out: &mut S) -> Result<S::Tree, AllocError>
-    ensures written { IfOk result (λ t. S.wrote out.old
-        (object_of_one (codes "$binary")
-        (object_of_two (codes "base64") (string (string_bytes texts.base64)) (codes "subType")
-        (string (string_bytes texts.subtype)))) t out.new) }
-    ensures before { S.before out.new ≡ S.before out.old }
+fn write_binary_texts<S: Sink>(texts: BinaryTexts, sink: &mut S) -> Result<S::Tree, AllocError>
+    ensures written { IfOk result (λ written_tree. S.wrote_tree sink.old
+        (one_key_object (codes "$binary")
+        (two_key_object (codes "base64") (string (string_bytes texts.base64)) (codes "subType")
+        (string (string_bytes texts.subtype)))) written_tree sink.new) }
+    ensures before { S.before sink.new ≡ S.before sink.old }
 {
     let BinaryTexts { base64, subtype } = texts;
-    let key = begin_object("$binary", out)?;
-    let texts = write_two_texts_object("base64", base64, "subType", subtype, out)?;
-    end_object_of_one(key, texts, out)
+    let key = begin_object("$binary", sink)?;
+    let texts = write_two_texts_object("base64", base64, "subType", subtype, sink)?;
+    end_one_key_object(key, texts, sink)
 }
 
 // Writes the tree of a binary, in both forms.
 pub(crate) fn write_binary<S: Sink>(
     alloc: Global,
     binary: &Binary,
-    out: &mut S,
+    sink: &mut S,
 ) -> Result<S::Tree, AllocError>
-    ensures written { IfOk result (λ t. S.wrote out.old
-        (binary_tree binary.now.subtype binary.now.bytes.items) t out.new) }
-    ensures before { S.before out.new ≡ S.before out.old }
-    ensures ranged { OnOk result ((subtype_byte binary.now.subtype < 256) × IsBytes binary.now.bytes.items) }
+    ensures written { IfOk result (λ written_tree. S.wrote_tree sink.old
+        (binary_tree binary.now.subtype binary.now.bytes.items) written_tree sink.new) }
+    ensures before { S.before sink.new ≡ S.before sink.old }
+    ensures within_type_range { OnOk result ((subtype_byte binary.now.subtype < 256) × IsBytes binary.now.bytes.items) }
 {
-    write_texts(binary_texts_of(alloc, binary)?, out)
+    write_binary_texts(binary_texts_of(alloc, binary)?, sink)
 }
 
 // Writes the tree of a binary, as `write_binary` does. Its bytes are dropped before the texts are
-// put into the sink.
-pub(crate) fn write_owned<S: Sink>(
+// written to the sink.
+pub(crate) fn write_owned_binary<S: Sink>(
     alloc: Global,
     binary: Binary,
-    out: &mut S,
+    sink: &mut S,
 ) -> Result<S::Tree, AllocError>
-    ensures written { IfOk result (λ t. S.wrote out.old
-        (binary_tree binary.subtype binary.bytes.items) t out.new) }
-    ensures before { S.before out.new ≡ S.before out.old }
-    ensures ranged { OnOk result ((subtype_byte binary.subtype < 256) × IsBytes binary.bytes.items) }
+    ensures written { IfOk result (λ written_tree. S.wrote_tree sink.old
+        (binary_tree binary.subtype binary.bytes.items) written_tree sink.new) }
+    ensures before { S.before sink.new ≡ S.before sink.old }
+    ensures within_type_range { OnOk result ((subtype_byte binary.subtype < 256) × IsBytes binary.bytes.items) }
 {
     let texts = binary_texts_of(alloc, &binary)?;
     drop(binary);
-    write_texts(texts, out)
+    write_binary_texts(texts, sink)
 }

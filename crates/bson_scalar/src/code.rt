@@ -4,7 +4,7 @@ ghost use Rattle.std.specs.Prelude.{◌≡◌, ◌++◌, ◌&&◌, IfOk, OnOk, c
 ghost use Rattle.std.specs.Str.{bytes_eq};
 ghost use Rattle.serde_json.specs.Data.{object, string};
 ghost use Rattle.serde_json.specs.View.{view, members_view};
-ghost use Rattle.bson_scalar.specs.TreeParts.{object_of_two};
+ghost use Rattle.bson_scalar.specs.TreeParts.{two_key_object};
 ghost use Rattle.bson_scalar.specs.Tokens.{code_tokens};
 
 use json::Writer;
@@ -12,10 +12,10 @@ use serde_json::{Map, Value};
 use std::alloc::{AllocError, Global};
 
 /// Returns whether an object with these two keys, in ascending order, is code with its scope.
-pub fn is_code_with_scope(key: &str, other: &str) -> bool
-    ensures { result ≡ (bytes_eq key.now (codes "$code") && bytes_eq other.now (codes "$scope")) }
+pub fn is_code_with_scope(key: &str, other_key: &str) -> bool
+    ensures { result ≡ (bytes_eq key.now (codes "$code") && bytes_eq other_key.now (codes "$scope")) }
 {
-    key == "$code" && is_scope(other)
+    key == "$code" && is_scope(other_key)
 }
 
 /// Returns whether the key is that of a scope, next to code.
@@ -30,12 +30,12 @@ pub fn is_scope(key: &str) -> bool
 /// # Errors
 ///
 /// Returns `AllocError` if a request for memory is refused.
-pub fn wrapped_code(
+pub fn code_with_scope_tree(
     alloc: Global,
     code: String,
     scope: Map<String, Value>,
 ) -> Result<Value, AllocError>
-    ensures { IfOk result (λ t. view t ≡ object_of_two (codes "$code") (string (string_bytes code))
+    ensures { IfOk result (λ tree. view tree ≡ two_key_object (codes "$code") (string (string_bytes code))
         (codes "$scope") (object (members_view scope.entries))) }
 {
     let mut members = Map::new(alloc);
@@ -49,12 +49,12 @@ pub fn wrapped_code(
 /// # Errors
 ///
 /// Returns `AllocError` if a request for memory is refused.
-pub fn put_code(code: &str, out: &mut Writer) -> Result<(), AllocError>
-    ensures put { OnOk result (out.new.tokens ≡ out.old.tokens ++ code_tokens code.now) }
-    ensures before { out.new.before ≡ out.old.before }
+pub fn put_code(code: &str, writer: &mut Writer) -> Result<(), AllocError>
+    ensures put { OnOk result (writer.new.tokens ≡ writer.old.tokens ++ code_tokens code.now) }
+    ensures before { writer.new.before ≡ writer.old.before }
 {
-    out.begin_object()?;
-    out.key("$code")?;
-    out.string(code)?;
-    out.key("$scope")
+    writer.begin_object()?;
+    writer.key("$code")?;
+    writer.string(code)?;
+    writer.key("$scope")
 }

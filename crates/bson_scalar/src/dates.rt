@@ -8,7 +8,7 @@ ghost use Rattle.bson_datetime.specs.Rfc3339Parser.{parsed_rfc3339_millis};
 ghost use Rattle.bson_datetime.specs.DateTimeText.{rfc3339_text};
 ghost use Rattle.bson_scalar.specs.Dates.{date_tree, relaxed_date_tree};
 ghost use Rattle.bson_scalar.specs.Faults.{IsReadResult, or_wrong_shape};
-ghost use Rattle.bson_scalar.specs.Reading.{millis_of, date_read};
+ghost use Rattle.bson_scalar.specs.Reading.{date_millis_of, date_read};
 ghost use Rattle.bson_scalar.specs.Written.{date_form};
 ghost use Rattle.bson_scalar.specs.View.{scalar_view};
 
@@ -16,7 +16,7 @@ use crate::error::Error;
 use crate::form::Form;
 use crate::ints::int64_of;
 use crate::object_writer::{
-    begin_object, end_object_of_one, write_numeral_object, write_owned_text_object,
+    begin_object, end_one_key_object, write_numeral_object, write_owned_text_object,
 };
 use crate::scalar::Scalar;
 use crate::sink::Sink;
@@ -28,9 +28,9 @@ use std::alloc::{AllocError, Global};
 const SHAPE_MESSAGE: &str = "`$date` must be an RFC 3339 string, an integer or a `$numberLong`";
 
 // The last millisecond of the year 9999.
-const LAST_RELAXED: i64 = 253_402_300_799_999;
+const LAST_RELAXED_MILLIS: i64 = 253_402_300_799_999;
 
-fn denoted_by(text: &str) -> Option<DateTime>
+fn date_of_rfc3339(text: &str) -> Option<DateTime>
     ensures { result ≡ parsed_rfc3339_millis text.now }
 {
     match DateTime::parse_rfc3339_str(text) {
@@ -39,12 +39,12 @@ fn denoted_by(text: &str) -> Option<DateTime>
     }
 }
 
-fn millis_in(value: Value) -> Result<i64, Error>
-    ensures { IsReadResult (λ z. z) result (millis_of (view value)) }
+fn date_millis_in(value: Value) -> Result<i64, Error>
+    ensures { IsReadResult (λ millis. millis) result (date_millis_of (view value)) }
 {
     match value {
-        Value::String(text) => expect(denoted_by(text.as_str()), SHAPE_MESSAGE).map(
-            |d| d.timestamp_millis(),
+        Value::String(text) => expect(date_of_rfc3339(text.as_str()), SHAPE_MESSAGE).map(
+            |date| date.timestamp_millis(),
         ),
         Value::Number(number) => expect(number.as_i64(), SHAPE_MESSAGE),
         value => {
@@ -61,14 +61,14 @@ fn millis_in(value: Value) -> Result<i64, Error>
 pub(crate) fn read_date(value: Value) -> Result<Scalar, Error>
     ensures { IsReadResult scalar_view result (date_read (view value)) }
 {
-    let millis = millis_in(value)?;
+    let millis = date_millis_in(value)?;
     Ok(Scalar::DateTime(DateTime::from_millis(millis)))
 }
 
-fn text(alloc: Global, date: DateTime) -> Result<String, AllocError>
-    requires from { pos 0 ≤ℤ date }
-    requires to { date ≤ℤ pos 253_402_300_799_999 }
-    ensures { IfOk result (λ s. string_bytes s ≡ rfc3339_text date) }
+fn date_text(alloc: Global, date: DateTime) -> Result<String, AllocError>
+    requires from_1970 { pos 0 ≤ℤ date }
+    requires until_9999 { date ≤ℤ pos 253_402_300_799_999 }
+    ensures { IfOk result (λ written_text. string_bytes written_text ≡ rfc3339_text date) }
 {
     match date.try_to_rfc3339_string(alloc) {
         Ok(text) => Ok(text),
@@ -77,26 +77,31 @@ fn text(alloc: Global, date: DateTime) -> Result<String, AllocError>
     }
 }
 
-// The milliseconds, as canonical.
-fn write_millis<S: Sink>(date: DateTime, out: &mut S) -> Result<S::Tree, AllocError>
-    ensures written { IfOk result (λ t. S.wrote out.old (date_tree date) t out.new) }
-    ensures before { S.before out.new ≡ S.before out.old }
+// Writes the tree of a date in the canonical form: its milliseconds.
+fn write_date_millis<S: Sink>(date: DateTime, sink: &mut S) -> Result<S::Tree, AllocError>
+    ensures written { IfOk result (λ written_tree. S.wrote_tree sink.old (date_tree date) written_tree sink.new) }
+    ensures before { S.before sink.new ≡ S.before sink.old }
 {
-    let key = begin_object("$date", out)?;
-    let millis = write_numeral_object("$numberLong", date.timestamp_millis(), out)?;
-    end_object_of_one(key, millis, out)
+    let key = begin_object("$date", sink)?;
+    let millis = write_numeral_object("$numberLong", date.timestamp_millis(), sink)?;
+    end_one_key_object(key, millis, sink)
 }
 
-fn write_relaxed<S: Sink>(alloc: Global, date: DateTime, out: &mut S) -> Result<S::Tree, AllocError>
-    ensures written { IfOk result (λ t. S.wrote out.old (relaxed_date_tree date) t out.new) }
-    ensures before { S.before out.new ≡ S.before out.old }
+fn write_relaxed_date<S: Sink>(
+    alloc: Global,
+    date: DateTime,
+    sink: &mut S,
+) -> Result<S::Tree, AllocError>
+    ensures written { IfOk result
+        (λ written_tree. S.wrote_tree sink.old (relaxed_date_tree date) written_tree sink.new) }
+    ensures before { S.before sink.new ≡ S.before sink.old }
 {
     let millis = date.timestamp_millis();
-    if 0 <= millis && millis <= LAST_RELAXED {
-        let readable = text(alloc, date)?;
-        write_owned_text_object("$date", readable, out)
+    if 0 <= millis && millis <= LAST_RELAXED_MILLIS {
+        let rfc3339_date = date_text(alloc, date)?;
+        write_owned_text_object("$date", rfc3339_date, sink)
     } else {
-        write_millis(date, out)
+        write_date_millis(date, sink)
     }
 }
 
@@ -105,14 +110,14 @@ pub(crate) fn write_date<S: Sink>(
     alloc: Global,
     form: Form,
     date: DateTime,
-    out: &mut S,
+    sink: &mut S,
 ) -> Result<S::Tree, AllocError>
-    ensures written { IfOk result (λ t. S.wrote out.old (date_form form date) t out.new) }
-    ensures before { S.before out.new ≡ S.before out.old }
-    ensures ranged { OnOk result (FitsSigned w64 date) }
+    ensures written { IfOk result (λ written_tree. S.wrote_tree sink.old (date_form form date) written_tree sink.new) }
+    ensures before { S.before sink.new ≡ S.before sink.old }
+    ensures within_type_range { OnOk result (FitsSigned w64 date) }
 {
     match form {
-        Form::Canonical => write_millis(date, out),
-        Form::Relaxed => write_relaxed(alloc, date, out),
+        Form::Canonical => write_date_millis(date, sink),
+        Form::Relaxed => write_relaxed_date(alloc, date, sink),
     }
 }

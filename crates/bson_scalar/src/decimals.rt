@@ -21,7 +21,7 @@ const SHAPE_MESSAGE: &str =
 
 // The number of bytes of the longest text: a sign, 34 digits, a point, `E`, and an exponent of a
 // sign and four digits.
-const LONGEST_TEXT: usize = 42;
+const MAX_DECIMAL_TEXT_BYTES: usize = 42;
 
 // The decimal of a text.
 fn decimal_of(text: &str) -> Option<Decimal128>
@@ -43,12 +43,12 @@ pub(crate) fn read_decimal(value: Value) -> Result<Scalar, Error>
 pub(crate) fn write_decimal<S: Sink>(
     alloc: Global,
     decimal: Decimal128,
-    out: &mut S,
+    sink: &mut S,
 ) -> Result<S::Tree, AllocError>
-    ensures written { IfOk result (λ t. S.wrote out.old (decimal_tree decimal) t out.new) }
-    ensures before { S.before out.new ≡ S.before out.old }
+    ensures written { IfOk result (λ written_tree. S.wrote_tree sink.old (decimal_tree decimal) written_tree sink.new) }
+    ensures before { S.before sink.new ≡ S.before sink.old }
 {
-    let mut text = String::with_capacity(alloc, LONGEST_TEXT)?;
+    let mut text = String::with_capacity(alloc, MAX_DECIMAL_TEXT_BYTES)?;
     write!(text, "{decimal}")?;
-    write_owned_text_object("$numberDecimal", text, out)
+    write_owned_text_object("$numberDecimal", text, sink)
 }

@@ -38,8 +38,8 @@ pub const NUMBER_MESSAGE: &str = "not a 64-bit integer";
 const FINITE_NUMBER_MESSAGE: &str = "a number is greater than any double";
 
 // The pattern of a text: of a NaN the quiet one of its sign with no payload.
-fn double_of(text: &str) -> Option<u64>
-    ensures { result ≡ spec.double_pattern text.now }
+fn special_double_bits(text: &str) -> Option<u64>
+    ensures { result ≡ spec.special_double_pattern text.now }
 {
     if text == "0.0" {
         Some(0)
@@ -59,25 +59,25 @@ fn double_of(text: &str) -> Option<u64>
 }
 
 // The same, and else the pattern of the double nearest to a decimal number.
-fn finite_of(text: &str) -> Option<u64>
-    ensures { result ≡ spec.or_finite_of (spec.double_pattern text.now) text.now }
+fn finite_double_bits(text: &str) -> Option<u64>
+    ensures { result ≡ spec.or_parsed_finite_bits (spec.special_double_pattern text.now) text.now }
 {
-    match double_of(text) {
+    match special_double_bits(text) {
         Some(pattern) => Some(pattern),
         None => bson_double::double_of_text(text.as_bytes()).ok(),
     }
 }
 
-fn double_in(doubles: Doubles, text: &str) -> Option<u64>
-    ensures { result ≡ spec.double_in doubles text.now }
+fn double_bits_of_text(doubles: Doubles, text: &str) -> Option<u64>
+    ensures { result ≡ spec.double_bits_of_text doubles text.now }
 {
     match doubles {
-        Doubles::Special => double_of(text),
-        Doubles::Finite => finite_of(text),
+        Doubles::Special => special_double_bits(text),
+        Doubles::Finite => finite_double_bits(text),
     }
 }
 
-fn shape(doubles: Doubles) -> &'static str {
+fn expected_shape(doubles: Doubles) -> &'static str {
     match doubles {
         Doubles::Special => SHAPE_MESSAGE,
         Doubles::Finite => FINITE_SHAPE_MESSAGE,
@@ -88,17 +88,20 @@ fn shape(doubles: Doubles) -> &'static str {
 pub(crate) fn read_double(doubles: Doubles, value: Value) -> Result<Scalar, Error>
     ensures { IsReadResult scalar_view result (double_read_in doubles (view value)) }
 {
-    let text = expect_string(value, shape(doubles))?;
-    let pattern = expect(double_in(doubles, text.as_str()), shape(doubles))?;
+    let text = expect_string(value, expected_shape(doubles))?;
+    let pattern = expect(
+        double_bits_of_text(doubles, text.as_str()),
+        expected_shape(doubles),
+    )?;
     Ok(Scalar::Double(pattern))
 }
 
 fn finite_number(number: &Number) -> Option<u64>
     ensures { result ≡ spec.finite_number (number_view number.now) }
 {
-    let nearest = number.as_f64()?;
-    if nearest.is_finite() {
-        Some(nearest.to_bits())
+    let nearest_double = number.as_f64()?;
+    if nearest_double.is_finite() {
+        Some(nearest_double.to_bits())
     } else {
         None
     }
@@ -135,7 +138,7 @@ pub fn read_number(doubles: Doubles, number: &Number) -> Result<Scalar, Error>
 }
 
 fn double_text(pattern: u64) -> Option<&'static str>
-    ensures { option_map (λ s. s.now) result ≡ spec.double_text pattern }
+    ensures { option_map (λ text_bytes. text_bytes.now) result ≡ spec.double_text pattern }
 {
     if pattern == 0 {
         Some("0.0")
@@ -154,48 +157,55 @@ fn double_text(pattern: u64) -> Option<&'static str>
     }
 }
 
-fn write_special<S: Sink>(pattern: u64, out: &mut S) -> Result<S::Tree, WriteError>
-    ensures written { IsSinkResult (λ d t. S.wrote out.old d t out.new) result (special_double_tree (spec.double_text pattern)) }
-    ensures before { S.before out.new ≡ S.before out.old }
+fn write_special_double<S: Sink>(pattern: u64, sink: &mut S) -> Result<S::Tree, WriteError>
+    ensures written { IsSinkResult
+        (λ json_tree written_tree. S.wrote_tree sink.old json_tree written_tree sink.new) result
+        (special_double_tree (spec.double_text pattern)) }
+    ensures before { S.before sink.new ≡ S.before sink.old }
 {
     match double_text(pattern) {
-        Some(text) => Ok(write_text_object("$numberDouble", text, out)?),
+        Some(text) => Ok(write_text_object("$numberDouble", text, sink)?),
         None => Err(WriteError::FiniteDouble),
     }
 }
 
 // Writes the shortest decimal of a double that is finite.
-fn write_finite<S: Sink>(pattern: u64, out: &mut S) -> Result<S::Tree, AllocError>
+fn write_finite_double<S: Sink>(pattern: u64, sink: &mut S) -> Result<S::Tree, AllocError>
     requires { IsTrue (is_finite pattern) }
-    ensures written { IfOk result (λ t. (s : List ℕ) × (finite_double_text pattern ≡ Some s)
-        × S.wrote out.old (spec.double_tree s) t out.new) }
-    ensures before { S.before out.new ≡ S.before out.old }
+    ensures written { IfOk result (λ written_tree. (text_bytes : List ℕ)
+        × (finite_double_text pattern ≡ Some text_bytes)
+        × S.wrote_tree sink.old (spec.double_tree text_bytes) written_tree sink.new) }
+    ensures before { S.before sink.new ≡ S.before sink.old }
 {
     write_text_object(
         "$numberDouble",
         bson_double::double_text(pattern).as_str(),
-        out,
+        sink,
     )
 }
 
-fn write_canonical<S: Sink>(pattern: u64, out: &mut S) -> Result<S::Tree, WriteError>
-    ensures written { IsSinkResult (λ d t. S.wrote out.old d t out.new) result (double_writes_in Finite Canonical pattern) }
-    ensures before { S.before out.new ≡ S.before out.old }
+fn write_canonical_double<S: Sink>(pattern: u64, sink: &mut S) -> Result<S::Tree, WriteError>
+    ensures written { IsSinkResult
+        (λ json_tree written_tree. S.wrote_tree sink.old json_tree written_tree sink.new) result
+        (double_writes_in Finite Canonical pattern) }
+    ensures before { S.before sink.new ≡ S.before sink.old }
 {
     match double_text(pattern) {
-        Some(text) => Ok(write_text_object("$numberDouble", text, out)?),
-        None => Ok(write_finite(pattern, out)?),
+        Some(text) => Ok(write_text_object("$numberDouble", text, sink)?),
+        None => Ok(write_finite_double(pattern, sink)?),
     }
 }
 
-fn write_relaxed<S: Sink>(pattern: u64, out: &mut S) -> Result<S::Tree, WriteError>
-    ensures written { IsSinkResult (λ d t. S.wrote out.old d t out.new) result (double_writes_in Finite Relaxed pattern) }
-    ensures before { S.before out.new ≡ S.before out.old }
+fn write_relaxed_double<S: Sink>(pattern: u64, sink: &mut S) -> Result<S::Tree, WriteError>
+    ensures written { IsSinkResult
+        (λ json_tree written_tree. S.wrote_tree sink.old json_tree written_tree sink.new) result
+        (double_writes_in Finite Relaxed pattern) }
+    ensures before { S.before sink.new ≡ S.before sink.old }
 {
     if bson_double::is_finite(pattern) {
-        Ok(out.double(pattern)?)
+        Ok(sink.double(pattern)?)
     } else {
-        write_special(pattern, out)
+        write_special_double(pattern, sink)
     }
 }
 
@@ -206,14 +216,16 @@ pub(crate) fn write_double<S: Sink>(
     doubles: Doubles,
     form: Form,
     pattern: u64,
-    out: &mut S,
+    sink: &mut S,
 ) -> Result<S::Tree, WriteError>
-    ensures written { IsSinkResult (λ d t. S.wrote out.old d t out.new) result (double_writes_in doubles form pattern) }
-    ensures before { S.before out.new ≡ S.before out.old }
+    ensures written { IsSinkResult
+        (λ json_tree written_tree. S.wrote_tree sink.old json_tree written_tree sink.new) result
+        (double_writes_in doubles form pattern) }
+    ensures before { S.before sink.new ≡ S.before sink.old }
 {
     match (doubles, form) {
-        (Doubles::Special, _) => write_special(pattern, out),
-        (Doubles::Finite, Form::Canonical) => write_canonical(pattern, out),
-        (Doubles::Finite, Form::Relaxed) => write_relaxed(pattern, out),
+        (Doubles::Special, _) => write_special_double(pattern, sink),
+        (Doubles::Finite, Form::Canonical) => write_canonical_double(pattern, sink),
+        (Doubles::Finite, Form::Relaxed) => write_relaxed_double(pattern, sink),
     }
 }

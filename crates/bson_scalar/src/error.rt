@@ -37,7 +37,7 @@ pub enum Error {
 pub type Result<T, E = Error> = std::result::Result<T, E>;
 
 impl From<AllocError> for Error {
-    ghost from_gives = { λ _ e. e ≡ read_error.OutOfMemory };
+    ghost from_gives = { λ _ error_value. error_value ≡ read_error.OutOfMemory };
 
     fn from(_refused: AllocError) -> Error {
         Error::OutOfMemory
@@ -45,7 +45,7 @@ impl From<AllocError> for Error {
 }
 
 impl<T: Drop> From<AllocFailed<T>> for Error {
-    ghost from_gives = { λ _ e. e ≡ read_error.OutOfMemory };
+    ghost from_gives = { λ _ error_value. error_value ≡ read_error.OutOfMemory };
 
     fn from(_refused: AllocFailed<T>) -> Error {
         Error::OutOfMemory

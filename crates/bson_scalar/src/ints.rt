@@ -3,7 +3,7 @@
 ghost use Rattle.std.specs.Prelude.{◌≡◌, IfOk};
 ghost use Rattle.serde_json.specs.View.{view};
 ghost use Rattle.bson_scalar.specs.Faults.{IsReadResult};
-ghost use Rattle.bson_scalar.specs.Reading.{int_of, int32_read, int64_read};
+ghost use Rattle.bson_scalar.specs.Reading.{parsed_int, int32_read, int64_read};
 ghost use Rattle.bson_scalar.specs.Written.{int32_form, int64_form};
 ghost use Rattle.bson_scalar.specs.View.{scalar_view};
 
@@ -22,14 +22,14 @@ const INT64_MESSAGE: &str = "`$numberLong` must be a string with a 64-bit intege
 
 // The number of a text: a sign or none, and digits, whose number is an i32.
 fn int32_of(text: &str) -> Option<i32>
-    ensures { result ≡ int_of 31 text.now }
+    ensures { result ≡ parsed_int 31 text.now }
 {
     text.parse::<i32>().ok()
 }
 
 // The number of a text: a sign or none, and digits, whose number is an i64.
 pub(crate) fn int64_of(text: &str) -> Option<i64>
-    ensures { result ≡ int_of 63 text.now }
+    ensures { result ≡ parsed_int 63 text.now }
 {
     text.parse::<i64>().ok()
 }
@@ -56,14 +56,15 @@ pub(crate) fn read_int64(value: Value) -> Result<Scalar, Error>
 pub(crate) fn write_int32<S: Sink>(
     form: Form,
     number: i32,
-    out: &mut S,
+    sink: &mut S,
 ) -> Result<S::Tree, AllocError>
-    ensures written { IfOk result (λ t. S.wrote out.old (int32_form form number) t out.new) }
-    ensures before { S.before out.new ≡ S.before out.old }
+    ensures written { IfOk result
+        (λ written_tree. S.wrote_tree sink.old (int32_form form number) written_tree sink.new) }
+    ensures before { S.before sink.new ≡ S.before sink.old }
 {
     match form {
-        Form::Canonical => write_numeral_object("$numberInt", number as i64, out),
-        Form::Relaxed => out.integer(number as i64),
+        Form::Canonical => write_numeral_object("$numberInt", number as i64, sink),
+        Form::Relaxed => sink.integer(number as i64),
     }
 }
 
@@ -71,13 +72,14 @@ pub(crate) fn write_int32<S: Sink>(
 pub(crate) fn write_int64<S: Sink>(
     form: Form,
     number: i64,
-    out: &mut S,
+    sink: &mut S,
 ) -> Result<S::Tree, AllocError>
-    ensures written { IfOk result (λ t. S.wrote out.old (int64_form form number) t out.new) }
-    ensures before { S.before out.new ≡ S.before out.old }
+    ensures written { IfOk result
+        (λ written_tree. S.wrote_tree sink.old (int64_form form number) written_tree sink.new) }
+    ensures before { S.before sink.new ≡ S.before sink.old }
 {
     match form {
-        Form::Canonical => write_numeral_object("$numberLong", number, out),
-        Form::Relaxed => out.integer(number),
+        Form::Canonical => write_numeral_object("$numberLong", number, sink),
+        Form::Relaxed => sink.integer(number),
     }
 }

@@ -5,7 +5,7 @@ ghost use Rattle.std.specs.List.Sorted.{IsStrictlyIncreasing};
 ghost use Rattle.bson_scalar.specs.KeyHash.{key_hash};
 
 // A hash is a sum of powers of this odd number.
-const BASE: u64 = 0x9E37_79B9_7F4A_7C15;
+const HASH_BASE: u64 = 0x9E37_79B9_7F4A_7C15;
 
 /// Computes the hash of a key: a polynomial of its bytes, modulo 2^64.
 pub fn hash_key(key: &str) -> u64
@@ -13,15 +13,17 @@ pub fn hash_key(key: &str) -> u64
 {
     let bytes = key.as_bytes();
     let mut hash: u64 = 0;
-    'bytes: for at in 0..bytes.len() {
-        hash = hash.wrapping_mul(BASE).wrapping_add(bytes[at] as u64);
+    'bytes: for byte_index in 0..bytes.len() {
+        hash = hash
+            .wrapping_mul(HASH_BASE)
+            .wrapping_add(bytes[byte_index] as u64);
     }
     hash
 }
 
 /// Returns whether no two of the hashes are equal. It may change their order.
 pub fn are_distinct_hashes(hashes: &mut [u64]) -> bool
-    ensures { IsTrue result → AllPairs (λ a b. a ≢ b) hashes.old }
+    ensures { IsTrue result → AllPairs (λ hash other_hash. hash ≢ other_hash) hashes.old }
 {
     hashes.sort_unstable();
     are_increasing(hashes)
@@ -31,8 +33,8 @@ pub fn are_distinct_hashes(hashes: &mut [u64]) -> bool
 fn are_increasing(hashes: &[u64]) -> bool
     ensures { IsTrue result → IsStrictlyIncreasing hashes.now }
 {
-    for next in 1..hashes.len() {
-        if hashes[next - 1] >= hashes[next] {
+    for hash_index in 1..hashes.len() {
+        if hashes[hash_index - 1] >= hashes[hash_index] {
             return false;
         }
     }

@@ -3,129 +3,142 @@ ghost use Rattle.std.specs.Prelude.{◌≡◌, ℕ, List, IfOk, string_bytes};
 ghost use Rattle.std.specs.Fmt.{signed_decimal};
 ghost use Rattle.serde_json.specs.Data.{Data, no_members, member, put};
 ghost use Rattle.serde_json.specs.Data as tree;
-ghost use Rattle.bson_scalar.specs.TreeParts.{object_of_one, object_of_two};
+ghost use Rattle.bson_scalar.specs.TreeParts.{one_key_object, two_key_object};
 
 use crate::sink::Sink;
 use std::alloc::AllocError;
 
 // Begins an object with its first key.
-pub(crate) fn begin_object<S: Sink>(name: &str, out: &mut S) -> Result<S::Key, AllocError>
-    ensures written { IfOk result (λ key. S.wrote_key out.old no_members name.now key out.new) }
-    ensures before { S.before out.new ≡ S.before out.old }
+pub(crate) fn begin_object<S: Sink>(key_name: &str, sink: &mut S) -> Result<S::Key, AllocError>
+    ensures written { IfOk result (λ key. S.wrote_key sink.old no_members key_name.now key sink.new) }
+    ensures before { S.before sink.new ≡ S.before sink.old }
 {
-    let map = out.begin_map()?;
-    out.key(map, name)
+    let map = sink.begin_map()?;
+    sink.key(map, key_name)
 }
 
 // Ends an object of one key with the tree that was written under it.
-pub(crate) fn end_object_of_one<S: Sink>(
+pub(crate) fn end_one_key_object<S: Sink>(
     key: S::Key,
     tree: S::Tree,
-    out: &mut S,
+    sink: &mut S,
 ) -> Result<S::Tree, AllocError>
-    ensures written { IfOk result (λ t. (start mid : S) (k : List ℕ) (d : Data)
-        → S.wrote_key start no_members k key mid → S.wrote mid d tree out.old
-        → S.wrote start (object_of_one k d) t out.new) }
-    ensures before { S.before out.new ≡ S.before out.old }
+    ensures written { IfOk result
+        (λ written_tree. (state_before_object state_after_key : S) (first_key : List ℕ) (first_tree : Data)
+        → S.wrote_key state_before_object no_members first_key key state_after_key
+        → S.wrote_tree state_after_key first_tree tree sink.old
+        → S.wrote_tree state_before_object (one_key_object first_key first_tree) written_tree sink.new) }
+    ensures before { S.before sink.new ≡ S.before sink.old }
 {
-    let map = out.member(key, tree)?;
-    out.end_map(map)
+    let map = sink.member(key, tree)?;
+    sink.end_map(map)
 }
 
 // Writes the second key after the tree under the first.
 pub(crate) fn begin_second_member<S: Sink>(
     key: S::Key,
     tree: S::Tree,
-    name: &str,
-    out: &mut S,
+    key_name: &str,
+    sink: &mut S,
 ) -> Result<S::Key, AllocError>
-    ensures written { IfOk result (λ next. (start mid : S) (k : List ℕ) (d : Data)
-        → S.wrote_key start no_members k key mid → S.wrote mid d tree out.old
-        → S.wrote_key start (member k d no_members) name.now next out.new) }
-    ensures before { S.before out.new ≡ S.before out.old }
+    ensures written { IfOk result
+        (λ written_key. (state_before_object state_after_key : S) (first_key : List ℕ) (first_tree : Data)
+        → S.wrote_key state_before_object no_members first_key key state_after_key
+        → S.wrote_tree state_after_key first_tree tree sink.old
+        → S.wrote_key state_before_object (member first_key first_tree no_members) key_name.now written_key sink.new) }
+    ensures before { S.before sink.new ≡ S.before sink.old }
 {
-    let map = out.member(key, tree)?;
-    out.key(map, name)
+    let map = sink.member(key, tree)?;
+    sink.key(map, key_name)
 }
 
 // Ends an object of two keys, of which the second is the greater.
-pub(crate) fn end_object_of_two<S: Sink>(
+pub(crate) fn end_two_key_object<S: Sink>(
     key: S::Key,
     tree: S::Tree,
-    out: &mut S,
+    sink: &mut S,
 ) -> Result<S::Tree, AllocError>
-    ensures written { IfOk result (λ t. (start mid : S) (k l : List ℕ) (d e : Data)
-        → S.wrote_key start (member k d no_members) l key mid → S.wrote mid e tree out.old
-        → put l e (member k d no_members) ≡ member k d (member l e no_members)
-        → S.wrote start (object_of_two k d l e) t out.new) }
-    ensures before { S.before out.new ≡ S.before out.old }
+    ensures written { IfOk result
+        (λ written_tree. (state_before_object state_after_key : S) (first_key second_key : List ℕ)
+        (first_tree second_tree : Data)
+        → S.wrote_key state_before_object (member first_key first_tree no_members) second_key key state_after_key
+        → S.wrote_tree state_after_key second_tree tree sink.old
+        → put second_key second_tree (member first_key first_tree no_members)
+        ≡ member first_key first_tree (member second_key second_tree no_members)
+        → S.wrote_tree state_before_object
+        (two_key_object first_key first_tree second_key second_tree) written_tree sink.new) }
+    ensures before { S.before sink.new ≡ S.before sink.old }
 {
-    let map = out.member(key, tree)?;
-    out.end_map(map)
+    let map = sink.member(key, tree)?;
+    sink.end_map(map)
 }
 
 // An object of one key that holds a text.
 pub(crate) fn write_text_object<S: Sink>(
-    name: &str,
+    key_name: &str,
     text: &str,
-    out: &mut S,
+    sink: &mut S,
 ) -> Result<S::Tree, AllocError>
-    ensures written { IfOk result (λ t. S.wrote out.old (object_of_one name.now (tree.string text.now)) t out.new) }
-    ensures before { S.before out.new ≡ S.before out.old }
+    ensures written { IfOk result
+        (λ written_tree. S.wrote_tree sink.old
+        (one_key_object key_name.now (tree.string text.now)) written_tree sink.new) }
+    ensures before { S.before sink.new ≡ S.before sink.old }
 {
-    let key = begin_object(name, out)?;
-    let text = out.text(text)?;
-    end_object_of_one(key, text, out)
+    let key = begin_object(key_name, sink)?;
+    let text = sink.text(text)?;
+    end_one_key_object(key, text, sink)
 }
 
 // An object of one key that holds a text, which is moved into a tree in memory.
 pub(crate) fn write_owned_text_object<S: Sink>(
-    name: &str,
+    key_name: &str,
     text: String,
-    out: &mut S,
+    sink: &mut S,
 ) -> Result<S::Tree, AllocError>
-    ensures written { IfOk result (λ t. S.wrote out.old
-        (object_of_one name.now (tree.string (string_bytes text))) t out.new) }
-    ensures before { S.before out.new ≡ S.before out.old }
+    ensures written { IfOk result (λ written_tree. S.wrote_tree sink.old
+        (one_key_object key_name.now (tree.string (string_bytes text))) written_tree sink.new) }
+    ensures before { S.before sink.new ≡ S.before sink.old }
 {
-    let key = begin_object(name, out)?;
-    let text = out.owned_text(text)?;
-    end_object_of_one(key, text, out)
+    let key = begin_object(key_name, sink)?;
+    let text = sink.owned_text(text)?;
+    end_one_key_object(key, text, sink)
 }
 
 // An object of two texts, of whose keys the second is the greater.
 pub(crate) fn write_two_texts_object<S: Sink>(
     key: &str,
     text: String,
-    next_key: &str,
-    next_text: String,
-    out: &mut S,
+    second_key_name: &str,
+    second_text: String,
+    sink: &mut S,
 ) -> Result<S::Tree, AllocError>
-    requires { (d e : Data) → put next_key.now e (member key.now d no_members)
-        ≡ member key.now d (member next_key.now e no_members) }
-    ensures written { IfOk result (λ t. S.wrote out.old
-        (object_of_two key.now (tree.string (string_bytes text)) next_key.now (tree.string (string_bytes next_text)))
-        t out.new) }
-    ensures before { S.before out.new ≡ S.before out.old }
+    requires { (first_tree second_tree : Data)
+        → put second_key_name.now second_tree (member key.now first_tree no_members)
+        ≡ member key.now first_tree (member second_key_name.now second_tree no_members) }
+    ensures written { IfOk result (λ written_tree. S.wrote_tree sink.old
+        (two_key_object key.now (tree.string (string_bytes text)) second_key_name.now
+        (tree.string (string_bytes second_text)))
+        written_tree sink.new) }
+    ensures before { S.before sink.new ≡ S.before sink.old }
 {
-    let begun = begin_object(key, out)?;
-    let text = out.owned_text(text)?;
-    let begun = begin_second_member(begun, text, next_key, out)?;
-    let text = out.owned_text(next_text)?;
-    end_object_of_two(begun, text, out)
+    let begun_key = begin_object(key, sink)?;
+    let text = sink.owned_text(text)?;
+    let begun_key = begin_second_member(begun_key, text, second_key_name, sink)?;
+    let text = sink.owned_text(second_text)?;
+    end_two_key_object(begun_key, text, sink)
 }
 
 // An object of one key that holds the text of a number.
 pub(crate) fn write_numeral_object<S: Sink>(
-    name: &str,
+    key_name: &str,
     number: i64,
-    out: &mut S,
+    sink: &mut S,
 ) -> Result<S::Tree, AllocError>
-    ensures written { IfOk result (λ t. S.wrote out.old
-        (object_of_one name.now (tree.string (signed_decimal number))) t out.new) }
-    ensures before { S.before out.new ≡ S.before out.old }
+    ensures written { IfOk result (λ written_tree. S.wrote_tree sink.old
+        (one_key_object key_name.now (tree.string (signed_decimal number))) written_tree sink.new) }
+    ensures before { S.before sink.new ≡ S.before sink.old }
 {
-    let key = begin_object(name, out)?;
-    let numeral = out.numeral(number)?;
-    end_object_of_one(key, numeral, out)
+    let key = begin_object(key_name, sink)?;
+    let numeral = sink.numeral(number)?;
+    end_one_key_object(key, numeral, sink)
 }

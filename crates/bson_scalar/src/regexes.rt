@@ -2,14 +2,14 @@
 //! and written with the options sorted by character.
 ghost use Rattle.std.specs.Prelude.{◌≡◌, IfOk, string_bytes};
 ghost use Rattle.serde_json.specs.View.{view};
-ghost use Rattle.bson_types.specs.Regex.{sorted_text};
+ghost use Rattle.bson_types.specs.Regex.{sorted_regex_options};
 ghost use Rattle.bson_scalar.specs.Faults.{IsReadResult};
 ghost use Rattle.bson_scalar.specs.Reading.{regex_read};
 ghost use Rattle.bson_scalar.specs.Regexes.{regex_tree};
 ghost use Rattle.bson_scalar.specs.View.{scalar_view};
 
 use crate::error::Error;
-use crate::object_writer::{begin_object, end_object_of_one, write_two_texts_object};
+use crate::object_writer::{begin_object, end_one_key_object, write_two_texts_object};
 use crate::scalar::Scalar;
 use crate::sink::Sink;
 use crate::tree_parts::{expect_string, expect_two_keys};
@@ -34,15 +34,16 @@ pub(crate) fn read_regex(alloc: Global, value: Value) -> Result<Scalar, Error>
 pub(crate) fn write_regex<S: Sink>(
     alloc: Global,
     regex: Regex,
-    out: &mut S,
+    sink: &mut S,
 ) -> Result<S::Tree, AllocError>
-    ensures written { IfOk result (λ t. S.wrote out.old
-        (regex_tree (string_bytes regex.pattern) (sorted_text (string_bytes regex.options))) t out.new) }
-    ensures before { S.before out.new ≡ S.before out.old }
+    ensures written { IfOk result (λ written_tree. S.wrote_tree sink.old
+        (regex_tree (string_bytes regex.pattern)
+        (sorted_regex_options (string_bytes regex.options))) written_tree sink.new) }
+    ensures before { S.before sink.new ≡ S.before sink.old }
 {
     let Regex { pattern, options } = regex;
-    let ordered = sort_characters(alloc, options.as_str())?;
-    let key = begin_object("$regularExpression", out)?;
-    let texts = write_two_texts_object("options", ordered, "pattern", pattern, out)?;
-    end_object_of_one(key, texts, out)
+    let sorted_options = sort_characters(alloc, options.as_str())?;
+    let key = begin_object("$regularExpression", sink)?;
+    let content_tree = write_two_texts_object("options", sorted_options, "pattern", pattern, sink)?;
+    end_one_key_object(key, content_tree, sink)
 }

@@ -55,7 +55,7 @@ pub trait Element {
 impl<'a> Element for ScalarRef<'a> {
     ghost use Rattle.bson_scalar.specs.ElementType.{scalar_type};
 
-    ghost stored_as = { λ x. scalar_type (scalar_of x) };
+    ghost stored_as = { λ scalar. scalar_type (scalar_of scalar) };
 
     fn element_type(&self) -> ElementType {
         match *self {
@@ -86,7 +86,7 @@ impl<'a> PartialEq for ScalarRef<'a> {
     ghost use Rattle.bson_scalar.specs.Same.{scalar_eq};
     ghost use Rattle.bson_scalar.specs.SameLaws.{scalar_decides};
 
-    ghost eq = { λ a b. scalar_eq (scalar_of a) (scalar_of b) };
+    ghost eq = { λ scalar other_scalar. scalar_eq (scalar_of scalar) (scalar_of other_scalar) };
 
     ghost laws = { on_per scalar_of (partial_equiv_from_equiv (decided scalar_eq scalar_decides)) };
 
@@ -96,27 +96,29 @@ impl<'a> PartialEq for ScalarRef<'a> {
             (ScalarRef::Undefined, ScalarRef::Undefined) => true,
             (ScalarRef::MinKey, ScalarRef::MinKey) => true,
             (ScalarRef::MaxKey, ScalarRef::MaxKey) => true,
-            (ScalarRef::Boolean(x), ScalarRef::Boolean(y)) => *x == *y,
-            (ScalarRef::Double(x), ScalarRef::Double(y)) => *x == *y,
-            (ScalarRef::Int32(x), ScalarRef::Int32(y)) => *x == *y,
-            (ScalarRef::Int64(x), ScalarRef::Int64(y)) => *x == *y,
-            (ScalarRef::String(x), ScalarRef::String(y)) => x == y,
-            (ScalarRef::Symbol(x), ScalarRef::Symbol(y)) => x == y,
-            (ScalarRef::JavaScriptCode(x), ScalarRef::JavaScriptCode(y)) => x == y,
-            (ScalarRef::RegularExpression(x), ScalarRef::RegularExpression(y)) => {
-                x.pattern == y.pattern && x.options == y.options
+            (ScalarRef::Boolean(value), ScalarRef::Boolean(other_value)) => *value == *other_value,
+            (ScalarRef::Double(value), ScalarRef::Double(other_value)) => *value == *other_value,
+            (ScalarRef::Int32(value), ScalarRef::Int32(other_value)) => *value == *other_value,
+            (ScalarRef::Int64(value), ScalarRef::Int64(other_value)) => *value == *other_value,
+            (ScalarRef::String(value), ScalarRef::String(other_value)) => value == other_value,
+            (ScalarRef::Symbol(value), ScalarRef::Symbol(other_value)) => value == other_value,
+            (ScalarRef::JavaScriptCode(value), ScalarRef::JavaScriptCode(other_value)) => value
+                == other_value,
+            (ScalarRef::RegularExpression(value), ScalarRef::RegularExpression(other_value)) => {
+                value.pattern == other_value.pattern && value.options == other_value.options
             }
-            (ScalarRef::Timestamp(x), ScalarRef::Timestamp(y)) => {
-                x.time == y.time && x.increment == y.increment
+            (ScalarRef::Timestamp(value), ScalarRef::Timestamp(other_value)) => {
+                value.time == other_value.time && value.increment == other_value.increment
             }
-            (ScalarRef::Binary(x), ScalarRef::Binary(y)) => {
-                x.subtype == y.subtype && x.bytes == y.bytes
+            (ScalarRef::Binary(value), ScalarRef::Binary(other_value)) => {
+                value.subtype == other_value.subtype && value.bytes == other_value.bytes
             }
-            (ScalarRef::ObjectId(x), ScalarRef::ObjectId(y)) => x == y,
-            (ScalarRef::DateTime(x), ScalarRef::DateTime(y)) => x == y,
-            (ScalarRef::Decimal128(x), ScalarRef::Decimal128(y)) => x == y,
-            (ScalarRef::DbPointer(x), ScalarRef::DbPointer(y)) => {
-                x.namespace() == y.namespace() && x.id() == y.id()
+            (ScalarRef::ObjectId(value), ScalarRef::ObjectId(other_value)) => value == other_value,
+            (ScalarRef::DateTime(value), ScalarRef::DateTime(other_value)) => value == other_value,
+            (ScalarRef::Decimal128(value), ScalarRef::Decimal128(other_value)) => value
+                == other_value,
+            (ScalarRef::DbPointer(value), ScalarRef::DbPointer(other_value)) => {
+                value.namespace() == other_value.namespace() && value.id() == other_value.id()
             }
             _ => false,
         }
@@ -136,17 +138,17 @@ impl<'a> Hash for ScalarRef<'a> {
     ghost use Rattle.bson_scalar.specs.HashInput.{scalar_hash_input};
     ghost use Rattle.bson_scalar.specs.SameLaws.{scalar_decides};
 
-    ghost hash_input = { λ x. scalar_hash_input (scalar_of x) };
+    ghost hash_input = { λ scalar. scalar_hash_input (scalar_of scalar) };
 
     ghost respects_eq = { (on_Alike scalar_of (same_Alike scalar_hash_input scalar_decides)).fed };
 
     fn hash<H: Hasher>(&self, state: &mut H) {
         match *self {
             ScalarRef::Null | ScalarRef::Undefined | ScalarRef::MinKey | ScalarRef::MaxKey => {}
-            ScalarRef::Boolean(b) => b.hash(state),
+            ScalarRef::Boolean(truth_value) => truth_value.hash(state),
             ScalarRef::Double(pattern) => pattern.hash(state),
-            ScalarRef::Int32(z) => z.hash(state),
-            ScalarRef::Int64(z) => z.hash(state),
+            ScalarRef::Int32(integer) => integer.hash(state),
+            ScalarRef::Int64(integer) => integer.hash(state),
             ScalarRef::String(text) => text.hash(state),
             ScalarRef::Symbol(text) => text.hash(state),
             ScalarRef::JavaScriptCode(code) => code.hash(state),
@@ -154,9 +156,9 @@ impl<'a> Hash for ScalarRef<'a> {
                 regex.pattern.hash(state);
                 regex.options.hash(state);
             }
-            ScalarRef::Timestamp(stamp) => {
-                stamp.time.hash(state);
-                stamp.increment.hash(state);
+            ScalarRef::Timestamp(timestamp) => {
+                timestamp.time.hash(state);
+                timestamp.increment.hash(state);
             }
             ScalarRef::Binary(binary) => {
                 binary.subtype.hash(state);
@@ -177,29 +179,34 @@ impl<'a> fmt::Display for ScalarRef<'a> {
     ghost use Rattle.std.specs.Prelude.{Some};
     ghost use Rattle.bson_scalar.specs.Displayed.{scalar_text};
 
-    ghost output = { λ x. Some (scalar_text (scalar_of x)) };
+    ghost output = { λ scalar. Some (scalar_text (scalar_of scalar)) };
 
-    fn fmt<W: fmt::Write>(&self, f: &mut fmt::Formatter<W>) -> fmt::Result {
+    fn fmt<W: fmt::Write>(&self, formatter: &mut fmt::Formatter<W>) -> fmt::Result {
         match *self {
-            ScalarRef::Null => f.write_str("null"),
-            ScalarRef::Undefined => f.write_str("undefined"),
-            ScalarRef::MinKey => f.write_str("MinKey"),
-            ScalarRef::MaxKey => f.write_str("MaxKey"),
-            ScalarRef::Boolean(b) => write!(f, "{b}"),
-            ScalarRef::Double(pattern) => show_double(pattern, f),
-            ScalarRef::Int32(z) => write!(f, "{z}"),
-            ScalarRef::Int64(z) => write!(f, "{z}"),
-            ScalarRef::String(text) => write!(f, "\"{text}\""),
-            ScalarRef::Symbol(text) => write!(f, "Symbol(\"{text}\")"),
-            ScalarRef::JavaScriptCode(code) => f.write_str(code),
-            ScalarRef::RegularExpression(regex) => write!(f, "{regex}"),
-            ScalarRef::Timestamp(stamp) => write!(f, "{stamp}"),
-            ScalarRef::Binary(binary) => write!(f, "{binary}"),
-            ScalarRef::ObjectId(id) => write!(f, "ObjectId(\"{id}\")"),
-            ScalarRef::DateTime(date) => write!(f, "DateTime(\"{date}\")"),
-            ScalarRef::Decimal128(decimal) => write!(f, "{decimal}"),
+            ScalarRef::Null => formatter.write_str("null"),
+            ScalarRef::Undefined => formatter.write_str("undefined"),
+            ScalarRef::MinKey => formatter.write_str("MinKey"),
+            ScalarRef::MaxKey => formatter.write_str("MaxKey"),
+            ScalarRef::Boolean(truth_value) => write!(formatter, "{truth_value}"),
+            ScalarRef::Double(pattern) => show_double(pattern, formatter),
+            ScalarRef::Int32(integer) => write!(formatter, "{integer}"),
+            ScalarRef::Int64(integer) => write!(formatter, "{integer}"),
+            ScalarRef::String(text) => write!(formatter, "\"{text}\""),
+            ScalarRef::Symbol(text) => write!(formatter, "Symbol(\"{text}\")"),
+            ScalarRef::JavaScriptCode(code) => formatter.write_str(code),
+            ScalarRef::RegularExpression(regex) => write!(formatter, "{regex}"),
+            ScalarRef::Timestamp(timestamp) => write!(formatter, "{timestamp}"),
+            ScalarRef::Binary(binary) => write!(formatter, "{binary}"),
+            ScalarRef::ObjectId(id) => write!(formatter, "ObjectId(\"{id}\")"),
+            ScalarRef::DateTime(date) => write!(formatter, "DateTime(\"{date}\")"),
+            ScalarRef::Decimal128(decimal) => write!(formatter, "{decimal}"),
             ScalarRef::DbPointer(pointer) => {
-                write!(f, "DbPointer({}, {})", pointer.namespace(), pointer.id())
+                write!(
+                    formatter,
+                    "DbPointer({}, {})",
+                    pointer.namespace(),
+                    pointer.id()
+                )
             }
         }
     }
@@ -207,36 +214,39 @@ impl<'a> fmt::Display for ScalarRef<'a> {
 
 // Nothing is promised of this text.
 impl<'a> fmt::Debug for ScalarRef<'a> {
-    fn fmt<W: fmt::Write>(&self, f: &mut fmt::Formatter<W>) -> fmt::Result {
+    fn fmt<W: fmt::Write>(&self, formatter: &mut fmt::Formatter<W>) -> fmt::Result {
         match *self {
-            ScalarRef::Null => f.write_str("Null"),
-            ScalarRef::Undefined => f.write_str("Undefined"),
-            ScalarRef::MinKey => f.write_str("MinKey"),
-            ScalarRef::MaxKey => f.write_str("MaxKey"),
-            ScalarRef::Boolean(b) => write!(f, "Boolean({b})"),
-            ScalarRef::Double(pattern) => write!(f, "Double({pattern:#x})"),
-            ScalarRef::Int32(z) => write!(f, "Int32({z})"),
-            ScalarRef::Int64(z) => write!(f, "Int64({z})"),
-            ScalarRef::String(text) => write!(f, "String({text:?})"),
-            ScalarRef::Symbol(text) => write!(f, "Symbol({text:?})"),
-            ScalarRef::JavaScriptCode(code) => write!(f, "JavaScriptCode({code:?})"),
-            ScalarRef::RegularExpression(regex) => write!(f, "RegularExpression({regex:?})"),
-            ScalarRef::Timestamp(stamp) => write!(f, "Timestamp({stamp:?})"),
-            ScalarRef::Binary(binary) => write!(f, "Binary({binary:?})"),
-            ScalarRef::ObjectId(id) => write!(f, "ObjectId({id:?})"),
-            ScalarRef::DateTime(date) => write!(f, "DateTime({date})"),
-            ScalarRef::Decimal128(decimal) => write!(f, "Decimal128({decimal})"),
-            ScalarRef::DbPointer(pointer) => write!(f, "DbPointer({pointer:?})"),
+            ScalarRef::Null => formatter.write_str("Null"),
+            ScalarRef::Undefined => formatter.write_str("Undefined"),
+            ScalarRef::MinKey => formatter.write_str("MinKey"),
+            ScalarRef::MaxKey => formatter.write_str("MaxKey"),
+            ScalarRef::Boolean(truth_value) => write!(formatter, "Boolean({truth_value})"),
+            ScalarRef::Double(pattern) => write!(formatter, "Double({pattern:#x})"),
+            ScalarRef::Int32(integer) => write!(formatter, "Int32({integer})"),
+            ScalarRef::Int64(integer) => write!(formatter, "Int64({integer})"),
+            ScalarRef::String(text) => write!(formatter, "String({text:?})"),
+            ScalarRef::Symbol(text) => write!(formatter, "Symbol({text:?})"),
+            ScalarRef::JavaScriptCode(code) => write!(formatter, "JavaScriptCode({code:?})"),
+            ScalarRef::RegularExpression(regex) => write!(
+                formatter,
+                "RegularExpression({regex:?})"
+            ),
+            ScalarRef::Timestamp(timestamp) => write!(formatter, "Timestamp({timestamp:?})"),
+            ScalarRef::Binary(binary) => write!(formatter, "Binary({binary:?})"),
+            ScalarRef::ObjectId(id) => write!(formatter, "ObjectId({id:?})"),
+            ScalarRef::DateTime(date) => write!(formatter, "DateTime({date})"),
+            ScalarRef::Decimal128(decimal) => write!(formatter, "Decimal128({decimal})"),
+            ScalarRef::DbPointer(pointer) => write!(formatter, "DbPointer({pointer:?})"),
         }
     }
 }
 
 // A double by its pattern of bits, in 16 hexadecimal digits.
-fn show_double<W: fmt::Write>(pattern: u64, f: &mut fmt::Formatter<W>) -> fmt::Result
-    ensures { WritesOnOk W.write_str_gives f.old result (codes "Double(0x" ++ sixteen_hex_digits pattern
-        ++ codes ")") f.new }
+fn show_double<W: fmt::Write>(pattern: u64, formatter: &mut fmt::Formatter<W>) -> fmt::Result
+    ensures { WritesOnOk W.write_str_gives formatter.old result (codes "Double(0x" ++ sixteen_hex_digits pattern
+        ++ codes ")") formatter.new }
 {
-    write!(f, "Double(0x{pattern:016x})")
+    write!(formatter, "Double(0x{pattern:016x})")
 }
 
 impl<'a> ScalarRef<'a> {
@@ -246,24 +256,24 @@ impl<'a> ScalarRef<'a> {
     ///
     /// Returns `AllocError` if a request for memory is refused.
     pub fn to_owned(&self, alloc: Global) -> Result<Scalar, AllocError>
-        ensures { IfOk result (λ x. scalar_view x ≡ scalar_of self.now) }
+        ensures { IfOk result (λ copy. scalar_view copy ≡ scalar_of self.now) }
     {
         Ok(match *self {
             ScalarRef::Null => Scalar::Null,
             ScalarRef::Undefined => Scalar::Undefined,
             ScalarRef::MinKey => Scalar::MinKey,
             ScalarRef::MaxKey => Scalar::MaxKey,
-            ScalarRef::Boolean(b) => Scalar::Boolean(b),
+            ScalarRef::Boolean(truth_value) => Scalar::Boolean(truth_value),
             ScalarRef::Double(pattern) => Scalar::Double(pattern),
-            ScalarRef::Int32(z) => Scalar::Int32(z),
-            ScalarRef::Int64(z) => Scalar::Int64(z),
+            ScalarRef::Int32(integer) => Scalar::Int32(integer),
+            ScalarRef::Int64(integer) => Scalar::Int64(integer),
             ScalarRef::String(text) => Scalar::String(String::from_str(alloc, text)?),
             ScalarRef::Symbol(text) => Scalar::Symbol(String::from_str(alloc, text)?),
             ScalarRef::JavaScriptCode(code) => Scalar::JavaScriptCode(String::from_str(
                 alloc, code,
             )?),
             ScalarRef::RegularExpression(regex) => Scalar::RegularExpression(regex.clone(alloc)?),
-            ScalarRef::Timestamp(stamp) => Scalar::Timestamp(stamp),
+            ScalarRef::Timestamp(timestamp) => Scalar::Timestamp(timestamp),
             ScalarRef::Binary(binary) => Scalar::Binary(binary.clone(alloc)?),
             ScalarRef::ObjectId(id) => Scalar::ObjectId(id),
             ScalarRef::DateTime(date) => Scalar::DateTime(date),

@@ -28,7 +28,7 @@ pub(crate) trait Sink {
     ghost before: { Self → List ℕ };
 
     // Between two states of the sink the tree was written, and the call returned this for it.
-    ghost wrote: { Self → Data → Self.Tree → Self → Type 0 };
+    ghost wrote_tree: { Self → Data → Self.Tree → Self → Type 0 };
 
     // Between two states of the sink a map was begun, and these members were written in it.
     ghost wrote_members: { Self → Members → Self.Map → Self → Type 0 };
@@ -39,68 +39,80 @@ pub(crate) trait Sink {
 
     // Writes `null`.
     fn null(&mut self) -> Result<Self::Tree, AllocError>
-        ensures written { IfOk result (λ t. wrote self.old null t self.new) }
+        ensures written { IfOk result (λ written_tree. wrote_tree self.old null written_tree self.new) }
         ensures before { before self.new ≡ before self.old };
 
     // Writes a boolean.
-    fn boolean(&mut self, b: bool) -> Result<Self::Tree, AllocError>
-        ensures written { IfOk result (λ t. wrote self.old (boolean b) t self.new) }
+    fn boolean(&mut self, truth_value: bool) -> Result<Self::Tree, AllocError>
+        ensures written { IfOk result
+            (λ written_tree. wrote_tree self.old (boolean truth_value) written_tree self.new) }
         ensures before { before self.new ≡ before self.old };
 
     // Writes a number.
-    fn integer(&mut self, z: i64) -> Result<Self::Tree, AllocError>
-        ensures written { IfOk result (λ t. wrote self.old (number (of_integer z)) t self.new) }
+    fn integer(&mut self, integer_value: i64) -> Result<Self::Tree, AllocError>
+        ensures written { IfOk result
+            (λ written_tree. wrote_tree self.old (number (of_integer integer_value)) written_tree self.new) }
         ensures before { before self.new ≡ before self.old };
 
     // Writes a number that is not below zero.
-    fn natural(&mut self, n: u32) -> Result<Self::Tree, AllocError>
-        ensures written { IfOk result (λ t. wrote self.old (number (unsigned n)) t self.new) }
+    fn natural(&mut self, natural_number: u32) -> Result<Self::Tree, AllocError>
+        ensures written { IfOk result
+            (λ written_tree. wrote_tree self.old (number (unsigned natural_number)) written_tree self.new) }
         ensures before { before self.new ≡ before self.old };
 
     // Writes a finite double, given as its pattern, as a number: on a text its shortest decimal.
     fn double(&mut self, pattern: u64) -> Result<Self::Tree, AllocError>
         requires { IsTrue (is_finite pattern) }
-        ensures written { IfOk result (λ t. wrote self.old (number_tree pattern) t self.new) }
+        ensures written { IfOk result
+            (λ written_tree. wrote_tree self.old (number_tree pattern) written_tree self.new) }
         ensures before { before self.new ≡ before self.old };
 
     // Writes the text of a number.
-    fn numeral(&mut self, z: i64) -> Result<Self::Tree, AllocError>
-        ensures written { IfOk result (λ t. wrote self.old (string (signed_decimal z)) t self.new) }
+    fn numeral(&mut self, integer_value: i64) -> Result<Self::Tree, AllocError>
+        ensures written { IfOk result
+            (λ written_tree. wrote_tree self.old (string (signed_decimal integer_value)) written_tree self.new) }
         ensures before { before self.new ≡ before self.old };
 
     // Writes a text, which a tree in memory has as a copy.
     fn text(&mut self, text: &str) -> Result<Self::Tree, AllocError>
-        ensures written { IfOk result (λ t. wrote self.old (string text.now) t self.new) }
+        ensures written { IfOk result (λ written_tree. wrote_tree self.old (string text.now) written_tree self.new) }
         ensures before { before self.new ≡ before self.old };
 
     // Writes a text, which is moved into a tree in memory.
     fn owned_text(&mut self, text: String) -> Result<Self::Tree, AllocError>
-        ensures written { IfOk result (λ t. wrote self.old (string (string_bytes text)) t self.new) }
+        ensures written { IfOk result
+            (λ written_tree. wrote_tree self.old (string (string_bytes text)) written_tree self.new) }
         ensures before { before self.new ≡ before self.old };
 
     // Begins a map.
     fn begin_map(&mut self) -> Result<Self::Map, AllocError>
-        ensures written { IfOk result (λ m. wrote_members self.old no_members m self.new) }
+        ensures written { IfOk result (λ written_map. wrote_members self.old no_members written_map self.new) }
         ensures before { before self.new ≡ before self.old };
 
     // Writes the next key of a map.
-    fn key(&mut self, map: Self::Map, name: &str) -> Result<Self::Key, AllocError>
-        ensures written { IfOk result (λ key. (start : Self) (ms : Members)
-            → wrote_members start ms map self.old → wrote_key start ms name.now key self.new) }
+    fn key(&mut self, map: Self::Map, key_name: &str) -> Result<Self::Key, AllocError>
+        ensures written { IfOk result (λ key. (state_before_map : Self) (member_list : Members)
+            → wrote_members state_before_map member_list map self.old
+            → wrote_key state_before_map member_list key_name.now key self.new) }
         ensures before { before self.new ≡ before self.old };
 
     // Puts the tree that was written under the key. The member is the last one where its key is
     // above all others.
     fn member(&mut self, key: Self::Key, tree: Self::Tree) -> Result<Self::Map, AllocError>
-        ensures written { IfOk result (λ m. (start mid : Self) (ms : Members) (k : List ℕ) (d : Data)
-            → wrote_key start ms k key mid → wrote mid d tree self.old → put k d ms ≡ with_last_member ms k d
-            → wrote_members start (with_last_member ms k d) m self.new) }
+        ensures written { IfOk result
+            (λ written_map. (state_before_map state_after_key : Self) (member_list : Members) (key_text : List ℕ)
+            (json_tree : Data)
+            → wrote_key state_before_map member_list key_text key state_after_key
+            → wrote_tree state_after_key json_tree tree self.old
+            → put key_text json_tree member_list ≡ with_last_member member_list key_text json_tree
+            → wrote_members state_before_map (with_last_member member_list key_text json_tree) written_map self.new) }
         ensures before { before self.new ≡ before self.old };
 
     // Ends a map.
     fn end_map(&mut self, map: Self::Map) -> Result<Self::Tree, AllocError>
-        ensures written { IfOk result (λ t. (start : Self) (ms : Members)
-            → wrote_members start ms map self.old → wrote start (object ms) t self.new) }
+        ensures written { IfOk result (λ written_tree. (state_before_map : Self) (member_list : Members)
+            → wrote_members state_before_map member_list map self.old
+            → wrote_tree state_before_map (object member_list) written_tree self.new) }
         ensures before { before self.new ≡ before self.old };
 }
 
@@ -129,34 +141,35 @@ impl Sink for Trees {
 
     ghost before = { λ trees. [] };
 
-    ghost wrote = { λ old d t new. view t ≡ d };
+    ghost wrote_tree = { λ old json_tree written_tree new. view written_tree ≡ json_tree };
 
-    ghost wrote_members = { λ old ms m new. members_view m.entries ≡ ms };
+    ghost wrote_members = { λ old member_list written_map new. members_view written_map.entries ≡ member_list };
 
-    ghost wrote_key = { λ old ms k key new. (members_view key.0.entries ≡ ms) × (string_bytes key.1 ≡ k) };
+    ghost wrote_key = { λ old member_list key_text key new. (members_view key.0.entries ≡ member_list)
+        × (string_bytes key.1 ≡ key_text) };
 
     fn null(&mut self) -> Result<Value, AllocError> {
         Ok(Value::Null)
     }
 
-    fn boolean(&mut self, b: bool) -> Result<Value, AllocError> {
-        Ok(Value::Bool(b))
+    fn boolean(&mut self, truth_value: bool) -> Result<Value, AllocError> {
+        Ok(Value::Bool(truth_value))
     }
 
-    fn integer(&mut self, z: i64) -> Result<Value, AllocError> {
-        Ok(Value::from(z))
+    fn integer(&mut self, integer_value: i64) -> Result<Value, AllocError> {
+        Ok(Value::from(integer_value))
     }
 
-    fn natural(&mut self, n: u32) -> Result<Value, AllocError> {
-        Ok(Value::from(n))
+    fn natural(&mut self, natural_number: u32) -> Result<Value, AllocError> {
+        Ok(Value::from(natural_number))
     }
 
     fn double(&mut self, pattern: u64) -> Result<Value, AllocError> {
         Ok(Value::from(f64::from_bits(pattern)))
     }
 
-    fn numeral(&mut self, z: i64) -> Result<Value, AllocError> {
-        let text = format!(in self.alloc; "{z}")?;
+    fn numeral(&mut self, number_value: i64) -> Result<Value, AllocError> {
+        let text = format!(in self.alloc; "{number_value}")?;
         Ok(Value::String(text))
     }
 
@@ -175,10 +188,10 @@ impl Sink for Trees {
     fn key(
         &mut self,
         map: Map<String, Value>,
-        name: &str,
+        key_name: &str,
     ) -> Result<(Map<String, Value>, String), AllocError> {
-        let name = String::from_str(self.alloc, name)?;
-        Ok((map, name))
+        let key_name = String::from_str(self.alloc, key_name)?;
+        Ok((map, key_name))
     }
 
     fn member(
@@ -186,8 +199,8 @@ impl Sink for Trees {
         key: (Map<String, Value>, String),
         tree: Value,
     ) -> Result<Map<String, Value>, AllocError> {
-        let (mut map, name) = key;
-        drop(map.insert(name, tree)?);
+        let (mut map, key_name) = key;
+        drop(map.insert(key_name, tree)?);
         Ok(map)
     }
 
@@ -196,7 +209,7 @@ impl Sink for Trees {
     }
 }
 
-// A text.
+// A string of JSON, to which the tokens are appended.
 impl Sink for Writer {
     type Tree = ();
 
@@ -210,35 +223,35 @@ impl Sink for Writer {
 
     ghost before = { λ writer. writer.before };
 
-    ghost wrote = { λ old d t new. new.tokens ≡ old.tokens ++ tokens_of d };
+    ghost wrote_tree = { λ old json_tree written_tree new. new.tokens ≡ old.tokens ++ tokens_of json_tree };
 
-    ghost wrote_members = { λ old ms m new. new.tokens ≡ old.tokens ++ begin_object ∷ members_as_tokens ms };
+    ghost wrote_members = { λ old member_list written_map new. new.tokens ≡ old.tokens ++ begin_object ∷ members_as_tokens member_list };
 
-    ghost wrote_key = { λ old ms k t new. new.tokens
-        ≡ old.tokens ++ begin_object ∷ (members_as_tokens ms ++ key k ∷ []) };
+    ghost wrote_key = { λ old member_list key_text written_key new. new.tokens
+        ≡ old.tokens ++ begin_object ∷ (members_as_tokens member_list ++ key key_text ∷ []) };
 
     fn null(&mut self) -> Result<(), AllocError> {
         Writer::null(self)
     }
 
-    fn boolean(&mut self, b: bool) -> Result<(), AllocError> {
-        Writer::boolean(self, b)
+    fn boolean(&mut self, truth_value: bool) -> Result<(), AllocError> {
+        Writer::boolean(self, truth_value)
     }
 
-    fn integer(&mut self, z: i64) -> Result<(), AllocError> {
-        Writer::i64(self, z)
+    fn integer(&mut self, integer_value: i64) -> Result<(), AllocError> {
+        Writer::i64(self, integer_value)
     }
 
-    fn natural(&mut self, n: u32) -> Result<(), AllocError> {
-        Writer::u64(self, n as u64)
+    fn natural(&mut self, natural_number: u32) -> Result<(), AllocError> {
+        Writer::u64(self, natural_number as u64)
     }
 
     fn double(&mut self, pattern: u64) -> Result<(), AllocError> {
         Writer::number(self, bson_double::double_text(pattern).as_str())
     }
 
-    fn numeral(&mut self, z: i64) -> Result<(), AllocError> {
-        Writer::quoted_i64(self, z)
+    fn numeral(&mut self, integer_value: i64) -> Result<(), AllocError> {
+        Writer::quoted_i64(self, integer_value)
     }
 
     fn text(&mut self, text: &str) -> Result<(), AllocError> {
@@ -253,8 +266,8 @@ impl Sink for Writer {
         Writer::begin_object(self)
     }
 
-    fn key(&mut self, _map: (), name: &str) -> Result<(), AllocError> {
-        Writer::key(self, name)
+    fn key(&mut self, _map: (), key_name: &str) -> Result<(), AllocError> {
+        Writer::key(self, key_name)
     }
 
     fn member(&mut self, _key: (), _tree: ()) -> Result<(), AllocError> {

@@ -29,17 +29,19 @@ pub(crate) fn read_code(value: Value) -> Result<Scalar, Error>
 }
 
 // Writes the tree of a symbol, in both forms.
-pub(crate) fn write_symbol<S: Sink>(text: String, out: &mut S) -> Result<S::Tree, AllocError>
-    ensures written { IfOk result (λ t. S.wrote out.old (symbol_tree (string_bytes text)) t out.new) }
-    ensures before { S.before out.new ≡ S.before out.old }
+pub(crate) fn write_symbol<S: Sink>(text: String, sink: &mut S) -> Result<S::Tree, AllocError>
+    ensures written { IfOk result
+        (λ written_tree. S.wrote_tree sink.old (symbol_tree (string_bytes text)) written_tree sink.new) }
+    ensures before { S.before sink.new ≡ S.before sink.old }
 {
-    write_owned_text_object("$symbol", text, out)
+    write_owned_text_object("$symbol", text, sink)
 }
 
 // Writes the tree of code without a scope, in both forms.
-pub(crate) fn write_code<S: Sink>(text: String, out: &mut S) -> Result<S::Tree, AllocError>
-    ensures written { IfOk result (λ t. S.wrote out.old (code_tree (string_bytes text)) t out.new) }
-    ensures before { S.before out.new ≡ S.before out.old }
+pub(crate) fn write_code<S: Sink>(text: String, sink: &mut S) -> Result<S::Tree, AllocError>
+    ensures written { IfOk result
+        (λ written_tree. S.wrote_tree sink.old (code_tree (string_bytes text)) written_tree sink.new) }
+    ensures before { S.before sink.new ≡ S.before sink.old }
 {
-    write_owned_text_object("$code", text, out)
+    write_owned_text_object("$code", text, sink)
 }

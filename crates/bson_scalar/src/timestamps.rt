@@ -4,13 +4,13 @@ ghost use Rattle.std.specs.Prelude.{◌≡◌, ◌<◌, ◌^◌, IfOk, OnOk, cod
 ghost use Rattle.serde_json.specs.View.{view};
 ghost use Rattle.bson_scalar.specs.Faults.{IsReadResult};
 ghost use Rattle.bson_scalar.specs.Reading.{timestamp_read};
-ghost use Rattle.bson_scalar.specs.TreeParts.{object_of_two, natural};
+ghost use Rattle.bson_scalar.specs.TreeParts.{two_key_object, natural};
 ghost use Rattle.bson_scalar.specs.Timestamps.{timestamp_tree};
 ghost use Rattle.bson_scalar.specs.View.{scalar_view};
 
 use crate::error::Error;
 use crate::object_writer::{
-    begin_object, begin_second_member, end_object_of_one, end_object_of_two,
+    begin_object, begin_second_member, end_one_key_object, end_two_key_object,
 };
 use crate::scalar::Scalar;
 use crate::sink::Sink;
@@ -34,29 +34,32 @@ pub(crate) fn read_timestamp(value: Value) -> Result<Scalar, Error>
     }
 }
 
-// What `$timestamp` holds.
-fn write_times<S: Sink>(timestamp: Timestamp, out: &mut S) -> Result<S::Tree, AllocError>
-    ensures written { IfOk result (λ t. S.wrote out.old
-        (object_of_two (codes "i") (natural timestamp.increment) (codes "t") (natural timestamp.time)) t out.new) }
-    ensures before { S.before out.new ≡ S.before out.old }
+// Writes the object under `$timestamp`.
+fn write_timestamp_parts<S: Sink>(timestamp: Timestamp, sink: &mut S) -> Result<S::Tree, AllocError>
+    ensures written { IfOk result (λ written_tree. S.wrote_tree sink.old
+        (two_key_object (codes "i") (natural timestamp.increment) (codes "t")
+        (natural timestamp.time)) written_tree sink.new) }
+    ensures before { S.before sink.new ≡ S.before sink.old }
 {
-    let key = begin_object("i", out)?;
-    let increment = out.natural(timestamp.increment)?;
-    let next = begin_second_member(key, increment, "t", out)?;
-    let time = out.natural(timestamp.time)?;
-    end_object_of_two(next, time, out)
+    let key = begin_object("i", sink)?;
+    let increment = sink.natural(timestamp.increment)?;
+    let second_key = begin_second_member(key, increment, "t", sink)?;
+    let time = sink.natural(timestamp.time)?;
+    end_two_key_object(second_key, time, sink)
 }
 
 // Writes the tree of a timestamp, in both forms.
 pub(crate) fn write_timestamp<S: Sink>(
     timestamp: Timestamp,
-    out: &mut S,
+    sink: &mut S,
 ) -> Result<S::Tree, AllocError>
-    ensures written { IfOk result (λ t. S.wrote out.old (timestamp_tree timestamp.time timestamp.increment) t out.new) }
-    ensures before { S.before out.new ≡ S.before out.old }
-    ensures ranged { OnOk result ((timestamp.time < 2 ^ 32) × (timestamp.increment < 2 ^ 32)) }
+    ensures written { IfOk result
+        (λ written_tree. S.wrote_tree sink.old
+        (timestamp_tree timestamp.time timestamp.increment) written_tree sink.new) }
+    ensures before { S.before sink.new ≡ S.before sink.old }
+    ensures within_type_range { OnOk result ((timestamp.time < 2 ^ 32) × (timestamp.increment < 2 ^ 32)) }
 {
-    let key = begin_object("$timestamp", out)?;
-    let times = write_times(timestamp, out)?;
-    end_object_of_one(key, times, out)
+    let key = begin_object("$timestamp", sink)?;
+    let parts_tree = write_timestamp_parts(timestamp, sink)?;
+    end_one_key_object(key, parts_tree, sink)
 }

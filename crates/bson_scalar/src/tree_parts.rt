@@ -14,7 +14,7 @@ use serde_json::{Map, Value};
 
 // The value, or `DeserializationError` with the message where there is none.
 pub(crate) fn expect<T: Drop>(value: Option<T>, message: &'static str) -> Result<T, Error>
-    ensures { IsReadResult (λ x. x) result (or_wrong_shape value) }
+    ensures { IsReadResult (λ read_value. read_value) result (or_wrong_shape value) }
 {
     match value {
         Some(value) => Ok(value),
@@ -46,76 +46,77 @@ pub(crate) fn expect_single_key(
     }
 }
 
-// What an object of just these two keys holds, of which `first` is the lesser.
+// What an object of just these two keys holds, of which `first_key` is the lesser.
 pub(crate) fn expect_two_keys(
     value: Value,
-    first: &str,
-    second: &str,
+    first_key: &str,
+    second_key: &str,
     message: &'static str,
 ) -> Result<(Value, Value), Error>
-    ensures { IsReadResult (λ p. (view p.0, view p.1)) result
-        (or_wrong_shape (two_members first.now second.now (view value))) }
+    ensures { IsReadResult (λ two_values. (view two_values.0, view two_values.1)) result
+        (or_wrong_shape (two_members first_key.now second_key.now (view value))) }
 {
-    match two_keys_of(value, first, second) {
+    match two_keys_of(value, first_key, second_key) {
         Some(content) => Ok(content),
         None => Err(Error::DeserializationError { message }),
     }
 }
 
-fn are_keys(key: &str, other: &str, first: &str, second: &str) -> bool
-    ensures { result ≡ (bytes_eq key.now first.now && bytes_eq other.now second.now) }
+fn are_keys(key: &str, other_key: &str, first_key: &str, second_key: &str) -> bool
+    ensures { result ≡ (bytes_eq key.now first_key.now && bytes_eq other_key.now second_key.now) }
 {
-    key == first && other == second
+    key == first_key && other_key == second_key
 }
 
 fn two_member_values(
     mut members: Map<String, Value>,
-    first: &str,
-    second: &str,
+    first_key: &str,
+    second_key: &str,
 ) -> Option<(Value, Value)>
-    ensures { option_map (λ p. (view p.0, view p.1)) result
-        ≡ two_members first.now second.now (object (members_view members.entries)) }
+    ensures { option_map (λ two_values. (view two_values.0, view two_values.1)) result
+        ≡ two_members first_key.now second_key.now (object (members_view members.entries)) }
 {
     let (key, value) = members.pop_first()?;
-    let (other, more) = members.pop_first()?;
+    let (other_key, other_value) = members.pop_first()?;
     if !members.is_empty() {
         return None;
     }
-    if are_keys(key.as_str(), other.as_str(), first, second) {
-        Some((value, more))
+    if are_keys(key.as_str(), other_key.as_str(), first_key, second_key) {
+        Some((value, other_value))
     } else {
         None
     }
 }
 
-fn two_keys_of(value: Value, first: &str, second: &str) -> Option<(Value, Value)>
-    ensures { option_map (λ p. (view p.0, view p.1)) result ≡ two_members first.now second.now (view value) }
+fn two_keys_of(value: Value, first_key: &str, second_key: &str) -> Option<(Value, Value)>
+    ensures { option_map (λ two_values. (view two_values.0, view two_values.1)) result
+        ≡ two_members first_key.now second_key.now (view value) }
 {
     match value {
-        Value::Object(members) => two_member_values(members, first, second),
+        Value::Object(members) => two_member_values(members, first_key, second_key),
         _ => None,
     }
 }
 
-fn only_member_value(mut content: Map<String, Value>, name: &str) -> Option<Value>
-    ensures { option_map view result ≡ single_key_member name.now (object (members_view content.entries)) }
+fn only_member_value(mut content: Map<String, Value>, key_name: &str) -> Option<Value>
+    ensures { option_map view result ≡ single_key_member key_name.now (object (members_view content.entries)) }
 {
     let (key, value) = content.pop_first()?;
     if !content.is_empty() {
         return None;
     }
-    if key.as_str() == name {
+    if key.as_str() == key_name {
         Some(value)
     } else {
         None
     }
 }
 
-fn single_key_of(value: Value, name: &str) -> Option<Value>
-    ensures { option_map view result ≡ single_key_member name.now (view value) }
+fn single_key_of(value: Value, key_name: &str) -> Option<Value>
+    ensures { option_map view result ≡ single_key_member key_name.now (view value) }
 {
     match value {
-        Value::Object(members) => only_member_value(members, name),
+        Value::Object(members) => only_member_value(members, key_name),
         _ => None,
     }
 }
@@ -132,8 +133,8 @@ pub(crate) fn u32_of(value: &Value) -> Option<u32>
     ensures { result ≡ u32_at (view value.now) }
 {
     match i64_of(value) {
-        Some(z) => if 0 <= z && z <= u32::MAX as i64 {
-            Some(z as u32)
+        Some(integer_value) => if 0 <= integer_value && integer_value <= u32::MAX as i64 {
+            Some(integer_value as u32)
         } else {
             None
         },
@@ -142,7 +143,7 @@ pub(crate) fn u32_of(value: &Value) -> Option<u32>
 }
 
 // Tells that numbers of the type u8 are below 256.
-pub(crate) fn are_bytes(bytes: &[u8])
+pub(crate) fn bytes_are_below_256(bytes: &[u8])
     ensures { IsBytes bytes.now }
 {
     let _len = bytes.len();

@@ -1,6 +1,6 @@
 //! The sixteen wrapper keys of MongoDB Extended JSON v2.
 ghost use Rattle.std.specs.Prelude.{◌≡◌, IsTrue, None};
-ghost use Rattle.bson_scalar.specs.Table.{wrapper_of, later_wrapper, number_wrapper, last_wrapper};
+ghost use Rattle.bson_scalar.specs.Table.{wrapper_of, later_wrapper, number_or_later_wrapper, timestamp_or_later_wrapper};
 
 /// A wrapper: an object, recognized by its key, that denotes a value which JSON has no form for.
 #[derive(Clone, Copy, Debug, Drop, PartialEq, Eq)]
@@ -40,7 +40,7 @@ pub enum Wrapper {
 }
 
 // A key whose first byte is not `$` is no wrapper key: a cheap test, since most keys are ordinary.
-fn is_ordinary(key: &str) -> bool
+fn is_ordinary_key(key: &str) -> bool
     ensures { IsTrue result → wrapper_of key.now ≡ None }
 {
     let bytes = key.as_bytes();
@@ -51,7 +51,7 @@ fn is_ordinary(key: &str) -> bool
 pub fn wrapper_named(key: &str) -> Option<Wrapper>
     ensures { result ≡ wrapper_of key.now }
 {
-    if is_ordinary(key) {
+    if is_ordinary_key(key) {
         None
     } else if key == "$oid" {
         Some(Wrapper::Oid)
@@ -66,7 +66,7 @@ pub fn wrapper_named(key: &str) -> Option<Wrapper>
     }
 }
 
-// Of the keys that are left: binaries, identifiers, code and pointers.
+// Of the keys that are left: UUIDs, code and pointers.
 fn later_wrapper(key: &str) -> Option<Wrapper>
     ensures { result ≡ later_wrapper key.now }
 {
@@ -77,13 +77,13 @@ fn later_wrapper(key: &str) -> Option<Wrapper>
     } else if key == "$dbPointer" {
         Some(Wrapper::DbPointer)
     } else {
-        number_wrapper(key)
+        number_or_later_wrapper(key)
     }
 }
 
 // Of the keys that are left: the numbers.
-fn number_wrapper(key: &str) -> Option<Wrapper>
-    ensures { result ≡ number_wrapper key.now }
+fn number_or_later_wrapper(key: &str) -> Option<Wrapper>
+    ensures { result ≡ number_or_later_wrapper key.now }
 {
     if key == "$numberInt" {
         Some(Wrapper::NumberInt)
@@ -94,13 +94,13 @@ fn number_wrapper(key: &str) -> Option<Wrapper>
     } else if key == "$numberDecimal" {
         Some(Wrapper::NumberDecimal)
     } else {
-        last_wrapper(key)
+        timestamp_or_later_wrapper(key)
     }
 }
 
 // Of the keys that are left: times, and the kinds of one value.
-fn last_wrapper(key: &str) -> Option<Wrapper>
-    ensures { result ≡ last_wrapper key.now }
+fn timestamp_or_later_wrapper(key: &str) -> Option<Wrapper>
+    ensures { result ≡ timestamp_or_later_wrapper key.now }
 {
     if key == "$timestamp" {
         Some(Wrapper::Timestamp)

@@ -5,11 +5,11 @@ ghost use Rattle.serde_json.specs.View.{view};
 ghost use Rattle.bson_types.specs.BinarySubtypes.{subtype_byte};
 ghost use Rattle.bson_scalar.specs.Binaries.{binary_tree};
 ghost use Rattle.bson_scalar.specs.Normal.{ScalarInRange};
-ghost use Rattle.bson_scalar.specs.Tokens.{tokens_of, IsSinkResult, Puts};
+ghost use Rattle.bson_scalar.specs.Tokens.{tokens_of, IsSinkResult, AppendsTreeTokens};
 ghost use Rattle.bson_scalar.specs.View.{scalar_view};
-ghost use Rattle.bson_scalar.specs.Written.{Writes, writes_scalar_in};
+ghost use Rattle.bson_scalar.specs.Written.{IsWriteResult, writes_scalar_in};
 
-use crate::binaries::{write_binary, write_owned};
+use crate::binaries::{write_binary, write_owned_binary};
 use crate::constants::{write_max_key, write_min_key, write_undefined};
 use crate::dates::write_date;
 use crate::decimals::write_decimal;
@@ -33,38 +33,40 @@ use std::alloc::{AllocError, Global};
 //
 // `FiniteDouble` comes exactly for a double that is finite and no zero, where finite doubles are
 // not written.
-fn write_to<S: Sink>(
+fn write_scalar_to<S: Sink>(
     alloc: Global,
     doubles: Doubles,
     form: Form,
     value: Scalar,
-    out: &mut S,
+    sink: &mut S,
 ) -> Result<S::Tree, WriteError>
-    ensures written { IsSinkResult (λ d t. S.wrote out.old d t out.new) result (writes_scalar_in doubles form (scalar_view value)) }
-    ensures before { S.before out.new ≡ S.before out.old }
-    ensures ranged { OnOk result (ScalarInRange (scalar_view value)) }
+    ensures written { IsSinkResult
+        (λ json_tree written_tree. S.wrote_tree sink.old json_tree written_tree sink.new) result
+        (writes_scalar_in doubles form (scalar_view value)) }
+    ensures before { S.before sink.new ≡ S.before sink.old }
+    ensures within_type_range { OnOk result (ScalarInRange (scalar_view value)) }
 {
-    let written = match value {
-        Scalar::Null => out.null(),
-        Scalar::Undefined => write_undefined(out),
-        Scalar::MinKey => write_min_key(out),
-        Scalar::MaxKey => write_max_key(out),
-        Scalar::Boolean(b) => out.boolean(b),
-        Scalar::Double(pattern) => return write_double(doubles, form, pattern, out),
-        Scalar::Int32(z) => write_int32(form, z, out),
-        Scalar::Int64(z) => write_int64(form, z, out),
-        Scalar::String(text) => out.owned_text(text),
-        Scalar::Symbol(text) => write_symbol(text, out),
-        Scalar::JavaScriptCode(code) => write_code(code, out),
-        Scalar::RegularExpression(regex) => write_regex(alloc, regex, out),
-        Scalar::Timestamp(stamp) => write_timestamp(stamp, out),
-        Scalar::Binary(binary) => write_owned(alloc, binary, out),
-        Scalar::ObjectId(id) => write_oid(alloc, id, out),
-        Scalar::DateTime(date) => write_date(alloc, form, date, out),
-        Scalar::Decimal128(decimal) => write_decimal(alloc, decimal, out),
-        Scalar::DbPointer(pointer) => write_pointer(alloc, pointer, out),
+    let write_result = match value {
+        Scalar::Null => sink.null(),
+        Scalar::Undefined => write_undefined(sink),
+        Scalar::MinKey => write_min_key(sink),
+        Scalar::MaxKey => write_max_key(sink),
+        Scalar::Boolean(truth_value) => sink.boolean(truth_value),
+        Scalar::Double(pattern) => return write_double(doubles, form, pattern, sink),
+        Scalar::Int32(integer) => write_int32(form, integer, sink),
+        Scalar::Int64(integer) => write_int64(form, integer, sink),
+        Scalar::String(text) => sink.owned_text(text),
+        Scalar::Symbol(text) => write_symbol(text, sink),
+        Scalar::JavaScriptCode(code) => write_code(code, sink),
+        Scalar::RegularExpression(regex) => write_regex(alloc, regex, sink),
+        Scalar::Timestamp(timestamp) => write_timestamp(timestamp, sink),
+        Scalar::Binary(binary) => write_owned_binary(alloc, binary, sink),
+        Scalar::ObjectId(id) => write_oid(alloc, id, sink),
+        Scalar::DateTime(date) => write_date(alloc, form, date, sink),
+        Scalar::Decimal128(decimal) => write_decimal(alloc, decimal, sink),
+        Scalar::DbPointer(pointer) => write_pointer(alloc, pointer, sink),
     };
-    Ok(written?)
+    Ok(write_result?)
 }
 
 /// Makes the tree of a scalar in a form (MongoDB Extended JSON v2). Texts are moved into it.
@@ -79,10 +81,10 @@ pub fn write_scalar_in(
     form: Form,
     value: Scalar,
 ) -> Result<Value, WriteError>
-    ensures written { Writes view result (writes_scalar_in doubles form (scalar_view value)) }
-    ensures ranged { OnOk result (ScalarInRange (scalar_view value)) }
+    ensures written { IsWriteResult view result (writes_scalar_in doubles form (scalar_view value)) }
+    ensures within_type_range { OnOk result (ScalarInRange (scalar_view value)) }
 {
-    write_to(alloc, doubles, form, value, &mut Trees::new(alloc))
+    write_scalar_to(alloc, doubles, form, value, &mut Trees::new(alloc))
 }
 
 /// Writes the tree of a scalar, as `write_scalar_in` makes it, without the tree.
@@ -96,13 +98,14 @@ pub fn print_scalar_in(
     doubles: Doubles,
     form: Form,
     value: Scalar,
-    out: &mut Writer,
+    sink: &mut Writer,
 ) -> Result<(), WriteError>
-    ensures printed { Puts result (writes_scalar_in doubles form (scalar_view value)) out.old.tokens out.new.tokens }
-    ensures before { out.new.before ≡ out.old.before }
-    ensures ranged { OnOk result (ScalarInRange (scalar_view value)) }
+    ensures printed { AppendsTreeTokens result
+        (writes_scalar_in doubles form (scalar_view value)) sink.old.tokens sink.new.tokens }
+    ensures before { sink.new.before ≡ sink.old.before }
+    ensures within_type_range { OnOk result (ScalarInRange (scalar_view value)) }
 {
-    write_to(alloc, doubles, form, value, out)
+    write_scalar_to(alloc, doubles, form, value, sink)
 }
 
 /// Writes the tree of a binary, as `write_scalar_in` makes it, without the tree.
@@ -110,11 +113,11 @@ pub fn print_scalar_in(
 /// # Errors
 ///
 /// Returns `AllocError` if a request for memory is refused.
-pub fn put_binary(alloc: Global, binary: &Binary, out: &mut Writer) -> Result<(), AllocError>
-    ensures put { OnOk result (out.new.tokens ≡ out.old.tokens
+pub fn put_binary(alloc: Global, binary: &Binary, sink: &mut Writer) -> Result<(), AllocError>
+    ensures put { OnOk result (sink.new.tokens ≡ sink.old.tokens
         ++ tokens_of (binary_tree binary.now.subtype binary.now.bytes.items)) }
-    ensures before { out.new.before ≡ out.old.before }
-    ensures ranged { OnOk result ((subtype_byte binary.now.subtype < 256) × IsBytes binary.now.bytes.items) }
+    ensures before { sink.new.before ≡ sink.old.before }
+    ensures within_type_range { OnOk result ((subtype_byte binary.now.subtype < 256) × IsBytes binary.now.bytes.items) }
 {
-    write_binary(alloc, binary, out)
+    write_binary(alloc, binary, sink)
 }

@@ -23,7 +23,7 @@ pub enum WriteError {
 }
 
 impl From<AllocError> for WriteError {
-    ghost from_gives = { λ _ e. e ≡ write_error.OutOfMemory };
+    ghost from_gives = { λ _ error_value. error_value ≡ write_error.OutOfMemory };
 
     fn from(_refused: AllocError) -> WriteError {
         WriteError::OutOfMemory
@@ -31,7 +31,7 @@ impl From<AllocError> for WriteError {
 }
 
 impl<T: Drop> From<AllocFailed<T>> for WriteError {
-    ghost from_gives = { λ _ e. e ≡ write_error.OutOfMemory };
+    ghost from_gives = { λ _ error_value. error_value ≡ write_error.OutOfMemory };
 
     fn from(_refused: AllocFailed<T>) -> WriteError {
         WriteError::OutOfMemory

@@ -74,7 +74,7 @@ module _ {V : Type 0} where
       let h = none_at _ _ none in
       (all-push (λ y. bytes_eq p.0 y ≡ false) ps l v d.0 (swapped p.0 l ∙ h.0), distinct-push ps l v d.1 h.1)
 
-  -- a pair taken out
+  -- a pair removed
   pub all-remove : (P : List ℕ → Type 0) (ps : List (List ℕ × V)) (i : ℕ) → AllByRecursion P (keys ps)
       → AllByRecursion P (keys (remove ps i))
   all-remove P [] zero h = h

@@ -60,7 +60,7 @@ pub range_last : (a n : ℕ) → range_with_len a (suc n) ≡ range_with_len a n
 range_last a zero = ap (λ k. k ∷ []) (sym (plus_zero a))
 range_last a (suc n) = ap (λ l. a ∷ l) (range_last (a + 1) n ∙ ap (λ k. range_with_len (a + 1) n ++ k ∷ []) (plus_one a n))
 
--- ---- the position of a pair after another is taken out
+-- ---- the position of a pair after another is removed
 
 another : (i j : ℕ) → (i == j) ≡ false → i ≡ j → ⊥
 another i j e same = true≢false (sym ((Decides-eqb i j).1 same) ∙ e)
@@ -183,7 +183,7 @@ module _ {V : Type 0} where
       kept true false false i j r s e f never h = h
       kept false false false i j r s e f never h = h
 
-  -- without the position of the pair that is taken out
+  -- without the position of the pair that is removed
   pub sorted-without : (is : List ℕ) (ps : List (List ℕ × V)) (at : ℕ) (p : List ℕ × V) → HasDistinctKeys ps
       → slice_get ps at ≡ Some p → AreSortedPositions is ps → AreSortedPositions (gone at is) (remove ps at)
   sorted-without is ps at p d there h = (

@@ -118,7 +118,7 @@ module _ {X : Type 0} where
             (λ q. find-at q is ps within ∙ ap (option_and_then (value_at ps)) (h.1 q) ∙ sym (find-place q ps)),
       )
 
-  -- one position taken
+  -- one position removed
   pub takes : (is js : List ℕ) (ps : List (List ℕ × X)) (r : Option (Bor ℕ))
       → MatchOption r ((is ≡ []) × (js ≡ [])) (λ x. is ≡ x.now ∷ js) → ArePositionsInBounds is ps
       → ArePositionsInBounds js ps × IsNextPair ps (pairs_at_positions is ps) (pairs_at_positions js ps) (option_copied r)

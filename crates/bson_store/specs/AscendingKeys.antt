@@ -5,13 +5,18 @@ use Rattle.bson_store.specs.Pairs.{keys}
 
 module _ {V : Type 0} where
   -- no key before the position is above the given one
-  abbrev pub NoKeyAboveBefore : Option (List ℕ) → List (List ℕ × V) → ℕ → Type 0
-  NoKeyAboveBefore last ps i = (j : ℕ) (k : List ℕ) → j < i → slice_get (keys ps) j ≡ Some k → is_key_above last k ≡ false
+  abbrev pub NoKeyAboveBefore : (given_key : Option (List ℕ)) → List (List ℕ × V) → (found_position : ℕ) → Type 0
+  NoKeyAboveBefore given_key pair_list found_position = (other_position : ℕ) (other_key : List ℕ)
+      → other_position < found_position → slice_get (keys pair_list) other_position ≡ Some other_key
+      → is_key_above given_key other_key ≡ false
 
   -- each key from the position on is above the given one
-  abbrev pub AllKeysAboveFrom : Option (List ℕ) → List (List ℕ × V) → ℕ → Type 0
-  AllKeysAboveFrom last ps i = (j : ℕ) (k : List ℕ) → i ≤ j → slice_get (keys ps) j ≡ Some k → is_key_above last k ≡ true
+  abbrev pub AllKeysAboveFrom : (given_key : Option (List ℕ)) → List (List ℕ × V) → (found_position : ℕ) → Type 0
+  AllKeysAboveFrom given_key pair_list found_position = (other_position : ℕ) (other_key : List ℕ)
+      → found_position ≤ other_position → slice_get (keys pair_list) other_position ≡ Some other_key
+      → is_key_above given_key other_key ≡ true
 
   -- the position of the first key above the given one, or the number of pairs
-  abbrev pub IsFirstKeyAbove : Option (List ℕ) → List (List ℕ × V) → ℕ → Type 0
-  IsFirstKeyAbove last ps i = (i ≤ length ps) × NoKeyAboveBefore last ps i × AllKeysAboveFrom last ps i
+  abbrev pub IsFirstKeyAbove : (given_key : Option (List ℕ)) → List (List ℕ × V) → (found_position : ℕ) → Type 0
+  IsFirstKeyAbove given_key pair_list found_position = (found_position ≤ length pair_list)
+      × NoKeyAboveBefore given_key pair_list found_position × AllKeysAboveFrom given_key pair_list found_position

@@ -13,7 +13,7 @@ key_cmp = slice_cmp nat_cmp
 -- the pairs in ascending key order; of a duplicate key only the first pair
 abbrev pub sorted_by_key : {X : Type 0} → List (List ℕ × X) → List (List ℕ × X)
 sorted_by_key [] = []
-sorted_by_key (p ∷ ps) = put key_cmp p.0 p.1 (sorted_by_key ps)
+sorted_by_key (first_pair ∷ pair_list) = put key_cmp first_pair.0 first_pair.1 (sorted_by_key pair_list)
 
 -- the key is above the last one, if there is a last one
 abbrev pub is_key_above : Option (List ℕ) → List ℕ → Bool
@@ -26,7 +26,11 @@ is_below_found_key None key = true
 is_below_found_key (Some pair) key = is_lt (key_cmp key pair.0)
 
 -- the first of the pairs with the least key above the last one
-abbrev pub IsLeastKeyAbove : {X : Type 0} → Option (List ℕ) → List (List ℕ × X) → Option (List ℕ × X) → Type 0
-IsLeastKeyAbove last ps None = (key : List ℕ) → is_key_above last key ≡ true → find key_cmp key ps ≡ None
-IsLeastKeyAbove last ps (Some pair) = (is_key_above last pair.0 ≡ true) × (find key_cmp pair.0 ps ≡ Some pair.1)
-    × ((key : List ℕ) → is_key_above last key ≡ true → key_cmp key pair.0 ≡ Less → find key_cmp key ps ≡ None)
+abbrev pub IsLeastKeyAbove : {X : Type 0} → (previous_key : Option (List ℕ)) → List (List ℕ × X) → Option (List ℕ × X)
+    → Type 0
+IsLeastKeyAbove previous_key pair_list None = (key : List ℕ) → is_key_above previous_key key ≡ true
+    → find key_cmp key pair_list ≡ None
+IsLeastKeyAbove previous_key pair_list (Some pair) = (is_key_above previous_key pair.0 ≡ true)
+    × (find key_cmp pair.0 pair_list ≡ Some pair.1)
+    × ((key : List ℕ) → is_key_above previous_key key ≡ true → key_cmp key pair.0 ≡ Less
+    → find key_cmp key pair_list ≡ None)

@@ -22,35 +22,38 @@ OptionalIndex = Option (Box Index Global)
 module _ {V : Type 0} where
   -- the pairs, each as the bytes of its key and its value
   abbrev pub stored_pairs : List (Pair V) → List (List ℕ × V)
-  stored_pairs ps = map (λ p. (string_bytes p.key, p.value)) ps
+  stored_pairs pair_list = map (λ stored_pair. (string_bytes stored_pair.key, stored_pair.value)) pair_list
 
   -- the map has each key with its position, and no other key
   abbrev pub MapsKeysToPositions : PositionMap → List (List ℕ × V) → Type 0
-  MapsKeysToPositions position_map ps = (k : List ℕ) → get_by_text position_map k ≡ position_of k ps
+  MapsKeysToPositions position_map pair_list = (key_bytes : List ℕ)
+      → get_by_text position_map key_bytes ≡ position_of key_bytes pair_list
 
   -- each key is below the keys after it
   abbrev pub HasAscendingKeys : List (List ℕ × V) → Type 0
-  HasAscendingKeys ps = IsStrictlySortedBy key_cmp (keys ps)
+  HasAscendingKeys pair_list = IsStrictlySortedBy key_cmp (keys pair_list)
 
 module _ {V : Type 0} where
   -- the key at each position, with the position
-  abbrev pub key_positions : List ℕ → List (List ℕ × V) → List (List ℕ × ℕ)
-  key_positions is ps = map (λ i. (slice_index_or (keys ps) i [], i)) is
+  abbrev pub key_positions : (position_list : List ℕ) → List (List ℕ × V) → List (List ℕ × ℕ)
+  key_positions position_list pair_list =
+      map (λ pair_position. (slice_index_or (keys pair_list) pair_position [], pair_position)) position_list
 
   -- the keys at the positions ascend, and the positions are those of all keys
-  abbrev pub AreSortedPositions : List ℕ → List (List ℕ × V) → Type 0
-  AreSortedPositions is ps = HasAscendingKeys (key_positions is ps) × ((k : List ℕ) → get k (key_positions is ps) ≡ position_of k ps)
+  abbrev pub AreSortedPositions : (position_list : List ℕ) → List (List ℕ × V) → Type 0
+  AreSortedPositions position_list pair_list = HasAscendingKeys (key_positions position_list pair_list)
+      × ((key_bytes : List ℕ) → get key_bytes (key_positions position_list pair_list) ≡ position_of key_bytes pair_list)
 
   -- the index has each key with its position, and no other key
   abbrev pub IsIndexOf : Index → List (List ℕ × V) → Type 0
-  IsIndexOf (Sorted v) ps = AreSortedPositions v.items ps
-  IsIndexOf (Map position_map) ps = MapsKeysToPositions position_map ps
+  IsIndexOf (Sorted index_positions) pair_list = AreSortedPositions index_positions.items pair_list
+  IsIndexOf (Map position_map) pair_list = MapsKeysToPositions position_map pair_list
 
   -- without an index, the keys of more than sixteen pairs ascend; with an index, there are more than sixteen pairs
   abbrev pub HasNeededIndex : List (List ℕ × V) → OptionalIndex → Type 0
-  HasNeededIndex ps None = 16 < length ps → HasAscendingKeys ps
-  HasNeededIndex ps (Some x) = (16 < length ps) × IsIndexOf x.value ps
+  HasNeededIndex pair_list None = 16 < length pair_list → HasAscendingKeys pair_list
+  HasNeededIndex pair_list (Some boxed_index) = (16 < length pair_list) × IsIndexOf boxed_index.value pair_list
 
   -- the invariant of the pairs and their index
   abbrev pub StoreInvariant : List (List ℕ × V) → OptionalIndex → Type 0
-  StoreInvariant ps index = HasDistinctKeys ps × HasNeededIndex ps index
+  StoreInvariant pair_list index = HasDistinctKeys pair_list × HasNeededIndex pair_list index

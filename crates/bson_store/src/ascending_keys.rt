@@ -32,12 +32,12 @@ pub(crate) fn find_ascending<V>(pairs: &Vec<Pair<V>>, key: &str) -> Option<usize
     requires ascending { HasAscendingKeys (stored_pairs pairs.now.items) }
     ensures { result ≡ position_of key.now (stored_pairs pairs.now.items) }
 {
-    let above = first_key_above(pairs, key);
-    if above == 0 {
+    let position_above = first_key_above(pairs, key);
+    if position_above == 0 {
         return None;
     }
-    if key == pairs[above - 1].key.as_str() {
-        return Some(above - 1);
+    if key == pairs[position_above - 1].key.as_str() {
+        return Some(position_above - 1);
     }
     None
 }
@@ -47,7 +47,8 @@ fn is_above_first_keys<V>(pairs: &Vec<Pair<V>>, count: usize, key: &str) -> bool
     requires within { count ≤ length (stored_pairs pairs.now.items) }
     requires ascending { HasAscendingKeys (take count (stored_pairs pairs.now.items)) }
     ensures { IsTrue result
-        → (v : V) → HasAscendingKeys (take count (stored_pairs pairs.now.items) ++ (key.now, v) ∷ []) }
+        → (pushed_value : V)
+        → HasAscendingKeys (take count (stored_pairs pairs.now.items) ++ (key.now, pushed_value) ∷ []) }
 {
     if count == 0 {
         return true;
@@ -56,7 +57,7 @@ fn is_above_first_keys<V>(pairs: &Vec<Pair<V>>, count: usize, key: &str) -> bool
 }
 
 // Whether the keys ascend.
-pub(crate) fn ascends<V>(pairs: &Vec<Pair<V>>) -> bool
+pub(crate) fn has_ascending_keys<V>(pairs: &Vec<Pair<V>>) -> bool
     ensures { IsTrue result → HasAscendingKeys (stored_pairs pairs.now.items) }
 {
     let mut count = 0;
@@ -72,13 +73,14 @@ pub(crate) fn ascends<V>(pairs: &Vec<Pair<V>>) -> bool
 // ascend.
 pub(crate) fn needs_no_index<V>(pairs: &Vec<Pair<V>>, key: &str) -> bool
     requires { HasNeededIndex (stored_pairs pairs.now.items) None }
-    ensures yes { IsTrue result → (v : V) → HasNeededIndex (stored_pairs pairs.now.items ++ (key.now, v) ∷ []) None }
+    ensures yes { IsTrue result → (pushed_value : V)
+        → HasNeededIndex (stored_pairs pairs.now.items ++ (key.now, pushed_value) ∷ []) None }
     ensures no { result ≡ false → 16 ≤ length (stored_pairs pairs.now.items) }
 {
     if pairs.len() < MAX_UNINDEXED {
         return true;
     }
-    if pairs.len() == MAX_UNINDEXED && !ascends(pairs) {
+    if pairs.len() == MAX_UNINDEXED && !has_ascending_keys(pairs) {
         return false;
     }
     is_above_first_keys(pairs, pairs.len(), key)

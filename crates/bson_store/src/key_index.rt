@@ -53,9 +53,9 @@ pub(crate) fn find_without_index<V>(pairs: &Vec<Pair<V>>, key: &str) -> Option<u
 fn find_by_scan<V>(pairs: &Vec<Pair<V>>, key: &str) -> Option<usize>
     ensures { result ≡ position_of key.now (stored_pairs pairs.now.items) }
 {
-    for i in 0..pairs.len() {
-        if key == pairs[i].key.as_str() {
-            return Some(i);
+    for pair_position in 0..pairs.len() {
+        if key == pairs[pair_position].key.as_str() {
+            return Some(pair_position);
         }
     }
     None
@@ -65,13 +65,14 @@ fn find_by_scan<V>(pairs: &Vec<Pair<V>>, key: &str) -> Option<usize>
 fn insert_position(
     positions: &mut BTreeMap<String, usize>,
     key: &String,
-    at: usize,
+    position: usize,
 ) -> Result<(), AllocError>
-    ensures ok { OnOk result ((k : List ℕ) → get_by_text positions.new k
-        ≡ update bytes_eq (get_by_text positions.old) (string_bytes key.now) (Some at) k) }
-    ensures err { OnErr result ((k : List ℕ) → get_by_text positions.new k ≡ get_by_text positions.old k) }
+    ensures ok { OnOk result ((other_key : List ℕ) → get_by_text positions.new other_key
+        ≡ update bytes_eq (get_by_text positions.old) (string_bytes key.now) (Some position) other_key) }
+    ensures err { OnErr result
+        ((other_key : List ℕ) → get_by_text positions.new other_key ≡ get_by_text positions.old other_key) }
 {
-    match positions.insert(key.clone()?, at) {
+    match positions.insert(key.clone()?, position) {
         Ok(_) => Ok(()),
         Err(_) => Err(AllocError),
     }
@@ -85,12 +86,13 @@ fn index_all_keys<V>(
 ) -> Result<BTreeMap<String, usize>, AllocError>
     requires distinct { HasDistinctKeys (stored_pairs pairs.now.items) }
     requires absent { position_of (string_bytes key.now) (stored_pairs pairs.now.items) ≡ None }
-    ensures { IfOk result (λ m. (v : V)
-        → MapsKeysToPositions m (stored_pairs pairs.now.items ++ (string_bytes key.now, v) ∷ [])) }
+    ensures { IfOk result (λ position_map. (pushed_value : V)
+        → MapsKeysToPositions position_map
+        (stored_pairs pairs.now.items ++ (string_bytes key.now, pushed_value) ∷ [])) }
 {
     let mut positions = BTreeMap::new(alloc);
-    for i in 0..pairs.len() {
-        insert_position(&mut positions, &pairs[i].key, i)?;
+    for pair_position in 0..pairs.len() {
+        insert_position(&mut positions, &pairs[pair_position].key, pair_position)?;
     }
     insert_position(&mut positions, key, pairs.len())?;
     Ok(positions)
@@ -106,8 +108,8 @@ fn index_next_key<V>(
     requires distinct { HasDistinctKeys (stored_pairs pairs.now.items) }
     requires absent { position_of (string_bytes key.now) (stored_pairs pairs.now.items) ≡ None }
     requires indexes { IsIndexOf index.old (stored_pairs pairs.now.items) }
-    ensures ok { OnOk result ((v : V)
-        → IsIndexOf index.new (stored_pairs pairs.now.items ++ (string_bytes key.now, v) ∷ [])) }
+    ensures ok { OnOk result ((pushed_value : V)
+        → IsIndexOf index.new (stored_pairs pairs.now.items ++ (string_bytes key.now, pushed_value) ∷ [])) }
     ensures err { OnErr result (IsIndexOf index.new (stored_pairs pairs.now.items)) }
 {
     match index {
@@ -129,8 +131,8 @@ pub(crate) fn index_pushed_key<V>(
 ) -> Result<(), AllocError>
     requires indexed { StoreInvariant (stored_pairs pairs.now.items) positions.old }
     requires absent { position_of (string_bytes key.now) (stored_pairs pairs.now.items) ≡ None }
-    ensures ok { OnOk result ((v : V)
-        → StoreInvariant (stored_pairs pairs.now.items ++ (string_bytes key.now, v) ∷ []) positions.new) }
+    ensures ok { OnOk result ((pushed_value : V)
+        → StoreInvariant (stored_pairs pairs.now.items ++ (string_bytes key.now, pushed_value) ∷ []) positions.new) }
     ensures err { OnErr result (StoreInvariant (stored_pairs pairs.now.items) positions.new) }
 {
     if let Some(index) = positions {
@@ -145,31 +147,37 @@ pub(crate) fn index_pushed_key<V>(
 }
 
 // Lowers each position after the removed one by one.
-fn shift_positions<V>(positions: &mut BTreeMap<String, usize>, pairs: &Vec<Pair<V>>, at: usize)
+fn shift_positions<V>(
+    positions: &mut BTreeMap<String, usize>,
+    pairs: &Vec<Pair<V>>,
+    removed_position: usize,
+)
     requires distinct { HasDistinctKeys (stored_pairs pairs.now.items) }
-    requires raised { (k : List ℕ) → get_by_text positions.old k
-        ≡ option_map (position_before_removal at) (position_of k (stored_pairs pairs.now.items)) }
+    requires raised { (other_key : List ℕ) → get_by_text positions.old other_key
+        ≡ option_map (position_before_removal removed_position) (position_of other_key (stored_pairs pairs.now.items)) }
     ensures { MapsKeysToPositions positions.new (stored_pairs pairs.now.items) }
 {
-    for i in at..pairs.len() {
-        match positions.get_mut(pairs[i].key.as_str()) {
-            Some(position) => *position = i,
+    for pair_position in removed_position..pairs.len() {
+        match positions.get_mut(pairs[pair_position].key.as_str()) {
+            Some(position) => *position = pair_position,
             None => {}
         }
     }
 }
 
 // Removes the key, which was at the position, from the index.
-fn unindex_key<V>(index: &mut Index, pairs: &Vec<Pair<V>>, key: &str, at: usize)
-    requires { (ps : List (List ℕ × V)) × (v : V) × (slice_get ps at ≡ Some (key.now, v))
-        × (stored_pairs pairs.now.items ≡ remove ps at) × HasDistinctKeys ps × IsIndexOf index.old ps }
+fn unindex_key<V>(index: &mut Index, pairs: &Vec<Pair<V>>, key: &str, removed_position: usize)
+    requires { (pairs_before : List (List ℕ × V)) × (removed_value : V)
+        × (slice_get pairs_before removed_position ≡ Some (key.now, removed_value))
+        × (stored_pairs pairs.now.items ≡ remove pairs_before removed_position) × HasDistinctKeys pairs_before
+        × IsIndexOf index.old pairs_before }
     ensures { IsIndexOf index.new (stored_pairs pairs.now.items) }
 {
     match index {
-        Index::Sorted(positions) => remove_position(positions, at),
+        Index::Sorted(positions) => remove_position(positions, removed_position),
         Index::Map(map) => {
             map.remove(key);
-            shift_positions(map, pairs, at);
+            shift_positions(map, pairs, removed_position);
         }
     }
 }
@@ -179,17 +187,19 @@ pub(crate) fn unindex_removed_key<V>(
     positions: &mut Option<Box<Index>>,
     pairs: &Vec<Pair<V>>,
     key: &str,
-    at: usize,
+    removed_position: usize,
 )
-    requires { (ps : List (List ℕ × V)) × (v : V) × (slice_get ps at ≡ Some (key.now, v))
-        × (stored_pairs pairs.now.items ≡ remove ps at) × StoreInvariant ps positions.old }
+    requires { (pairs_before : List (List ℕ × V)) × (removed_value : V)
+        × (slice_get pairs_before removed_position ≡ Some (key.now, removed_value))
+        × (stored_pairs pairs.now.items ≡ remove pairs_before removed_position)
+        × StoreInvariant pairs_before positions.old }
     ensures { StoreInvariant (stored_pairs pairs.now.items) positions.new }
 {
     if pairs.len() <= MAX_UNINDEXED {
         *positions = None;
     } else {
         match positions {
-            Some(index) => unindex_key(index, pairs, key, at),
+            Some(index) => unindex_key(index, pairs, key, removed_position),
             None => {}
         }
     }

@@ -1,6 +1,6 @@
 //! Commands to any store, one after another.
 ghost use Rattle.std.specs.Prelude.{◌≡◌, ◌<◌, IfOk, IfErr, OnErr, length, take};
-ghost use Rattle.bson_store.specs.Replay.{reply, list_after_command, replies, after};
+ghost use Rattle.bson_store.specs.Replay.{reply, list_after_command, replies, list_after_commands};
 
 use crate::by_key;
 use crate::pair_store::PairStore;
@@ -37,11 +37,11 @@ pub struct Stopped {
     pub done: usize,
 }
 
-fn run_one<V: Drop, S: PairStore<V>>(
+fn run_command<V: Drop, S: PairStore<V>>(
     store: &mut S,
     command: Command<V>,
 ) -> Result<Option<V>, (String, V)>
-    ensures ok { IfOk result (λ r. (r ≡ reply command (S.pairs store.old))
+    ensures ok { IfOk result (λ command_reply. (command_reply ≡ reply command (S.pairs store.old))
         × (S.pairs store.new ≡ list_after_command command (S.pairs store.old))) }
     ensures err { OnErr result (S.pairs store.new ≡ S.pairs store.old) }
 {
@@ -66,26 +66,27 @@ pub fn replay<V: Drop, S: PairStore<V>>(
     store: &mut S,
     commands: Vec<Command<V>>,
 ) -> Result<Vec<Option<V>>, Stopped>
-    ensures ok { IfOk result (λ rs. (rs.items ≡ replies commands.items (S.pairs store.old))
-        × (S.pairs store.new ≡ after commands.items (S.pairs store.old))) }
+    ensures ok { IfOk result (λ all_replies. (all_replies.items ≡ replies commands.items (S.pairs store.old))
+        × (S.pairs store.new ≡ list_after_commands commands.items (S.pairs store.old))) }
 
     // Out of memory.
-    ensures err { IfErr result (λ s. S.pairs store.new ≡ after (take s.done commands.items) (S.pairs store.old)) }
-    ensures within { IfErr result (λ s. s.done < length commands.items) }
+    ensures err { IfErr result
+        (λ stopped. S.pairs store.new ≡ list_after_commands (take stopped.done commands.items) (S.pairs store.old)) }
+    ensures within { IfErr result (λ stopped. stopped.done < length commands.items) }
 {
-    let mut all = Vec::new(alloc);
-    if all.reserve(commands.len()).is_err() {
+    let mut reply_list = Vec::new(alloc);
+    if reply_list.reserve(commands.len()).is_err() {
         return Err(Stopped { done: 0 });
     }
     for command in commands {
-        let done = all.len();
-        match run_one(store, command) {
+        let done = reply_list.len();
+        match run_command(store, command) {
             Err(_) => return Err(Stopped { done }),
-            Ok(reply) => match all.push(reply) {
+            Ok(reply) => match reply_list.push(reply) {
                 Ok(()) => {}
                 Err(_) => unreachable!(),
             },
         }
     }
-    Ok(all)
+    Ok(reply_list)
 }

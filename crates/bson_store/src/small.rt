@@ -64,9 +64,9 @@ impl<V> Model for SmallPairs<V> {
 
     ghost coded = { pairs_code V.code };
 
-    ghost view = { λ a. stored_pairs a.pairs.items };
+    ghost view = { λ store. stored_pairs store.pairs.items };
 
-    ghost invariant = { λ a. StoreInvariant (stored_pairs a.pairs.items) a.positions };
+    ghost invariant = { λ store. StoreInvariant (stored_pairs store.pairs.items) store.positions };
 }
 
 impl<V: Drop> Drop for SmallPairs<V> {
@@ -122,7 +122,7 @@ impl<V: Drop> SmallPairs<V> {
 }
 
 impl<V: Drop> PairStore<V> for SmallPairs<V> {
-    ghost pairs = { λ s. s };
+    ghost pairs = { λ store. store };
 
     ghost with_value_at = { with_value };
 
@@ -137,16 +137,16 @@ impl<V: Drop> PairStore<V> for SmallPairs<V> {
         }
     }
 
-    fn key_at(&self, at: usize) -> &String {
-        &self.pairs[at].key
+    fn key_at(&self, position: usize) -> &String {
+        &self.pairs[position].key
     }
 
-    fn value_at(&self, at: usize) -> &V {
-        &self.pairs[at].value
+    fn value_at(&self, position: usize) -> &V {
+        &self.pairs[position].value
     }
 
-    fn pair_at_mut(&mut self, at: usize) -> (&String, &mut V) {
-        let pair = &mut self.pairs[at];
+    fn pair_at_mut(&mut self, position: usize) -> (&String, &mut V) {
+        let pair = &mut self.pairs[position];
         (&pair.key, &mut pair.value)
     }
 
@@ -165,9 +165,9 @@ impl<V: Drop> PairStore<V> for SmallPairs<V> {
         }
     }
 
-    fn remove_at(&mut self, at: usize) -> (String, V) {
-        let Pair { key, value } = self.pairs.remove(at);
-        unindex_removed_key(&mut self.positions, &self.pairs, key.as_str(), at);
+    fn remove_at(&mut self, position: usize) -> (String, V) {
+        let Pair { key, value } = self.pairs.remove(position);
+        unindex_removed_key(&mut self.positions, &self.pairs, key.as_str(), position);
         (key, value)
     }
 
@@ -176,5 +176,5 @@ impl<V: Drop> PairStore<V> for SmallPairs<V> {
         self.positions = None;
     }
 
-    ghost writes = { λ s i w. refl };
+    ghost writes = { λ store position new_value. refl };
 }

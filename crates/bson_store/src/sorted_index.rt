@@ -12,21 +12,23 @@ use crate::small::Pair;
 use std::alloc::{AllocError, Global};
 
 // The key at the position, or the empty one after the pairs.
-fn key_at<V>(pairs: &Vec<Pair<V>>, at: usize) -> &str
-    ensures { result.now ≡ slice_index_or (keys (stored_pairs pairs.now.items)) at [] }
+fn key_at<V>(pairs: &Vec<Pair<V>>, position: usize) -> &str
+    ensures { result.now ≡ slice_index_or (keys (stored_pairs pairs.now.items)) position [] }
 {
-    match pairs.get(at) {
+    match pairs.get(position) {
         Some(pair) => pair.key.as_str(),
         None => "",
     }
 }
 
 // Whether the key at one position is below the key at the next.
-fn is_below<V>(pairs: &Vec<Pair<V>>, one: usize, next: usize) -> bool
-    ensures { result ≡ is_lt (key_cmp (slice_index_or (keys (stored_pairs pairs.now.items)) one [])
-        (slice_index_or (keys (stored_pairs pairs.now.items)) next [])) }
+fn is_below<V>(pairs: &Vec<Pair<V>>, first_position: usize, next_position: usize) -> bool
+    ensures { result ≡ is_lt (key_cmp (slice_index_or (keys (stored_pairs pairs.now.items)) first_position [])
+        (slice_index_or (keys (stored_pairs pairs.now.items)) next_position [])) }
 {
-    key_at(pairs, one).cmp(key_at(pairs, next)).is_lt()
+    key_at(pairs, first_position)
+        .cmp(key_at(pairs, next_position))
+        .is_lt()
 }
 
 // The index, in the sorted positions, of the first key above the key, or the number of positions.
@@ -56,13 +58,13 @@ pub(crate) fn find_sorted<V>(
     requires { AreSortedPositions positions.now.items (stored_pairs pairs.now.items) }
     ensures { result ≡ position_of key.now (stored_pairs pairs.now.items) }
 {
-    let above = first_key_above(pairs, positions, key);
-    if above == 0 {
+    let index_above = first_key_above(pairs, positions, key);
+    if index_above == 0 {
         return None;
     }
-    let at = positions[above - 1];
-    if key == key_at(pairs, at) {
-        return Some(at);
+    let position = positions[index_above - 1];
+    if key == key_at(pairs, position) {
+        return Some(position);
     }
     None
 }
@@ -72,18 +74,30 @@ pub(crate) fn sorted_positions<V>(
     alloc: Global,
     pairs: &Vec<Pair<V>>,
 ) -> Result<Option<Vec<usize>>, AllocError>
-    ensures { IfOk result (λ found. IfSome found (λ positions. HasDistinctKeys (stored_pairs pairs.now.items)
+    ensures { IfOk result
+        (λ optional_positions. IfSome optional_positions (λ positions. HasDistinctKeys (stored_pairs pairs.now.items)
         × AreSortedPositions positions.items (stored_pairs pairs.now.items))) }
 {
     let mut positions = all_positions(alloc, pairs.len())?;
 
     // The first bytes distinguish most keys.
-    positions.sort_by_cached_key(|position| prefix_of(key_at(pairs, *position).as_bytes()))?;
-    if positions.is_sorted_by(|one, next| is_below(pairs, *one, *next)) {
+    positions.sort_by_cached_key(|position| key_prefix(key_at(pairs, *position).as_bytes()))?;
+    if positions.is_sorted_by(|first_position, next_position| is_below(
+        pairs,
+        *first_position,
+        *next_position,
+    )) {
         return Ok(Some(positions));
     }
-    positions.sort_by(|one, other| key_at(pairs, *one).cmp(key_at(pairs, *other)))?;
-    if positions.is_sorted_by(|one, next| is_below(pairs, *one, *next)) {
+    positions.sort_by(|first_position, other_position| key_at(pairs, *first_position).cmp(key_at(
+        pairs,
+        *other_position,
+    )))?;
+    if positions.is_sorted_by(|first_position, next_position| is_below(
+        pairs,
+        *first_position,
+        *next_position,
+    )) {
         return Ok(Some(positions));
     }
     Ok(None)
@@ -101,31 +115,33 @@ fn all_positions(alloc: Global, count: usize) -> Result<Vec<usize>, AllocError>
 }
 
 // The first sixteen bytes as one number, with zeros for those that are missing.
-fn prefix_of(key: &[u8]) -> u128 {
+fn key_prefix(key: &[u8]) -> u128 {
     let mut prefix: u128 = 0;
-    for at in 0..16 {
-        let byte = key.get(at).copied().unwrap_or(0);
+    for byte_index in 0..16 {
+        let byte = key.get(byte_index).copied().unwrap_or(0);
         prefix = prefix << 8 | byte as u128;
     }
     prefix
 }
 
-// The position of a pair after the pair at `at` is removed.
-fn shifted_position(at: usize, position: usize) -> usize
-    ensures { result ≡ position_after_removal at position }
+// The position of a pair after the pair at `position` is removed.
+fn shifted_position(removed_position: usize, position: usize) -> usize
+    ensures { result ≡ position_after_removal removed_position position }
 {
-    if at < position {
+    if removed_position < position {
         return position - 1;
     }
     position
 }
 
 // Removes the position, and lowers each position after it by one.
-pub(crate) fn remove_position(positions: &mut Vec<usize>, at: usize)
-    ensures { positions.new.items ≡ map (position_after_removal at) (filter (λ i. not (i == at)) positions.old.items) }
+pub(crate) fn remove_position(positions: &mut Vec<usize>, removed_position: usize)
+    ensures { positions.new.items
+        ≡ map (position_after_removal removed_position)
+        (filter (λ other_position. not (other_position == removed_position)) positions.old.items) }
 {
-    positions.retain(|position| *position != at);
-    for i in 0..positions.len() {
-        positions[i] = shifted_position(at, positions[i]);
+    positions.retain(|position| *position != removed_position);
+    for index in 0..positions.len() {
+        positions[index] = shifted_position(removed_position, positions[index]);
     }
 }

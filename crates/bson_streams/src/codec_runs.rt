@@ -11,14 +11,17 @@ use std::alloc::{AllocError, Global};
 
 /// Returns the result of `from_reader`: `done` and how many bytes the reader has left, or its error.
 /// The document's bytes become the bytes of the writer.
-pub(crate) fn read(alloc: Global, streams: &mut RunStreams<'_>) -> Result<String, AllocError> {
+pub(crate) fn read_document(
+    alloc: Global,
+    streams: &mut RunStreams<'_>,
+) -> Result<String, AllocError> {
     match from_reader(alloc, &mut streams.reader, DEPTH) {
         Ok(document) => {
             match to_vec(alloc, &document) {
-                Ok(bytes) => streams.writer.accepted = bytes,
+                Ok(bytes) => streams.writer.accepted_bytes = bytes,
                 Err(error) => return format!(in alloc; "{error}"),
             }
-            format!(in alloc; "done, {} left", streams.reader.rest.len())
+            format!(in alloc; "done, {} left", streams.reader.unread_bytes.len())
         }
         Err(error) => format!(in alloc; "{error}"),
     }
@@ -48,7 +51,7 @@ fn document_of(alloc: Global, text: &[u8]) -> Option<Document> {
 
 /// Returns the result of `run_documents`, with finite doubles: `DOCUMENTS REFUSED`, or the document
 /// at which the run ended and the message of its fault.
-pub(crate) fn documents(
+pub(crate) fn run_dump(
     alloc: Global,
     line: Line,
     key_order: KeyOrder,
@@ -64,16 +67,19 @@ pub(crate) fn documents(
         keep_going: on_refusal == OnRefusal::KeepGoing,
         ..Run::default()
     };
-    let (reader, writer, report) = (
+    let (reader, writer, diagnostics_writer) = (
         &mut streams.reader,
         &mut streams.writer,
-        &mut streams.report,
+        &mut streams.diagnostics_writer,
     );
-    match run_documents(alloc, run, reader, writer, report) {
+    match run_documents(alloc, run, reader, writer, diagnostics_writer) {
         Ok(counts) => format!(in alloc; "{} {}", counts.documents, counts.refused),
-        Err(end) => {
-            let words = end.fault.message();
-            format!(in alloc; "document {} at byte {}: {words}", end.number, end.start)
+        Err(run_end) => {
+            let fault_message = run_end.fault.message();
+            format!(in alloc;
+                "document {} at byte {}: {fault_message}",
+                run_end.number, run_end.start
+            )
         }
     }
 }

@@ -15,54 +15,54 @@ pub(crate) enum StreamEnd {
 }
 
 impl StreamEnd {
-    fn outcome(self) -> io::Result<usize>
+    fn final_result(self) -> io::Result<usize>
         ensures { IfOk result (λ count. count ≡ 0) }
     {
         match self {
-            StreamEnd::Fails(kind) => Err(io::Error::from(kind)),
+            StreamEnd::Fails(error_kind) => Err(io::Error::from(error_kind)),
             StreamEnd::NoByte => Ok(0),
         }
     }
 }
 
-/// Reads at most `chunk_size` bytes a call, for `reads` calls.
+/// Reads at most `chunk_size` bytes a call, for `allowed_reads` calls.
 #[derive(Drop)]
 pub(crate) struct ChunkReader<'a> {
-    pub rest: &'a [u8],
+    pub unread_bytes: &'a [u8],
     pub chunk_size: usize,
-    pub reads: u64,
-    pub end: StreamEnd,
+    pub allowed_reads: u64,
+    pub stream_end: StreamEnd,
 }
 
 impl Read for ChunkReader<'_> {
     fn read(&mut self, buf: &mut [u8]) -> io::Result<usize> {
-        if self.reads == 0 {
-            return self.end.outcome();
+        if self.allowed_reads == 0 {
+            return self.stream_end.final_result();
         }
-        self.reads -= 1;
-        let most = buf.len().min(self.chunk_size);
-        self.rest.read(&mut buf[..most])
+        self.allowed_reads -= 1;
+        let max_read_length = buf.len().min(self.chunk_size);
+        self.unread_bytes.read(&mut buf[..max_read_length])
     }
 }
 
-/// Writes one byte a call, for `calls` calls.
+/// Writes one byte a call, for `allowed_calls` calls.
 #[derive(Drop)]
 pub(crate) struct ByteWriter {
-    pub accepted: Vec<u8>,
-    pub calls: u64,
-    pub end: StreamEnd,
+    pub accepted_bytes: Vec<u8>,
+    pub allowed_calls: u64,
+    pub stream_end: StreamEnd,
 }
 
 impl Write for ByteWriter {
     fn write(&mut self, buf: &[u8]) -> io::Result<usize> {
-        let Some(first) = buf.first() else {
+        let Some(first_byte) = buf.first() else {
             return Ok(0);
         };
-        if self.calls == 0 {
-            return self.end.outcome();
+        if self.allowed_calls == 0 {
+            return self.stream_end.final_result();
         }
-        self.calls -= 1;
-        self.accepted.push(*first)?;
+        self.allowed_calls -= 1;
+        self.accepted_bytes.push(*first_byte)?;
         Ok(1)
     }
 

@@ -13,31 +13,31 @@ mod run_request;
 mod runs;
 
 use run_request::parse_request;
-use runs::execute;
+use runs::execute_request;
 use std::io;
 use std::io::{Read, Write};
 
 fn main(rt: HostRuntime) -> io::Result<()> {
     let alloc = rt.alloc();
-    let mut given = Vec::new(alloc);
-    rt.stdin().read_to_end(&mut given)?;
-    let (requests, input) = cut_at_empty_line(&given);
+    let mut standard_input = Vec::new(alloc);
+    rt.stdin().read_to_end(&mut standard_input)?;
+    let (requests, input) = cut_at_empty_line(&standard_input);
     for line in requests.split(|byte| *byte == b'\n') {
-        let answer = match parse_request(line) {
-            Some(request) => execute(alloc, request, input)?,
+        let response = match parse_request(line) {
+            Some(request) => execute_request(alloc, request, input)?,
             None => Vec::from_slice(alloc, b"this order is not understood\n")?,
         };
-        rt.stdout().write_all(&answer)?;
+        rt.stdout().write_all(&response)?;
     }
     Ok(())
 }
 
 /// Returns the bytes before the first empty line, and those after it.
-fn cut_at_empty_line(given: &[u8]) -> (&[u8], &[u8]) {
-    for at in 0..given.len() {
-        if given[at..].starts_with(b"\n\n") {
-            return (&given[..at], &given[at + 2..]);
+fn cut_at_empty_line(standard_input: &[u8]) -> (&[u8], &[u8]) {
+    for line_end in 0..standard_input.len() {
+        if standard_input[line_end..].starts_with(b"\n\n") {
+            return (&standard_input[..line_end], &standard_input[line_end + 2..]);
         }
     }
-    (given, &[])
+    (standard_input, &[])
 }

@@ -19,20 +19,20 @@ pub(crate) enum Call {
     RunDocuments(Line, KeyOrder, OnRefusal),
 }
 
-/// A request: a line `CALL PIECE READS WRITES REPORTS END`.
+/// A request: a line `CALL CHUNK_SIZE READS WRITES REPORTS END`.
 #[derive(Clone, Copy, PartialEq, Eq, Debug)]
 pub(crate) struct RunRequest {
     pub call: Call,
     /// The largest number of bytes of a read.
     pub chunk_size: usize,
     /// The number of reads before the reader fails.
-    pub reads: u64,
+    pub allowed_reads: u64,
     /// The number of bytes that the writer accepts.
-    pub writes: u64,
+    pub allowed_writes: u64,
     /// The number of bytes that the report accepts.
-    pub reports: u64,
+    pub allowed_reports: u64,
     /// What each of them does after that.
-    pub end: StreamEnd,
+    pub stream_end: StreamEnd,
 }
 
 /// Parses the request of a line.
@@ -41,44 +41,44 @@ pub(crate) fn parse_request(line: &[u8]) -> Option<RunRequest> {
     Some(RunRequest {
         call: call_of(words.next()?)?,
         chunk_size: words.next()?.parse::<usize>().ok()?,
-        reads: words.next()?.parse::<u64>().ok()?,
-        writes: words.next()?.parse::<u64>().ok()?,
-        reports: words.next()?.parse::<u64>().ok()?,
-        end: end_of(words.next()?)?,
+        allowed_reads: words.next()?.parse::<u64>().ok()?,
+        allowed_writes: words.next()?.parse::<u64>().ok()?,
+        allowed_reports: words.next()?.parse::<u64>().ok()?,
+        stream_end: stream_end_of(words.next()?)?,
     })
 }
 
 /// `MODE`, `convert:MODE`, `in_order:MODE`, `lines:TASK:stop` or `lines:TASK:keep-going`; of BSON
 /// bytes `from_reader`, `to_writer`, `documents:LINE:stop` or `documents:LINE:keep-going`.
 fn call_of(word: &str) -> Option<Call> {
-    let Some((name, rest)) = word.split_once(':') else {
+    let Some((call_name, call_argument)) = word.split_once(':') else {
         return match word {
             "from_reader" => Some(Call::FromReader),
             "to_writer" => Some(Call::ToWriter),
             _ => Some(Call::Run(Mode::from_name(word)?)),
         };
     };
-    match name {
-        "convert" => Some(Call::Convert(Mode::from_name(rest)?)),
-        "in_order" => Some(Call::ConvertInOrder(Mode::from_name(rest)?)),
+    match call_name {
+        "convert" => Some(Call::Convert(Mode::from_name(call_argument)?)),
+        "in_order" => Some(Call::ConvertInOrder(Mode::from_name(call_argument)?)),
         "lines" => {
-            let (task, on_refusal) = rest.split_once(':')?;
+            let (task, on_refusal) = call_argument.split_once(':')?;
             Some(Call::RunLines(Task::from_name(task)?, on_refusal_of(on_refusal)?))
         }
         "documents" => {
-            let (line, on_refusal) = rest.split_once(':')?;
-            let (line, order) = match line.strip_suffix("_in_order") {
+            let (line, on_refusal) = call_argument.split_once(':')?;
+            let (line, key_order) = match line.strip_suffix("_in_order") {
                 Some(line) => (line, KeyOrder::AsGiven),
                 None => (line, KeyOrder::Ascending),
             };
-            Some(Call::RunDocuments(line_of(line)?, order, on_refusal_of(on_refusal)?))
+            Some(Call::RunDocuments(output_line_of(line)?, key_order, on_refusal_of(on_refusal)?))
         }
         _ => None,
     }
 }
 
 /// What a run over documents writes of each, as the rows of tests/rows name it.
-fn line_of(word: &str) -> Option<Line> {
+fn output_line_of(word: &str) -> Option<Line> {
     match word {
         "canonical" => Some(Line::Text(Form::Canonical)),
         "relaxed" => Some(Line::Text(Form::Relaxed)),
@@ -96,7 +96,7 @@ fn on_refusal_of(word: &str) -> Option<OnRefusal> {
     }
 }
 
-fn end_of(word: &str) -> Option<StreamEnd> {
+fn stream_end_of(word: &str) -> Option<StreamEnd> {
     match word {
         "interrupted" => Some(StreamEnd::Fails(ErrorKind::Interrupted)),
         "would_block" => Some(StreamEnd::Fails(ErrorKind::WouldBlock)),

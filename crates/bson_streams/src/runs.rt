@@ -13,50 +13,50 @@ use bson_run::task::{OnRefusal, Task};
 use std::alloc::{AllocError, Global};
 
 /// The longest output that is written without an allocation.
-const CAPACITY: usize = 4096;
+const OUTPUT_CAPACITY: usize = 4096;
 
 /// The reader and the writers of a run.
 #[derive(Drop)]
 pub(crate) struct RunStreams<'a> {
     pub reader: ChunkReader<'a>,
     pub writer: ByteWriter,
-    pub report: ByteWriter,
+    pub diagnostics_writer: ByteWriter,
 }
 
 impl<'a> RunStreams<'a> {
-    fn of(
+    fn for_request(
         alloc: Global,
         request: RunRequest,
         input: &'a [u8],
     ) -> Result<RunStreams<'a>, AllocError> {
         Ok(RunStreams {
             reader: ChunkReader {
-                rest: input,
+                unread_bytes: input,
                 chunk_size: request.chunk_size,
-                reads: request.reads,
-                end: request.end,
+                allowed_reads: request.allowed_reads,
+                stream_end: request.stream_end,
             },
             writer: ByteWriter {
-                accepted: Vec::with_capacity(alloc, CAPACITY)?,
-                calls: request.writes,
-                end: request.end,
+                accepted_bytes: Vec::with_capacity(alloc, OUTPUT_CAPACITY)?,
+                allowed_calls: request.allowed_writes,
+                stream_end: request.stream_end,
             },
-            report: ByteWriter {
-                accepted: Vec::with_capacity(alloc, CAPACITY)?,
-                calls: request.reports,
-                end: request.end,
+            diagnostics_writer: ByteWriter {
+                accepted_bytes: Vec::with_capacity(alloc, OUTPUT_CAPACITY)?,
+                allowed_calls: request.allowed_reports,
+                stream_end: request.stream_end,
             },
         })
     }
 }
 
 /// Makes the run of the request. Returns its result, and the bytes that its writers accepted.
-pub(crate) fn execute(
+pub(crate) fn execute_request(
     alloc: Global,
     request: RunRequest,
     input: &[u8],
 ) -> Result<Vec<u8>, AllocError> {
-    let mut streams = RunStreams::of(alloc, request, input)?;
+    let mut streams = RunStreams::for_request(alloc, request, input)?;
     let outcome = match request.call {
         Call::Run(mode) => call_run(alloc, mode, &mut streams)?,
         Call::Convert(mode) => finish_conversion(alloc, convert(alloc, mode, input), &mut streams)?,
@@ -69,17 +69,17 @@ pub(crate) fn execute(
             finish_conversion(alloc, output, &mut streams)?
         }
         Call::RunLines(task, on_refusal) => run_lines(alloc, task, on_refusal, &mut streams)?,
-        Call::FromReader => codec_runs::read(alloc, &mut streams)?,
+        Call::FromReader => codec_runs::read_document(alloc, &mut streams)?,
         Call::ToWriter => codec_runs::write_document(alloc, input, &mut streams)?,
-        Call::RunDocuments(line, request, on_refusal) => {
-            codec_runs::documents(alloc, line, request, on_refusal, &mut streams)?
+        Call::RunDocuments(line, key_order, on_refusal) => {
+            codec_runs::run_dump(alloc, line, key_order, on_refusal, &mut streams)?
         }
     };
     result_line(
         alloc,
         outcome.as_str(),
-        &streams.writer.accepted,
-        &streams.report.accepted,
+        &streams.writer.accepted_bytes,
+        &streams.diagnostics_writer.accepted_bytes,
     )
 }
 
@@ -100,15 +100,15 @@ fn finish_conversion(
 ) -> Result<String, AllocError> {
     match outcome {
         Ok(output) => {
-            streams.writer.accepted = output;
+            streams.writer.accepted_bytes = output;
             String::from_str(alloc, "done")
         }
-        Err(error) => String::from_str(alloc, line_of(&error)),
+        Err(error) => String::from_str(alloc, error_line(&error)),
     }
 }
 
 // The line of an error, which is never `NoBytes` here.
-fn line_of(error: &Error) -> &'static str {
+fn error_line(error: &Error) -> &'static str {
     match error.fault() {
         Some(fault) => fault.line(),
         None => error.message(),
@@ -123,13 +123,13 @@ fn run_lines(
     on_refusal: OnRefusal,
     streams: &mut RunStreams<'_>,
 ) -> Result<String, AllocError> {
-    let (reader, writer, report) = (
+    let (reader, writer, diagnostics_writer) = (
         &mut streams.reader,
         &mut streams.writer,
-        &mut streams.report,
+        &mut streams.diagnostics_writer,
     );
     let mut run = LineRun::new(alloc, task, on_refusal);
-    match run.run(alloc, reader, writer, report) {
+    match run.run(alloc, reader, writer, diagnostics_writer) {
         Ok(counts) => format!(in alloc; "{} {}", counts.lines, counts.refused),
         Err(fault) => format!(in alloc; "line {}: {}", run.number(), fault.message()),
     }
@@ -139,12 +139,12 @@ fn result_line(
     alloc: Global,
     outcome: &str,
     written: &[u8],
-    reported: &[u8],
+    diagnostics: &[u8],
 ) -> Result<Vec<u8>, AllocError> {
-    let head = format!(in alloc; "{} {} {outcome}\n", written.len(), reported.len())?;
-    let mut line = Vec::from_slice(alloc, head.as_bytes())?;
+    let result_header = format!(in alloc; "{} {} {outcome}\n", written.len(), diagnostics.len())?;
+    let mut line = Vec::from_slice(alloc, result_header.as_bytes())?;
     line.extend_from_slice(written)?;
-    line.extend_from_slice(reported)?;
+    line.extend_from_slice(diagnostics)?;
     line.push(b'\n')?;
     Ok(line)
 }

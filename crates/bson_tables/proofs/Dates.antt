@@ -5,10 +5,10 @@ use Rattle.jiff_core.specs.Calendar.{days_of_years, days_of_months, day_count, d
 use Rattle.bson_datetime.specs.Rfc3339Parser.{parsed_rfc3339_millis, date_part, time_part, fraction_part, offset_part, hours_minutes}
 use Rattle.bson_datetime.specs.Rfc3339Parser.{two_digits_below, after_byte, after_letter, day_number, two_digits, four_digits}
 use Rattle.jiff_fmt.specs.Reader.{fraction_value}
-use Rattle.bson_datetime.specs.CivilTime.{Civil, IsCivil, HasCivilTime}
+use Rattle.bson_datetime.specs.CivilTime.{CivilDateTime, IsCivilDateTime, HasCivilTime}
 use Rattle.bson_datetime.proofs.Offered.{rfc-fields}
 use Rattle.bson_scalar.specs.Scalar as kind
-use Rattle.bson_scalar.specs.TreeParts.{object_of_one}
+use Rattle.bson_scalar.specs.TreeParts.{one_key_object}
 use Rattle.bson_scalar.specs.declared.form.Form.TheVariants.{Relaxed}
 use Rattle.bson_model.specs.Means.{Means}
 use Rattle.bson_model.specs.Value as model
@@ -18,13 +18,13 @@ use Rattle.bson_model.proofs.Offered.{canon_from}
 use Rattle.serde_json.specs.Data as tree
 use Rattle.bson_tables.proofs.Shapes.{row}
 
-millis_read : Means (object_of_one (codes "$date") (tree.string (codes "1970-01-01T00:00:00.005Z")))
+millis_read : Means (one_key_object (codes "$date") (tree.string (codes "1970-01-01T00:00:00.005Z")))
     (model.scalar (kind.date (pos 5)))
 unfolding parsed_rfc3339_millis date_part time_part fraction_part offset_part hours_minutes two_digits_below after_byte after_letter
     day_number two_digits four_digits fraction_value days_of_years days_of_months day_count days_from_civil
 millis_read = row _ _ refl
 
-offset_read : Means (object_of_one (codes "$date") (tree.string (codes "1970-01-01T01:00:00+01:00")))
+offset_read : Means (one_key_object (codes "$date") (tree.string (codes "1970-01-01T01:00:00+01:00")))
     (model.scalar (kind.date (pos 0)))
 unfolding parsed_rfc3339_millis date_part time_part fraction_part offset_part hours_minutes two_digits_below after_byte after_letter
     day_number two_digits four_digits fraction_value days_of_years days_of_months day_count days_from_civil
@@ -33,9 +33,9 @@ offset_read = row _ _ refl
 -- the relaxed form has this text
 abbrev HasText : ℤ → List ℕ → Type 0
 HasText ms s = Written Relaxed (normal_form (model.scalar (kind.date ms)))
-    (object_of_one (codes "$date") (tree.string s))
+    (one_key_object (codes "$date") (tree.string s))
 
-first : Civil
+first : CivilDateTime
 first = record { year = pos 1970; month = 1; day = 1; hour = 0; minute = 0; second = 0; millisecond = 0 }
 
 first_is : HasCivilTime (pos 0) first
@@ -47,10 +47,10 @@ unfolding first
 first_written = subst (HasText (pos 0)) (rfc-fields (pos 0) first first_is)
     (canon_from Relaxed (model.scalar (kind.date (pos 0))) _ refl)
 
-last : Civil
+last : CivilDateTime
 last = record { year = pos 9999; month = 12; day = 31; hour = 23; minute = 59; second = 59; millisecond = 999 }
 
-last_exists : IsCivil last
+last_exists : IsCivilDateTime last
 unfolding last
 last_exists = search rules
 
@@ -58,7 +58,7 @@ last_is : HasCivilTime (pos 253_402_300_799_999) last
 unfolding last days_of_years days_of_months day_count days_from_civil
 last_is = (last_exists, refl)
 
-last_written : HasText (pos 253_402_300_799_999) (codes "9999-12-31T23:59:59.999Z")
+last_value_at_key : HasText (pos 253_402_300_799_999) (codes "9999-12-31T23:59:59.999Z")
 unfolding last
-last_written = subst (HasText (pos 253_402_300_799_999)) (rfc-fields _ last last_is)
+last_value_at_key = subst (HasText (pos 253_402_300_799_999)) (rfc-fields _ last last_is)
     (canon_from Relaxed (model.scalar (kind.date (pos 253_402_300_799_999))) _ refl)

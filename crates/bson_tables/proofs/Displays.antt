@@ -6,7 +6,7 @@ use Rattle.hex.specs.Hex.{encode_with}
 use Rattle.bson_decimal.specs.DecimalText.{decimal128_text as decimal_text}
 use Rattle.bson_types.specs.declared.spec.BinarySubtype.TheVariants.{UserDefined}
 use Rattle.bson_scalar.specs.Scalar as kind
-use Rattle.bson_model.specs.Pretty.{pretty}
+use Rattle.bson_model.specs.Pretty.{pretty_text}
 use Rattle.bson_model.specs.Displayed.{display_text}
 use Rattle.bson_model.specs.Value.{Value}
 use Rattle.bson_model.specs.Value as model
@@ -59,10 +59,10 @@ document_displayed = refl
 no_document_displayed : display_text (model.document model.no_pairs) ≡ codes "{}"
 no_document_displayed = refl
 
-document_pretty : pretty 2 (under_a list_of_true) ≡ codes "{\n  \"a\": [\n    true\n  ]\n}"
+document_pretty : pretty_text 2 (under_a list_of_true) ≡ codes "{\n  \"a\": [\n    true\n  ]\n}"
 document_pretty = refl
 
-no_indent_pretty : pretty 0 (under_a (model.scalar kind.null)) ≡ codes "{\n\"a\": null\n}"
+no_indent_pretty : pretty_text 0 (under_a (model.scalar kind.null)) ≡ codes "{\n\"a\": null\n}"
 no_indent_pretty = refl
 
 double_displayed : display_text (model.scalar (kind.double 0x7FF0000000000000)) ≡ codes "Double(0x7ff0000000000000)"

@@ -7,11 +7,11 @@ use Rattle.json.specs.Json as json
 use Rattle.serde_json.specs.Data.{Data, float, Members, no_members, member, no_items, item}
 use Rattle.serde_json.specs.Data as tree
 use Rattle.serde_json.specs.Written.{compact_text}
-use Rattle.bson_types.specs.Regex.{sorted_text}
+use Rattle.bson_types.specs.Regex.{sorted_regex_options}
 use Rattle.bson_scalar.specs.Faults.{wrong_shape}
 use Rattle.bson_scalar.specs.Doubles.{double_tree}
 use Rattle.bson_scalar.specs.Scalar.{null, boolean, double, text, code, timestamp, regex}
-use Rattle.bson_scalar.specs.TreeParts.{object_of_one, object_of_two}
+use Rattle.bson_scalar.specs.TreeParts.{one_key_object, two_key_object}
 use Rattle.bson_scalar.specs.Written as scalar_tree
 use Rattle.bson_scalar.specs.declared.form.Doubles.{Doubles}
 use Rattle.bson_scalar.specs.declared.form.Doubles.TheVariants.{Special, Finite}
@@ -20,11 +20,11 @@ use Rattle.bson_scalar.specs.declared.form.Form.{Form}
 use Rattle.bson_scalar.specs.declared.form.Form.TheVariants.{Canonical, Relaxed}
 use Rattle.bson_model.specs.Normal.{normal_form}
 use Rattle.bson_model.specs.Value.{Value, scalar, code_scope, array, document, no_values, value, no_pairs, pair}
-use Rattle.bson_model.specs.OrderedTrees.{kept, read_in_order}
+use Rattle.bson_model.specs.OrderedTrees.{tree_of_json, read_in_order}
 use Rattle.bson_model.specs.OrderedMeans.{MeansInOrder}
-use Rattle.bson_model.specs.OrderedReading.{reads_in_order}
+use Rattle.bson_model.specs.OrderedReading.{reads_tree_in_order}
 use Rattle.bson_model.specs.OrderedTexts.{HasMeaningInOrder}
-use Rattle.bson_model.specs.OrderedWriting.{writes_in_order}
+use Rattle.bson_model.specs.OrderedWriting.{writes_value_in_order}
 use Rattle.bson_model.specs.OrderedWritten.{WrittenInOrder}
 use Rattle.bson_model.proofs.OfferedInOrder.{means_from, text_means, written_from}
 use Rattle.bson_tables.proofs.Decimals.{one_and_a_half}
@@ -33,9 +33,9 @@ use Rattle.bson_tables.proofs.Shapes.{whole}
 -- ---- a duplicate key: the last value at the first position (`IndexMap::insert`; Python's `dict`; `JSON.parse`)
 
 abbrev b_then_a : Data → Data → Data
-b_then_a d e = object_of_two (codes "b") d (codes "a") e
+b_then_a d e = two_key_object (codes "b") d (codes "a") e
 
-double_key : kept (json.object
+double_key : tree_of_json (json.object
     (json.member (codes "b") json.null
     (json.member (codes "a") (json.boolean true)
     (json.member (codes "b") (json.boolean false) json.no_members))))
@@ -50,15 +50,15 @@ double_key_of_text = refl
 
 -- at each depth
 double_key_within : read_in_order (codes "{\"z\":[{\"b\":null,\"a\":true,\"b\":{\"y\":true,\"x\":null}}]}")
-    ≡ Some (object_of_one (codes "z") (tree.array (item (b_then_a
-    (object_of_two (codes "y") (tree.boolean true) (codes "x") tree.null) (tree.boolean true)) no_items)))
+    ≡ Some (one_key_object (codes "z") (tree.array (item (b_then_a
+    (two_key_object (codes "y") (tree.boolean true) (codes "x") tree.null) (tree.boolean true)) no_items)))
 unfolding json.value Rattle.json.specs.Lex.punctuate Rattle.json.specs.Lex.lex Rattle.json.specs.Text.content
     Rattle.json.specs.Word.word
 double_key_within = refl
 
 -- a wrapper's key twice is that wrapper, of its last value
 double_wrapper : read_in_order (codes "{\"$symbol\":\"a\",\"$symbol\":\"b\"}")
-    ≡ Some (object_of_one (codes "$symbol") (tree.string (codes "b")))
+    ≡ Some (one_key_object (codes "$symbol") (tree.string (codes "b")))
 unfolding json.value Rattle.json.specs.Lex.punctuate Rattle.json.specs.Lex.lex Rattle.json.specs.Text.content
     Rattle.json.specs.Word.word
 double_wrapper = refl
@@ -94,7 +94,7 @@ nested = document
     (pair (codes "y") (scalar null) no_pairs))
 
 abbrev nested_tree : Data
-nested_tree = object_of_two (codes "z")
+nested_tree = two_key_object (codes "z")
     (tree.array (item (b_then_a tree.null (tree.boolean true)) no_items)) (codes "y") tree.null
 
 nested_read : (D : Doubles) → MeansInOrder D nested_tree nested
@@ -114,25 +114,25 @@ scoped = code_scope (codes "x")
     (pair (codes "z") (scalar null) (pair (codes "a") (scalar (boolean true)) no_pairs))
 
 abbrev scope_tree : Data
-scope_tree = object_of_two (codes "z") tree.null (codes "a") (tree.boolean true)
+scope_tree = two_key_object (codes "z") tree.null (codes "a") (tree.boolean true)
 
 code_first : (D : Doubles)
-    → MeansInOrder D (object_of_two (codes "$code") (tree.string (codes "x")) (codes "$scope") scope_tree) scoped
+    → MeansInOrder D (two_key_object (codes "$code") (tree.string (codes "x")) (codes "$scope") scope_tree) scoped
 code_first D = means_from D _ _ refl
 
 scope_first : (D : Doubles)
-    → MeansInOrder D (object_of_two (codes "$scope") scope_tree (codes "$code") (tree.string (codes "x"))) scoped
+    → MeansInOrder D (two_key_object (codes "$scope") scope_tree (codes "$code") (tree.string (codes "x"))) scoped
 scope_first D = means_from D _ _ refl
 
 scoped_written : (D : Doubles) (f : Form)
     → WrittenInOrder D f (normal_form scoped)
-    (object_of_two (codes "$code") (tree.string (codes "x")) (codes "$scope") scope_tree)
+    (two_key_object (codes "$code") (tree.string (codes "x")) (codes "$scope") scope_tree)
 scoped_written D f = written_from D f scoped _ refl
 
 -- the keys of a scope are not tested
 keys_of_a_scope : (D : Doubles)
     → MeansInOrder D
-    (object_of_two (codes "$scope") (object_of_two (codes "$oid") tree.null (codes "$date") (tree.boolean true))
+    (two_key_object (codes "$scope") (two_key_object (codes "$oid") tree.null (codes "$date") (tree.boolean true))
     (codes "$code") (tree.string (codes "x")))
     (code_scope (codes "x")
     (pair (codes "$oid") (scalar null) (pair (codes "$date") (scalar (boolean true)) no_pairs)))
@@ -140,39 +140,39 @@ keys_of_a_scope D = means_from D _ _ refl
 
 scope_that_is_null : (D : Doubles)
     → MeansInOrder D
-    (object_of_two (codes "$scope") tree.null (codes "$code") (tree.string (codes "x"))) (scalar (code (codes "x")))
+    (two_key_object (codes "$scope") tree.null (codes "$code") (tree.string (codes "x"))) (scalar (code (codes "x")))
 scope_that_is_null D = means_from D _ _ refl
 
 -- ---- inside any other wrapper the order says nothing, and is the form's own where it is written
 
 timestamp_as_specified : (D : Doubles)
     → MeansInOrder D
-    (object_of_one (codes "$timestamp") (object_of_two (codes "t") (whole 1) (codes "i") (whole 2)))
+    (one_key_object (codes "$timestamp") (two_key_object (codes "t") (whole 1) (codes "i") (whole 2)))
     (scalar (timestamp 1 2))
 timestamp_as_specified D = means_from D _ _ refl
 
 timestamp_ascending : (D : Doubles)
     → MeansInOrder D
-    (object_of_one (codes "$timestamp") (object_of_two (codes "i") (whole 2) (codes "t") (whole 1)))
+    (one_key_object (codes "$timestamp") (two_key_object (codes "i") (whole 2) (codes "t") (whole 1)))
     (scalar (timestamp 1 2))
 timestamp_ascending D = means_from D _ _ refl
 
 timestamp_written : (D : Doubles) (f : Form)
     → WrittenInOrder D f (normal_form (scalar (timestamp 1 2)))
-    (object_of_one (codes "$timestamp") (object_of_two (codes "i") (whole 2) (codes "t") (whole 1)))
+    (one_key_object (codes "$timestamp") (two_key_object (codes "i") (whole 2) (codes "t") (whole 1)))
 timestamp_written D f = written_from D f (scalar (timestamp 1 2)) _ refl
 
 regex_as_specified : (D : Doubles) (p o : List ℕ)
     → MeansInOrder D
-    (object_of_one (codes "$regularExpression")
-    (object_of_two (codes "pattern") (tree.string p) (codes "options") (tree.string o)))
-    (scalar (regex p (sorted_text o)))
+    (one_key_object (codes "$regularExpression")
+    (two_key_object (codes "pattern") (tree.string p) (codes "options") (tree.string o)))
+    (scalar (regex p (sorted_regex_options o)))
 regex_as_specified D p o = means_from D _ _ refl
 
 -- ---- a wrapper's key next to others means nothing, in any position
 
 wrapper_key_later : (D : Doubles)
-    → reads_in_order D (object_of_two (codes "a") tree.null (codes "$symbol") (tree.string (codes "s")))
+    → reads_tree_in_order D (two_key_object (codes "a") tree.null (codes "$symbol") (tree.string (codes "s")))
     ≡ Err wrong_shape
 wrapper_key_later D = refl
 
@@ -183,7 +183,7 @@ finite = document
     (pair (codes "z") (scalar (double 0x3FF8000000000000)) (pair (codes "a") (scalar null) no_pairs))
 
 abbrev finite_tree : Data
-finite_tree = object_of_two (codes "z") (double_tree (codes "1.5")) (codes "a") tree.null
+finite_tree = two_key_object (codes "z") (double_tree (codes "1.5")) (codes "a") tree.null
 
 finite_read : MeansInOrder Finite finite_tree finite
 unfolding Rattle.std.specs.Float.Parse.read_float Rattle.std.specs.Float.Numeral.scan_numeral
@@ -204,7 +204,7 @@ finite_text_read = text_means Finite _ finite_tree finite refl finite_read
 
 -- a JSON number that is no i64
 abbrev number_tree : Data
-number_tree = object_of_two (codes "z") (tree.number (float (fin false 3 (negsuc 0)))) (codes "a") tree.null
+number_tree = two_key_object (codes "z") (tree.number (float (fin false 3 (negsuc 0)))) (codes "a") tree.null
 
 finite_number_read : MeansInOrder Finite number_tree finite
 unfolding Rattle.std.specs.Float.float_is_finite lib.Ieee.fits lib.Ieee.to_bits
@@ -220,8 +220,8 @@ unfolding Rattle.json.specs.Print.escape_byte Rattle.json.specs.Print.print_from
 finite_number_text = rw one_and_a_half refl
 
 -- without finite doubles
-finite_means_nothing : reads_in_order Special finite_tree ≡ Err wrong_shape
+finite_means_nothing : reads_tree_in_order Special finite_tree ≡ Err wrong_shape
 finite_means_nothing = refl
 
-finite_unwritten : (f : Form) → writes_in_order Special f finite ≡ Err scalar_tree.finite
+finite_unwritten : (f : Form) → writes_value_in_order Special f finite ≡ Err scalar_tree.finite
 finite_unwritten f = refl

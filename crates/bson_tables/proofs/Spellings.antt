@@ -4,7 +4,7 @@ use Rattle.std.specs.Prelude.{codes}
 use Rattle.base64.specs.Decode.{groups_error, groups_bytes, scan_steps}
 use Rattle.hex.specs.Hex.{decode_pairs}
 use Rattle.uuid.specs.Text.{by_index, parsed}
-use Rattle.bson_types.specs.Base64.{padded_text}
+use Rattle.bson_types.specs.Base64.{padded_base64}
 use Rattle.bson_types.specs.Uuid.{IsUuidText}
 use Rattle.bson_types.specs.declared.spec.BinarySubtype.TheVariants.{Generic, Uuid}
 use Rattle.bson_types.proofs.Offered.{parsed_from, parsed_to}
@@ -12,7 +12,7 @@ use Rattle.serde_json.specs.Data.{Data}
 use Rattle.serde_json.specs.Data as tree
 use Rattle.bson_scalar.specs.Faults.{wrong_shape}
 use Rattle.bson_scalar.specs.Scalar as kind
-use Rattle.bson_scalar.specs.TreeParts.{object_of_one, object_of_two}
+use Rattle.bson_scalar.specs.TreeParts.{one_key_object, two_key_object}
 use Rattle.bson_model.specs.Fault.{fault_of, MeansNothing}
 use Rattle.bson_model.specs.Means.{Means}
 use Rattle.bson_model.specs.Value as model
@@ -58,10 +58,10 @@ no_spellings : IsNoUuid (codes "f81d4fa-e7dec-11d0-a765-00a0c91e6bf6")
     × IsNoUuid (codes "urn:guid:f81d4fae-7dec-11d0-a765-00a0c91e6bf6")
 no_spellings = (no_uuid _ refl, no_uuid _ refl, no_uuid _ refl, no_uuid _ refl)
 
--- ---- `$uuid` takes the hyphenated spelling alone
+-- ---- `$uuid` accepts the hyphenated spelling alone
 
 abbrev uuid_tree : List ℕ → Data
-uuid_tree text = object_of_one (codes "$uuid") (tree.string text)
+uuid_tree text = one_key_object (codes "$uuid") (tree.string text)
 
 abbrev IsRejected : Data → Type 0
 IsRejected t = MeansNothing t × (fault_of t ≡ wrong_shape)
@@ -88,19 +88,19 @@ not_wrapped = (
 
 -- ---- base64
 
-vectors : (padded_text [] ≡ []) × (padded_text (codes "f") ≡ codes "Zg==") × (padded_text (codes "fo") ≡ codes "Zm8=")
-    × (padded_text (codes "foo") ≡ codes "Zm9v") × (padded_text (codes "foob") ≡ codes "Zm9vYg==")
-    × (padded_text (codes "fooba") ≡ codes "Zm9vYmE=") × (padded_text (codes "foobar") ≡ codes "Zm9vYmFy")
+vectors : (padded_base64 [] ≡ []) × (padded_base64 (codes "f") ≡ codes "Zg==") × (padded_base64 (codes "fo") ≡ codes "Zm8=")
+    × (padded_base64 (codes "foo") ≡ codes "Zm9v") × (padded_base64 (codes "foob") ≡ codes "Zm9vYg==")
+    × (padded_base64 (codes "fooba") ≡ codes "Zm9vYmE=") × (padded_base64 (codes "foobar") ≡ codes "Zm9vYmFy")
 vectors = (refl, refl, refl, refl, refl, refl, refl)
 
 -- the digits of 62 and 63
-last_digits : padded_text (0xfb ∷ 0xff ∷ []) ≡ codes "+/8="
+last_digits : padded_base64 (0xfb ∷ 0xff ∷ []) ≡ codes "+/8="
 last_digits = refl
 
 abbrev binary_tree : List ℕ → Data
 binary_tree text =
-    object_of_one (codes "$binary")
-    (object_of_two (codes "base64") (tree.string text) (codes "subType") (tree.string (codes "00")))
+    one_key_object (codes "$binary")
+    (two_key_object (codes "base64") (tree.string text) (codes "subType") (tree.string (codes "00")))
 
 padding_of_two : Means (binary_tree (codes "Zm9vYg==")) (model.scalar (kind.binary Generic (codes "foob")))
 unfolding groups_error groups_bytes scan_steps decode_pairs

@@ -7,13 +7,13 @@ use Rattle.base64.specs.Decode.{groups_error, groups_bytes, scan_steps}
 use Rattle.base64.specs.Rfc4648.{encode_symbols}
 use Rattle.hex.specs.Hex.{encode_with, decode_pairs}
 use Rattle.uuid.specs.Text.{by_index}
-use Rattle.bson_decimal.specs.ParseSteps.{cut_to_34_digits, raise_to_least, zeros_to_add, exponent_value, shifted_written_exponent}
+use Rattle.bson_decimal.specs.ParseSteps.{cut_to_34_digits, raise_to_min_exponent, zeros_to_add, exponent_value, written_exponent_plus_32768}
 use Rattle.bson_decimal.specs.ParseSteps.{scaled_exponent, coefficient, coefficient_and_exponent, finite}
 use Rattle.bson_decimal.specs.DecimalBits.{canonical_decimal}
 use Rattle.bson_decimal.specs.DecimalText.{decimal128_text as decimal_text}
 use Rattle.bson_scalar.specs.Reading.{decimal_pattern}
 use Rattle.bson_scalar.specs.Scalar as kind
-use Rattle.bson_scalar.specs.TreeParts.{object_of_one, object_of_two}
+use Rattle.bson_scalar.specs.TreeParts.{one_key_object, two_key_object}
 use Rattle.bson_scalar.specs.declared.form.Form.{Form}
 use Rattle.bson_model.specs.Means.{Means}
 use Rattle.bson_model.specs.Value as model
@@ -31,33 +31,33 @@ use Rattle.bson_tables.proofs.Shapes.{row}
 id : List ℕ
 id = 0x53 ∷ 0xe3 ∷ 0x7d ∷ 0x08 ∷ 0x77 ∷ 0x6f ∷ 0x72 ∷ 0x4e ∷ 0x42 ∷ 0 ∷ 0 ∷ 0 ∷ []
 
-oid_read : Means (object_of_one (codes "$oid") (tree.string (codes "53e37d08776f724e42000000")))
+oid_read : Means (one_key_object (codes "$oid") (tree.string (codes "53e37d08776f724e42000000")))
     (model.scalar (kind.object_id id))
 unfolding id decode_pairs
 oid_read = row _ _ refl
 
-upper_oid_read : Means (object_of_one (codes "$oid") (tree.string (codes "53E37D08776F724E42000000")))
+upper_oid_read : Means (one_key_object (codes "$oid") (tree.string (codes "53E37D08776F724E42000000")))
     (model.scalar (kind.object_id id))
 unfolding id decode_pairs
 upper_oid_read = row _ _ refl
 
 oid_written : (f : Form)
     → Written f (normal_form (model.scalar (kind.object_id id)))
-    (object_of_one (codes "$oid") (tree.string (codes "53e37d08776f724e42000000")))
+    (one_key_object (codes "$oid") (tree.string (codes "53e37d08776f724e42000000")))
 unfolding id encode_with
 oid_written f = canon_from f (model.scalar (kind.object_id id)) _ refl
 
--- the bytes of the word hello, which take one padding symbol
-hello_read : Means (object_of_one (codes "$binary")
-    (object_of_two (codes "base64") (tree.string (codes "aGVsbG8=")) (codes "subType") (tree.string (codes "00"))))
+-- the bytes of the word hello, which need one padding symbol
+hello_read : Means (one_key_object (codes "$binary")
+    (two_key_object (codes "base64") (tree.string (codes "aGVsbG8=")) (codes "subType") (tree.string (codes "00"))))
     (model.scalar (kind.binary Generic (codes "hello")))
 unfolding groups_error groups_bytes scan_steps decode_pairs
 hello_read = row _ _ refl
 
 hello_written : (f : Form)
     → Written f (normal_form (model.scalar (kind.binary Generic (codes "hello"))))
-    (object_of_one (codes "$binary")
-    (object_of_two (codes "base64") (tree.string (codes "aGVsbG8=")) (codes "subType") (tree.string (codes "00"))))
+    (one_key_object (codes "$binary")
+    (two_key_object (codes "base64") (tree.string (codes "aGVsbG8=")) (codes "subType") (tree.string (codes "00"))))
 unfolding encode_symbols encode_with
 hello_written f = canon_from f (model.scalar (kind.binary Generic (codes "hello"))) _ refl
 
@@ -75,13 +75,13 @@ subtypes_of_bytes : (subtype_of 0x00 ≡ Generic) × (subtype_of 0x01 ≡ Functi
     × (subtype_of 0xFF ≡ UserDefined 0xFF)
 subtypes_of_bytes = (refl, refl, refl, refl, refl, refl, refl, refl, refl, refl, refl, refl, refl, refl)
 
-user_read : Means (object_of_one (codes "$binary")
-    (object_of_two (codes "base64") (tree.string (codes "")) (codes "subType") (tree.string (codes "80"))))
+user_read : Means (one_key_object (codes "$binary")
+    (two_key_object (codes "base64") (tree.string (codes "")) (codes "subType") (tree.string (codes "80"))))
     (model.scalar (kind.binary (UserDefined 0x80) []))
 unfolding groups_error groups_bytes scan_steps decode_pairs
 user_read = row _ _ refl
 
-uuid_read : Means (object_of_one (codes "$uuid") (tree.string (codes "00112233-4455-6677-8899-aabbccddeeff")))
+uuid_read : Means (one_key_object (codes "$uuid") (tree.string (codes "00112233-4455-6677-8899-aabbccddeeff")))
     (model.scalar (kind.binary Uuid
     (0x00 ∷ 0x11 ∷ 0x22 ∷ 0x33 ∷ 0x44 ∷ 0x55 ∷ 0x66 ∷ 0x77 ∷ 0x88 ∷ 0x99 ∷ 0xaa ∷ 0xbb ∷ 0xcc ∷ 0xdd ∷ 0xee ∷ 0xff
     ∷ [])))
@@ -89,43 +89,43 @@ unfolding by_index
 uuid_read = row _ _ refl
 
 -- 15 at the exponent -1, little-endian
-decimal_read : Means (object_of_one (codes "$numberDecimal") (tree.string (codes "1.5")))
+decimal_read : Means (one_key_object (codes "$numberDecimal") (tree.string (codes "1.5")))
     (model.scalar (kind.decimal (0x0F ∷ 0 ∷ 0 ∷ 0 ∷ 0 ∷ 0 ∷ 0 ∷ 0 ∷ 0 ∷ 0 ∷ 0 ∷ 0 ∷ 0 ∷ 0 ∷ 0x3E ∷ 0x30 ∷ [])))
-unfolding decimal_pattern cut_to_34_digits raise_to_least zeros_to_add exponent_value shifted_written_exponent scaled_exponent coefficient
+unfolding decimal_pattern cut_to_34_digits raise_to_min_exponent zeros_to_add exponent_value written_exponent_plus_32768 scaled_exponent coefficient
     coefficient_and_exponent finite
 decimal_read = row _ _ refl
 
 decimal_written : (f : Form)
     → Written f (normal_form
     (model.scalar (kind.decimal (0x0F ∷ 0 ∷ 0 ∷ 0 ∷ 0 ∷ 0 ∷ 0 ∷ 0 ∷ 0 ∷ 0 ∷ 0 ∷ 0 ∷ 0 ∷ 0 ∷ 0x3E ∷ 0x30 ∷ []))))
-    (object_of_one (codes "$numberDecimal") (tree.string (codes "1.5")))
+    (one_key_object (codes "$numberDecimal") (tree.string (codes "1.5")))
 unfolding canonical_decimal decimal_text digits
 decimal_written f = canon_from f
     (model.scalar (kind.decimal (0x0F ∷ 0 ∷ 0 ∷ 0 ∷ 0 ∷ 0 ∷ 0 ∷ 0 ∷ 0 ∷ 0 ∷ 0 ∷ 0 ∷ 0 ∷ 0 ∷ 0x3E ∷ 0x30 ∷ []))) _ refl
 
 -- the greatest exponent and the least one
-greatest_exponent_read : Means (object_of_one (codes "$numberDecimal") (tree.string (codes "1E+6111")))
+greatest_exponent_read : Means (one_key_object (codes "$numberDecimal") (tree.string (codes "1E+6111")))
     (model.scalar (kind.decimal (1 ∷ 0 ∷ 0 ∷ 0 ∷ 0 ∷ 0 ∷ 0 ∷ 0 ∷ 0 ∷ 0 ∷ 0 ∷ 0 ∷ 0 ∷ 0 ∷ 0xFE ∷ 0x5F ∷ [])))
-unfolding decimal_pattern cut_to_34_digits raise_to_least zeros_to_add exponent_value shifted_written_exponent scaled_exponent coefficient
+unfolding decimal_pattern cut_to_34_digits raise_to_min_exponent zeros_to_add exponent_value written_exponent_plus_32768 scaled_exponent coefficient
     coefficient_and_exponent finite
 greatest_exponent_read = row _ _ refl
 
-least_exponent_read : Means (object_of_one (codes "$numberDecimal") (tree.string (codes "1E-6176")))
+least_exponent_read : Means (one_key_object (codes "$numberDecimal") (tree.string (codes "1E-6176")))
     (model.scalar (kind.decimal (1 ∷ 0 ∷ 0 ∷ 0 ∷ 0 ∷ 0 ∷ 0 ∷ 0 ∷ 0 ∷ 0 ∷ 0 ∷ 0 ∷ 0 ∷ 0 ∷ 0 ∷ 0 ∷ [])))
-unfolding decimal_pattern cut_to_34_digits raise_to_least zeros_to_add exponent_value shifted_written_exponent scaled_exponent coefficient
+unfolding decimal_pattern cut_to_34_digits raise_to_min_exponent zeros_to_add exponent_value written_exponent_plus_32768 scaled_exponent coefficient
     coefficient_and_exponent finite
 least_exponent_read = row _ _ refl
 
-added_zero_read : Means (object_of_one (codes "$numberDecimal") (tree.string (codes "1E+6112")))
+added_zero_read : Means (one_key_object (codes "$numberDecimal") (tree.string (codes "1E+6112")))
     (model.scalar (kind.decimal (10 ∷ 0 ∷ 0 ∷ 0 ∷ 0 ∷ 0 ∷ 0 ∷ 0 ∷ 0 ∷ 0 ∷ 0 ∷ 0 ∷ 0 ∷ 0 ∷ 0xFE ∷ 0x5F ∷ [])))
-unfolding decimal_pattern cut_to_34_digits raise_to_least zeros_to_add exponent_value shifted_written_exponent scaled_exponent coefficient
+unfolding decimal_pattern cut_to_34_digits raise_to_min_exponent zeros_to_add exponent_value written_exponent_plus_32768 scaled_exponent coefficient
     coefficient_and_exponent finite
 added_zero_read = row _ _ refl
 
 -- the NaNs that no canonical pattern is: one with a sign, and one that signals; the normal form of both is NaN
-minus_nan_read : Means (object_of_one (codes "$numberDecimal") (tree.string (codes "-NaN")))
+minus_nan_read : Means (one_key_object (codes "$numberDecimal") (tree.string (codes "-NaN")))
     (model.scalar (kind.decimal (0 ∷ 0 ∷ 0 ∷ 0 ∷ 0 ∷ 0 ∷ 0 ∷ 0 ∷ 0 ∷ 0 ∷ 0 ∷ 0 ∷ 0 ∷ 0 ∷ 0 ∷ 0xFC ∷ [])))
-unfolding decimal_pattern cut_to_34_digits raise_to_least zeros_to_add exponent_value shifted_written_exponent scaled_exponent coefficient
+unfolding decimal_pattern cut_to_34_digits raise_to_min_exponent zeros_to_add exponent_value written_exponent_plus_32768 scaled_exponent coefficient
     coefficient_and_exponent finite
 minus_nan_read = row _ _ refl
 
@@ -135,9 +135,9 @@ minus_nan_normal : normal_form
 unfolding canonical_decimal
 minus_nan_normal = refl
 
-signalling_nan_read : Means (object_of_one (codes "$numberDecimal") (tree.string (codes "sNaN")))
+signalling_nan_read : Means (one_key_object (codes "$numberDecimal") (tree.string (codes "sNaN")))
     (model.scalar (kind.decimal (0 ∷ 0 ∷ 0 ∷ 0 ∷ 0 ∷ 0 ∷ 0 ∷ 0 ∷ 0 ∷ 0 ∷ 0 ∷ 0 ∷ 0 ∷ 0 ∷ 0 ∷ 0x7E ∷ [])))
-unfolding decimal_pattern cut_to_34_digits raise_to_least zeros_to_add exponent_value shifted_written_exponent scaled_exponent coefficient
+unfolding decimal_pattern cut_to_34_digits raise_to_min_exponent zeros_to_add exponent_value written_exponent_plus_32768 scaled_exponent coefficient
     coefficient_and_exponent finite
 signalling_nan_read = row _ _ refl
 

@@ -4,13 +4,13 @@ use Rattle.std.specs.Prelude.{codes}
 use Rattle.serde_json.specs.Data.{Data, negative}
 use Rattle.serde_json.specs.Data as tree
 use Rattle.bson_scalar.specs.Scalar as kind
-use Rattle.bson_scalar.specs.TreeParts.{object_of_one, object_of_two}
+use Rattle.bson_scalar.specs.TreeParts.{one_key_object, two_key_object}
 use Rattle.std.specs.Fmt.{signed_decimal}
 use Rattle.hex.specs.Hex.{encode_lower}
 use Rattle.bson_datetime.specs.DateTimeText.{rfc3339_text}
 use Rattle.bson_decimal.specs.DecimalText.{decimal128_text as decimal_text}
-use Rattle.bson_types.specs.Base64.{padded_text}
-use Rattle.bson_types.specs.Regex.{sorted_text}
+use Rattle.bson_types.specs.Base64.{padded_base64}
+use Rattle.bson_types.specs.Regex.{sorted_regex_options}
 use Rattle.bson_types.specs.declared.spec.BinarySubtype.TheVariants.{Generic}
 use Rattle.bson_scalar.specs.declared.form.Form.{Form}
 use Rattle.bson_scalar.specs.declared.form.Form.TheVariants.{Canonical, Relaxed}
@@ -30,15 +30,15 @@ string_tree : (f : Form) → Written f (normal_form (model.scalar (kind.text (co
 string_tree f = canon_from f (model.scalar (kind.text (codes "a"))) _ refl
 
 undefined_tree : (f : Form)
-    → Written f (normal_form (model.scalar kind.undefined)) (object_of_one (codes "$undefined") (tree.boolean true))
+    → Written f (normal_form (model.scalar kind.undefined)) (one_key_object (codes "$undefined") (tree.boolean true))
 undefined_tree f = canon_from f (model.scalar kind.undefined) _ refl
 
 min_key_tree : (f : Form)
-    → Written f (normal_form (model.scalar kind.min_key)) (object_of_one (codes "$minKey") (whole 1))
+    → Written f (normal_form (model.scalar kind.min_key)) (one_key_object (codes "$minKey") (whole 1))
 min_key_tree f = canon_from f (model.scalar kind.min_key) _ refl
 
 max_key_tree : (f : Form)
-    → Written f (normal_form (model.scalar kind.max_key)) (object_of_one (codes "$maxKey") (whole 1))
+    → Written f (normal_form (model.scalar kind.max_key)) (one_key_object (codes "$maxKey") (whole 1))
 max_key_tree f = canon_from f (model.scalar kind.max_key) _ refl
 
 int32_relaxed : Written Relaxed (normal_form (model.scalar (kind.int32 (pos 7)))) (whole 7)
@@ -49,52 +49,52 @@ int64_relaxed = canon_from Relaxed (model.scalar (kind.int64 (negsuc 6))) _ refl
 
 double_zero : (f : Form)
     → Written f (normal_form (model.scalar (kind.double 0)))
-    (object_of_one (codes "$numberDouble") (tree.string (codes "0.0")))
+    (one_key_object (codes "$numberDouble") (tree.string (codes "0.0")))
 double_zero f = canon_from f (model.scalar (kind.double 0)) _ refl
 
 double_minus_zero : (f : Form)
     → Written f (normal_form (model.scalar (kind.double 0x8000000000000000)))
-    (object_of_one (codes "$numberDouble") (tree.string (codes "-0.0")))
+    (one_key_object (codes "$numberDouble") (tree.string (codes "-0.0")))
 double_minus_zero f = canon_from f (model.scalar (kind.double 0x8000000000000000)) _ refl
 
 double_infinity : (f : Form)
     → Written f (normal_form (model.scalar (kind.double 0x7FF0000000000000)))
-    (object_of_one (codes "$numberDouble") (tree.string (codes "Infinity")))
+    (one_key_object (codes "$numberDouble") (tree.string (codes "Infinity")))
 double_infinity f = canon_from f (model.scalar (kind.double 0x7FF0000000000000)) _ refl
 
 double_nan : (f : Form) → Written f (normal_form (model.scalar (kind.double 0x7FF8000000000001)))
-    (object_of_one (codes "$numberDouble") (tree.string (codes "NaN")))
+    (one_key_object (codes "$numberDouble") (tree.string (codes "NaN")))
 double_nan f = canon_from f (model.scalar (kind.double 0x7FF8000000000001)) _ refl
 
 double_minus_nan : (f : Form)
     → Written f (normal_form (model.scalar (kind.double 0xFFF0000000000001)))
-    (object_of_one (codes "$numberDouble") (tree.string (codes "-NaN")))
+    (one_key_object (codes "$numberDouble") (tree.string (codes "-NaN")))
 double_minus_nan f = canon_from f (model.scalar (kind.double 0xFFF0000000000001)) _ refl
 
 symbol_tree : (f : Form)
     → Written f (normal_form (model.scalar (kind.symbol (codes "s"))))
-    (object_of_one (codes "$symbol") (tree.string (codes "s")))
+    (one_key_object (codes "$symbol") (tree.string (codes "s")))
 symbol_tree f = canon_from f (model.scalar (kind.symbol (codes "s"))) _ refl
 
 code_tree : (f : Form) → Written f (normal_form (model.scalar (kind.code (codes "s"))))
-    (object_of_one (codes "$code") (tree.string (codes "s")))
+    (one_key_object (codes "$code") (tree.string (codes "s")))
 code_tree f = canon_from f (model.scalar (kind.code (codes "s"))) _ refl
 
 timestamp_tree : (f : Form)
     → Written f (normal_form (model.scalar (kind.timestamp 1 2)))
-    (object_of_one (codes "$timestamp") (object_of_two (codes "i") (whole 2) (codes "t") (whole 1)))
+    (one_key_object (codes "$timestamp") (two_key_object (codes "i") (whole 2) (codes "t") (whole 1)))
 timestamp_tree f = canon_from f (model.scalar (kind.timestamp 1 2)) _ refl
 
 code_scope_tree : (f : Form)
     → Written f (normal_form (model.code_scope (codes "s") model.no_pairs))
-    (object_of_two (codes "$code") (tree.string (codes "s")) (codes "$scope") (tree.object tree.no_members))
+    (two_key_object (codes "$code") (tree.string (codes "s")) (codes "$scope") (tree.object tree.no_members))
 code_scope_tree f = canon_from f (model.code_scope (codes "s") model.no_pairs) _ refl
 
 document_tree : (f : Form)
     → Written f (normal_form
     (model.document (model.pair (codes "b") (model.scalar kind.null)
     (model.pair (codes "a") (model.scalar (kind.boolean true)) model.no_pairs))))
-    (object_of_two (codes "a") (tree.boolean true) (codes "b") tree.null)
+    (two_key_object (codes "a") (tree.boolean true) (codes "b") tree.null)
 document_tree f = canon_from f
     (model.document (model.pair (codes "b") (model.scalar kind.null)
     (model.pair (codes "a") (model.scalar (kind.boolean true)) model.no_pairs))) _ refl
@@ -104,7 +104,7 @@ bytes_of_keys_tree : (f : Form)
     → Written f (normal_form
     (model.document (model.pair (codes "b") (model.scalar kind.null)
     (model.pair (codes "aa") (model.scalar (kind.boolean true)) model.no_pairs))))
-    (object_of_two (codes "aa") (tree.boolean true) (codes "b") tree.null)
+    (two_key_object (codes "aa") (tree.boolean true) (codes "b") tree.null)
 bytes_of_keys_tree f = canon_from f
     (model.document (model.pair (codes "b") (model.scalar kind.null)
     (model.pair (codes "aa") (model.scalar (kind.boolean true)) model.no_pairs))) _ refl
@@ -121,62 +121,62 @@ array_tree f = canon_from f
 
 int32_canonical : (z : ℤ)
     → Written Canonical (normal_form (model.scalar (kind.int32 z)))
-    (object_of_one (codes "$numberInt") (tree.string (signed_decimal z)))
+    (one_key_object (codes "$numberInt") (tree.string (signed_decimal z)))
 int32_canonical z = canon_from Canonical (model.scalar (kind.int32 z)) _ refl
 
 int64_canonical : (z : ℤ)
     → Written Canonical (normal_form (model.scalar (kind.int64 z)))
-    (object_of_one (codes "$numberLong") (tree.string (signed_decimal z)))
+    (one_key_object (codes "$numberLong") (tree.string (signed_decimal z)))
 int64_canonical z = canon_from Canonical (model.scalar (kind.int64 z)) _ refl
 
 oid_tree : (f : Form) (id : List ℕ)
     → Written f (normal_form (model.scalar (kind.object_id id)))
-    (object_of_one (codes "$oid") (tree.string (encode_lower id)))
+    (one_key_object (codes "$oid") (tree.string (encode_lower id)))
 oid_tree f id = canon_from f (model.scalar (kind.object_id id)) _ refl
 
 db_pointer_tree : (f : Form) (n id : List ℕ)
     → Written f (normal_form (model.scalar (kind.db_pointer n id)))
-    (object_of_one (codes "$dbPointer")
-    (object_of_two (codes "$id") (object_of_one (codes "$oid") (tree.string (encode_lower id))) (codes "$ref")
+    (one_key_object (codes "$dbPointer")
+    (two_key_object (codes "$id") (one_key_object (codes "$oid") (tree.string (encode_lower id))) (codes "$ref")
     (tree.string n)))
 db_pointer_tree f n id = canon_from f (model.scalar (kind.db_pointer n id)) _ refl
 
 regex_tree : (f : Form) (p o : List ℕ)
     → Written f (normal_form (model.scalar (kind.regex p o)))
-    (object_of_one (codes "$regularExpression")
-    (object_of_two (codes "options") (tree.string (sorted_text o)) (codes "pattern") (tree.string p)))
+    (one_key_object (codes "$regularExpression")
+    (two_key_object (codes "options") (tree.string (sorted_regex_options o)) (codes "pattern") (tree.string p)))
 regex_tree f p o = canon_from f (model.scalar (kind.regex p o)) _ refl
 
 binary_tree : (f : Form) (bytes : List ℕ)
     → Written f (normal_form (model.scalar (kind.binary Generic bytes)))
-    (object_of_one (codes "$binary")
-    (object_of_two (codes "base64") (tree.string (padded_text bytes)) (codes "subType")
+    (one_key_object (codes "$binary")
+    (two_key_object (codes "base64") (tree.string (padded_base64 bytes)) (codes "subType")
     (tree.string (encode_lower (0 ∷ [])))))
 binary_tree f bytes = canon_from f (model.scalar (kind.binary Generic bytes)) _ refl
 
 decimal_tree : (f : Form) (b : List ℕ)
     → Written f (normal_form (model.scalar (kind.decimal b)))
-    (object_of_one (codes "$numberDecimal") (tree.string (decimal_text b)))
+    (one_key_object (codes "$numberDecimal") (tree.string (decimal_text b)))
 decimal_tree f b = canon_from f (model.scalar (kind.decimal b)) _ refl
 
 date_canonical : (z : ℤ)
     → Written Canonical (normal_form (model.scalar (kind.date z)))
-    (object_of_one (codes "$date") (object_of_one (codes "$numberLong") (tree.string (signed_decimal z))))
+    (one_key_object (codes "$date") (one_key_object (codes "$numberLong") (tree.string (signed_decimal z))))
 date_canonical z = canon_from Canonical (model.scalar (kind.date z)) _ refl
 
 first_date_relaxed : Written Relaxed (normal_form (model.scalar (kind.date (pos 0))))
-    (object_of_one (codes "$date") (tree.string (rfc3339_text (pos 0))))
+    (one_key_object (codes "$date") (tree.string (rfc3339_text (pos 0))))
 first_date_relaxed = canon_from Relaxed (model.scalar (kind.date (pos 0))) _ refl
 
 last_date_relaxed : Written Relaxed (normal_form (model.scalar (kind.date (pos 253_402_300_799_999))))
-    (object_of_one (codes "$date") (tree.string (rfc3339_text (pos 253_402_300_799_999))))
+    (one_key_object (codes "$date") (tree.string (rfc3339_text (pos 253_402_300_799_999))))
 last_date_relaxed = canon_from Relaxed (model.scalar (kind.date (pos 253_402_300_799_999))) _ refl
 
 later_date_relaxed : Written Relaxed (normal_form (model.scalar (kind.date (pos 253_402_300_800_000))))
-    (object_of_one (codes "$date")
-    (object_of_one (codes "$numberLong") (tree.string (signed_decimal (pos 253_402_300_800_000)))))
+    (one_key_object (codes "$date")
+    (one_key_object (codes "$numberLong") (tree.string (signed_decimal (pos 253_402_300_800_000)))))
 later_date_relaxed = canon_from Relaxed (model.scalar (kind.date (pos 253_402_300_800_000))) _ refl
 
 earlier_date_relaxed : Written Relaxed (normal_form (model.scalar (kind.date (negsuc 0))))
-    (object_of_one (codes "$date") (object_of_one (codes "$numberLong") (tree.string (signed_decimal (negsuc 0)))))
+    (one_key_object (codes "$date") (one_key_object (codes "$numberLong") (tree.string (signed_decimal (negsuc 0)))))
 earlier_date_relaxed = canon_from Relaxed (model.scalar (kind.date (negsuc 0))) _ refl

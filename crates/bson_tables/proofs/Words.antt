@@ -4,17 +4,17 @@ use Rattle.std.proofs.Common.{◌≡◌, [], ◌∷◌, pos, true, refl}
 use Rattle.std.specs.Prelude.{codes}
 use Rattle.std.specs.Hash.{le_bytes}
 use Rattle.bson_scalar.specs.Scalar as kind
-use Rattle.bson_model.specs.HashInput.{feed}
+use Rattle.bson_model.specs.HashInput.{sorted_hash_input}
 use Rattle.bson_model.specs.Value as model
 
-list_words : feed
+list_words : sorted_hash_input
     (model.array
     (model.value (model.scalar (kind.int32 (pos 1))) (model.value (model.scalar (kind.boolean true)) model.no_values)))
     ≡ (2 ∷ 0 ∷ 0 ∷ 0 ∷ 0 ∷ 0 ∷ 0 ∷ 0 ∷ []) ∷ (1 ∷ 0 ∷ 0 ∷ 0 ∷ []) ∷ (1 ∷ []) ∷ []
 unfolding le_bytes
 list_words = refl
 
-document_words : feed
+document_words : sorted_hash_input
     (model.document
     (model.pair (codes "b") (model.scalar kind.null)
     (model.pair (codes "aa") (model.scalar (kind.boolean true)) model.no_pairs))) ≡ (2 ∷ 0 ∷ 0 ∷ 0 ∷ 0 ∷ 0 ∷ 0 ∷ 0 ∷ [])
@@ -22,14 +22,14 @@ document_words : feed
 unfolding le_bytes
 document_words = refl
 
-scope_words : feed (model.code_scope (codes "s") model.no_pairs) ≡ codes "s" ∷ (0xFF ∷ [])
+scope_words : sorted_hash_input (model.code_scope (codes "s") model.no_pairs) ≡ codes "s" ∷ (0xFF ∷ [])
     ∷ (0 ∷ 0 ∷ 0 ∷ 0 ∷ 0 ∷ 0 ∷ 0 ∷ 0 ∷ []) ∷ []
 unfolding le_bytes
 scope_words = refl
 
-timestamp_words : feed (model.scalar (kind.timestamp 1 2)) ≡ (1 ∷ 0 ∷ 0 ∷ 0 ∷ []) ∷ (2 ∷ 0 ∷ 0 ∷ 0 ∷ []) ∷ []
+timestamp_words : sorted_hash_input (model.scalar (kind.timestamp 1 2)) ≡ (1 ∷ 0 ∷ 0 ∷ 0 ∷ []) ∷ (2 ∷ 0 ∷ 0 ∷ 0 ∷ []) ∷ []
 unfolding le_bytes
 timestamp_words = refl
 
-symbol_words : feed (model.scalar (kind.symbol (codes "x"))) ≡ codes "x" ∷ (0xFF ∷ []) ∷ []
+symbol_words : sorted_hash_input (model.scalar (kind.symbol (codes "x"))) ≡ codes "x" ∷ (0xFF ∷ []) ∷ []
 symbol_words = refl

@@ -21,23 +21,23 @@ use Rattle.bson_scalar.specs.declared.form.Doubles.{Doubles}
 use Rattle.bson_scalar.specs.declared.wrapper.Wrapper.{Wrapper}
 use Rattle.bson_model.specs.Value as model
 use Rattle.bson_model.specs.Value.{Value, Pairs, pair}
-use Rattle.bson_model.specs.OrderedTrees.{kept, kept_items}
-use Rattle.bson_model.specs.OrderedReading.{reads_in_order, items_in_order, members_in_order}
+use Rattle.bson_model.specs.OrderedTrees.{tree_of_json, items_of_json}
+use Rattle.bson_model.specs.OrderedReading.{reads_tree_in_order, reads_items_in_order, reads_members_in_order}
 use Rattle.bson_text.specs.TraversalResults.{keys_of}
 use Rattle.bson_text.proofs.Becoming.{lacks_by_writer}
 use Rattle.bson_text.proofs.Objects.{step_more, Key, texts, append_none}
 use Rattle.bson_text.proofs.Walking.{ToGo}
 use Rattle.bson_tokens.specs.PutMembers.{KeysAscendFrom}
-use Rattle.bson_text.specs.TraversalErrors.{RuledOut, IsNotParsed, IsWriterErrorIf}
+use Rattle.bson_text.specs.TraversalErrors.{ErrorRulesOut, IsNotParsed, IsWriterErrorIf}
 use Rattle.bson_text.specs.ErrorDenials.{members_as_given, IsMeaningful, ItemsAreMeaningful, MembersAreMeaningful}
-use Rattle.bson_text.specs.ErrorDenials.{ValueClaimRuledOut, ItemsClaimRuledOut, MembersClaimRuledOut}
-use Rattle.bson_text.specs.ErrorDenials.{ValueRuledOut, ItemsRuledOut, ObjectRuledOut, MembersRuledOut}
+use Rattle.bson_text.specs.ErrorDenials.{ErrorRulesOutValueClaim, ErrorRulesOutItemsClaim, ErrorRulesOutMembersClaim}
+use Rattle.bson_text.specs.ErrorDenials.{ErrorRulesOutValue, ErrorRulesOutItems, ErrorRulesOutObject, ErrorRulesOutMembers}
 use Rattle.bson_text.specs.declared.traversal_error.TraversalError.{TraversalError}
 use Rattle.bson_text.specs.declared.traversal_error.TraversalError.TheVariants as failure
 
 -- ---- a failure
 
-pub denied : {P U M Q V N : Type 0} (e : TraversalError) → (P → Q) → (U → V) → (U → M → N) → RuledOut e P U M → RuledOut e Q V N
+pub denied : {P U M Q V N : Type 0} (e : TraversalError) → (P → Q) → (U → V) → (U → M → N) → ErrorRulesOut e P U M → ErrorRulesOut e Q V N
 denied failure.OutOfMemory k f g h = h
 denied failure.DuplicateKey k f g h = f h
 denied failure.GaveUp k f g h = k h
@@ -114,9 +114,9 @@ once_behind k j ms u = (later_apart k (keys ms) u.0, u.1.1)
 module _ (D : Doubles) where
   pub item_means : (j : json.Json) (js : json.Items) → ItemsAreMeaningful D (json.item j js) → IsMeaningful D j × ItemsAreMeaningful D js
   item_means j js (free, ts, vs, is, means) =
-      let a = split_kept tree.item (kept j) (kept_items js) ts is in
-      let m = subst (λ t. items_in_order D t ≡ Ok vs) a.4 means in
-      let b = split_read model.value (reads_in_order D a.0) (items_in_order D a.1) vs m in
+      let a = split_kept tree.item (tree_of_json j) (items_of_json js) ts is in
+      let m = subst (λ t. reads_items_in_order D t ≡ Ok vs) a.4 means in
+      let b = split_read model.value (reads_tree_in_order D a.0) (reads_items_in_order D a.1) vs m in
       ((free.0, a.0, b.0, a.2, b.2), (free.1, a.1, b.1, a.3, b.3))
 
   none_of : (o : Option Wrapper) → is_some o ≡ false → o ≡ None
@@ -126,16 +126,16 @@ module _ (D : Doubles) where
   pub member_means : (b : Bool) (k : List ℕ) (j : json.Json) (ms : json.Members) → MembersAreMeaningful D b (json.member k j ms)
       → IsMeaningful D j × MembersAreMeaningful D b ms × (b ≡ true → wrapper_of k ≡ None)
   member_means b k j ms (free, ts, ps, is, means, wrapped) =
-      let a = split_kept (member k) (kept j) (members_as_given ms) ts is in
-      let m = subst (λ t. members_in_order D t ≡ Ok ps) a.4 means in
-      let c = split_read (pair k) (reads_in_order D a.0) (members_in_order D a.1) ps m in
+      let a = split_kept (member k) (tree_of_json j) (members_as_given ms) ts is in
+      let m = subst (λ t. reads_members_in_order D t ≡ Ok ps) a.4 means in
+      let c = split_read (pair k) (reads_tree_in_order D a.0) (reads_members_in_order D a.1) ps m in
       let w : b ≡ true → has_wrapper (member k a.0 a.1) ≡ false = λ yes. subst (λ t. has_wrapper t ≡ false) a.4 (wrapped yes) in (
         (free.0, a.0, c.0, a.2, c.2),
         (free.1, a.1, c.1, a.3, c.3, λ yes. (or_parts (is_some (wrapper_of k)) (has_wrapper a.1) (w yes)).1),
         λ yes. none_of (wrapper_of k) (or_parts (is_some (wrapper_of k)) (has_wrapper a.1) (w yes)).0,
       )
 
-  -- no key stands behind a value
+  -- no key follows a value
   pub no_key_behind : (p : Parse json.Json) (n : ℕ) (k : List ℕ) (ts r : List Token) (j : json.Json) → p ts ≡ Some (j, r)
       → read_key r ≡ None → members_step p (members p n) (Some k) ts ≡ None
   no_key_behind p n k ts r j read none =
@@ -144,14 +144,14 @@ module _ (D : Doubles) where
 
   -- the keys that were read
   pub keys_kept : (js : json.Members) (ts : Members) (ps : Pairs) → members_as_given js ≡ Some ts
-      → members_in_order D ts ≡ Ok ps → keys js ≡ keys_of ps
+      → reads_members_in_order D ts ≡ Ok ps → keys js ≡ keys_of ps
   keys_kept json.no_members no_members model.no_pairs is means = refl
   keys_kept json.no_members no_members (pair k v ps) is means = cc
   keys_kept json.no_members (member k d ts) ps is means = cc
   keys_kept (json.member k j js) ts ps is means =
-      let a = split_kept (member k) (kept j) (members_as_given js) ts is in
-      let m = subst (λ t. members_in_order D t ≡ Ok ps) a.4 means in
-      let c = split_read (pair k) (reads_in_order D a.0) (members_in_order D a.1) ps m in
+      let a = split_kept (member k) (tree_of_json j) (members_as_given js) ts is in
+      let m = subst (λ t. reads_members_in_order D t ≡ Ok ps) a.4 means in
+      let c = split_read (pair k) (reads_tree_in_order D a.0) (reads_members_in_order D a.1) ps m in
       ap (λ x. k ∷ x) (keys_kept js a.1 c.1 a.3 c.3) ∙ sym (ap keys_of c.4)
 
   -- the keys of the members to the end
@@ -167,14 +167,14 @@ module _ (D : Doubles) (L S : Type 0) where
   -- ---- elements
 
   abbrev pub ItemsStill : Option (json.Items × List Token) → Option (json.Items × List Token) → Type 0
-  ItemsStill whole here = (e : TraversalError) (js : json.Items) (r : List Token) → whole ≡ Some (js, r) → ItemsClaimRuledOut D L S e js
-      → (ks : json.Items) × (here ≡ Some (ks, r)) × ItemsClaimRuledOut D L S e ks
+  ItemsStill whole here = (e : TraversalError) (js : json.Items) (r : List Token) → whole ≡ Some (js, r) → ErrorRulesOutItemsClaim D L S e js
+      → (ks : json.Items) × (here ≡ Some (ks, r)) × ErrorRulesOutItemsClaim D L S e ks
 
   pub items_still : (whole : Option (json.Items × List Token)) → ItemsStill whole whole
   items_still whole e js r is d = (js, is, d)
 
   pub items_stopped : (e : TraversalError) (whole here : Option (json.Items × List Token)) → ItemsStill whole here
-      → ItemsRuledOut D L S e here → ItemsRuledOut D L S e whole
+      → ErrorRulesOutItems D L S e here → ErrorRulesOutItems D L S e whole
   items_stopped e whole here still nothing js r is d = let g = still e js r is d in nothing g.0 r g.1 g.2
 
   pub item_still : (whole : Option (json.Items × List Token)) (p : Parse json.Json) (n : ℕ) (ts r : List Token)
@@ -186,11 +186,11 @@ module _ (D : Doubles) (L S : Type 0) where
       let ks = more.0 in (
         ks,
         more.1,
-        denied e (λ p. (p.0, p.1.1)) (λ u. u.1) (λ u m. (item_means D j ks m).1) (subst (ItemsClaimRuledOut D L S e) more.2 g.2),
+        denied e (λ p. (p.0, p.1.1)) (λ u. u.1) (λ u m. (item_means D j ks m).1) (subst (ErrorRulesOutItemsClaim D L S e) more.2 g.2),
       )
 
   pub item_stopped : (e : TraversalError) (p : Parse json.Json) (n : ℕ) (ts : List Token) → after_end_array ts ≡ None
-      → ValueRuledOut D L S e (p ts) → ItemsRuledOut D L S e (items p n ts)
+      → ErrorRulesOutValue D L S e (p ts) → ErrorRulesOutItems D L S e (items p n ts)
   unfolding items
   item_stopped e p zero ts going nothing js r is d = cc
   item_stopped e p (suc n) ts going nothing js r is d =
@@ -200,35 +200,35 @@ module _ (D : Doubles) (L S : Type 0) where
       let j = g.0 in
       let ks = g.2 in
       nothing j g.1 g.3 (denied e (λ p. (p.0, p.1.0)) (λ u. u.0) (λ u m. (item_means D j ks m).0)
-      (subst (ItemsClaimRuledOut D L S e) g.5 d))
+      (subst (ErrorRulesOutItemsClaim D L S e) g.5 d))
 
-  pub array_stopped : (e : TraversalError) (o : Option (json.Items × List Token)) → ItemsRuledOut D L S e o
-      → ValueRuledOut D L S e (parse_map json.array o)
+  pub array_stopped : (e : TraversalError) (o : Option (json.Items × List Token)) → ErrorRulesOutItems D L S e o
+      → ErrorRulesOutValue D L S e (parse_map json.array o)
   array_stopped e o nothing j r is d =
       let g = mapped_parse json.array o j r is in
       let js = g.0 in
       nothing js r g.1 (denied e (λ p. p) (λ u. u) (λ u (free, t, v, kept_is, means).
-      let a = mapped array (kept_items js) t kept_is in
-      let b = was_read model.array (items_in_order D a.0) v (subst (λ x. reads_in_order D x ≡ Ok v) a.2 means) in
-      (free, a.0, b.0, a.1, b.1)) (subst (ValueClaimRuledOut D L S e) g.2 d))
+      let a = mapped array (items_of_json js) t kept_is in
+      let b = was_read model.array (reads_items_in_order D a.0) v (subst (λ x. reads_tree_in_order D x ≡ Ok v) a.2 means) in
+      (free, a.0, b.0, a.1, b.1)) (subst (ErrorRulesOutValueClaim D L S e) g.2 d))
 
-  pub object_stopped : (e : TraversalError) (o : Option (json.Members × List Token)) → ObjectRuledOut D L S e o
-      → ValueRuledOut D L S e (parse_map json.object o)
+  pub object_stopped : (e : TraversalError) (o : Option (json.Members × List Token)) → ErrorRulesOutObject D L S e o
+      → ErrorRulesOutValue D L S e (parse_map json.object o)
   object_stopped e o nothing j r is d =
       let g = mapped_parse json.object o j r is in
-      nothing g.0 r g.1 (subst (ValueClaimRuledOut D L S e) g.2 d)
+      nothing g.0 r g.1 (subst (ErrorRulesOutValueClaim D L S e) g.2 d)
 
   -- ---- members
 
   abbrev pub MembersStill : Bool → Option (json.Members × List Token) → Option (json.Members × List Token) → Type 0
-  MembersStill b whole here = (e : TraversalError) (ms : json.Members) (r : List Token) → whole ≡ Some (ms, r) → MembersClaimRuledOut D L S e b ms
-      → (ns : json.Members) × (here ≡ Some (ns, r)) × MembersClaimRuledOut D L S e b ns
+  MembersStill b whole here = (e : TraversalError) (ms : json.Members) (r : List Token) → whole ≡ Some (ms, r) → ErrorRulesOutMembersClaim D L S e b ms
+      → (ns : json.Members) × (here ≡ Some (ns, r)) × ErrorRulesOutMembersClaim D L S e b ns
 
   pub members_still : (b : Bool) (whole : Option (json.Members × List Token)) → MembersStill b whole whole
   members_still b whole e ms r is d = (ms, is, d)
 
   pub members_stopped : (e : TraversalError) (b : Bool) (whole here : Option (json.Members × List Token)) → MembersStill b whole here
-      → MembersRuledOut D L S e b here → MembersRuledOut D L S e b whole
+      → ErrorRulesOutMembers D L S e b here → ErrorRulesOutMembers D L S e b whole
   members_stopped e b whole here still nothing ms r is d = let g = still e ms r is d in nothing g.0 r g.1 g.2
 
   pub member_still : (b : Bool) (whole : Option (json.Members × List Token)) (p : Parse json.Json) (n : ℕ) (k : List ℕ)
@@ -243,22 +243,22 @@ module _ (D : Doubles) (L S : Type 0) where
         ns,
         more.1,
         denied e (λ p. (p.0, (λ sorts_keys. later_ascend k (keys ns) (p.1.0 sorts_keys), p.1.1.1))) (once_behind k j ns)
-            (λ u m. (member_means D b k j ns m).1) (subst (MembersClaimRuledOut D L S e b) more.2 g.2),
+            (λ u m. (member_means D b k j ns m).1) (subst (ErrorRulesOutMembersClaim D L S e b) more.2 g.2),
       )
 
   -- the value at a key stops
   pub member_stopped : (e : TraversalError) (b : Bool) (p : Parse json.Json) (more : Parse json.Members) (k : List ℕ)
-      (ts : List Token) → ValueRuledOut D L S e (p ts) → MembersRuledOut D L S e b (members_step p more (Some k) ts)
+      (ts : List Token) → ErrorRulesOutValue D L S e (p ts) → ErrorRulesOutMembers D L S e b (members_step p more (Some k) ts)
   member_stopped e b p more k ts nothing ms r is d =
       let g = then_parsed (json.member k) more (p ts) ms r is in
       let j = g.0 in
       let ns = g.2 in
       nothing j g.1 g.3 (denied e (λ p. (p.0, p.1.1.0)) (λ u. u.1.0) (λ u m. (member_means D b k j ns m).0)
-      (subst (MembersClaimRuledOut D L S e b) g.5 d))
+      (subst (ErrorRulesOutMembersClaim D L S e b) g.5 d))
 
   -- a key that no document has
   pub misplaced_wrapper : (b : Bool) (p : Parse json.Json) (more : Parse json.Members) (k : List ℕ) (ts : List Token)
-      → (b && is_some (wrapper_of k)) ≡ true → MembersRuledOut D L S failure.Syntax b (members_step p more (Some k) ts)
+      → (b && is_some (wrapper_of k)) ≡ true → ErrorRulesOutMembers D L S failure.Syntax b (members_step p more (Some k) ts)
   misplaced_wrapper false p more k ts bad ms r is d = cc
   misplaced_wrapper true p more k ts bad ms r is d =
       let g = then_parsed (json.member k) more (p ts) ms r is in
@@ -268,7 +268,7 @@ module _ (D : Doubles) (L S : Type 0) where
 
   pub ended_stopped : (e : TraversalError) (b : Bool) (whole : Option (json.Members × List Token)) (all : json.Members)
       (s : List Token) (ks : List (List ℕ)) → whole ≡ Some (all, s) → keys all ≡ ks
-      → IsWriterErrorIf (AreDistinct ks) ((S → KeysAscendFrom None ks) → L) e → MembersRuledOut D L S e b whole
+      → IsWriterErrorIf (AreDistinct ks) ((S → KeysAscendFrom None ks) → L) e → ErrorRulesOutMembers D L S e b whole
   ended_stopped e b whole all s ks read are =
       let same : (ms : json.Members) (r : List Token) → whole ≡ Some (ms, r) → keys ms ≡ ks = λ ms r is.
       ap (λ p. keys p.0) (sym (same_Some {A = json.Members × List Token} (all, s) (ms, r) (sym read ∙ is))) ∙ are in

@@ -17,21 +17,21 @@ use Rattle.serde_json.specs.Read.{of_json, of_items, of_members}
 use Rattle.bson_scalar.specs.Faults.{wrong_shape}
 use Rattle.bson_scalar.specs.Table.{wrapper_of, has_wrapper}
 use Rattle.bson_scalar.specs.declared.form.Doubles.{Doubles}
-use Rattle.bson_model.specs.Reading.{reads_in}
-use Rattle.bson_model.specs.Texts.{IsBelow, Ascends}
+use Rattle.bson_model.specs.Reading.{reads_tree_in}
+use Rattle.bson_model.specs.Texts.{IsBelowMemberKeys, MemberKeysAscend}
 use Rattle.bson_model.specs.Value.{Value}
 use Rattle.bson_model.proofs.Offered.{flipped, means_to_in}
-use Rattle.bson_model.specs.OrderedTrees.{kept, tree_sorted_by_key}
-use Rattle.bson_model.specs.OrderedReading.{reads_in_order}
+use Rattle.bson_model.specs.OrderedTrees.{tree_of_json, tree_sorted_by_key}
+use Rattle.bson_model.specs.OrderedReading.{reads_tree_in_order}
 use Rattle.bson_model.proofs.OfferedInOrder.{forgotten, forgets, means_from, joined, joined_again, joined_none}
-use Rattle.bson_tree.specs.Place.{PathSegment, key, element, IsReason, FaultAtIn, HasValueIn}
+use Rattle.bson_tree.specs.Place.{PathSegment, key, element, IsReasonOfFault, FaultAtIn, HasValueIn}
 use Rattle.bson_tree.specs.declared.place.Place.{Place}
 use Rattle.bson_tree.proofs.Offered.{fault_to}
-use Rattle.bson_tokens.specs.FirstFault.{FaultAndPath, fault_in_tree, first_item_fault, first_member_fault, wrapper_fault, or, add_segment, wrong_shape_here}
+use Rattle.bson_tokens.specs.FirstFault.{FaultAndPath, fault_in_tree, first_item_fault, first_member_fault, wrapper_fault, or_fault, add_segment, wrong_shape_here}
 use Rattle.bson_tokens.proofs.Offered.{Is, is_found}
 use Rattle.bson_text.proofs.Objects.{step_more}
 use Rattle.bson_text.proofs.Denials.{mapped_parse, then_parsed, split_kept, mapped}
-use Rattle.bson_text.specs.ErrorPaths.{IsLessThanKeys, HasSortedKeys, ItemsHaveAscendingKeys, MembersHaveAscendingKeys, member_trees, has_wrapper_key, FirstKeyIsPlain, IsPlaceOfFault}
+use Rattle.bson_text.specs.ErrorPaths.{IsLessThanKeys, HasSortedKeys, ItemsHaveAscendingKeys, MembersHaveAscendingKeys, member_trees, has_wrapper_key, FirstKeyIsNotWrapper, IsPlaceOfFault}
 use Rattle.bson_text.specs.ErrorPaths.{IsWrongShape, IsPlaceFromParent, IsElementError, IsPlaceOfMember, IsMemberError, first_fault_of_members}
 use Rattle.bson_text.specs.ErrorPaths.{LocatesValueError, LocatesItemsError, LocatesMembersError, LocatesObjectError}
 use Rattle.bson_text.specs.declared.traversal_error.TraversalError.{TraversalError}
@@ -41,11 +41,11 @@ use Rattle.bson_text.proofs.Passing.{at_map}
 
 -- seen from one segment further out
 pub placed_within : (v w : FaultAndPath) (s : PathSegment) (x : FaultAndPath) (p q : Place) → IsPlaceOfFault v p → IsPlaceFromParent s p q
-    → w ≡ or (add_segment s v) x → IsPlaceOfFault w q
+    → w ≡ or_fault (add_segment s v) x → IsPlaceOfFault w q
 placed_within v w s x p q is (path, reason) e = record {
   fault = is.fault;
-  path = e ∙ ap (λ y. or (add_segment s y) x) is.path ∙ ap (λ y. Some (is.fault, y)) (sym path);
-  reason = subst (IsReason is.fault) (sym reason) is.reason;
+  path = e ∙ ap (λ y. or_fault (add_segment s y) x) is.path ∙ ap (λ y. Some (is.fault, y)) (sym path);
+  reason = subst (IsReasonOfFault is.fault) (sym reason) is.reason;
 }
 
 pub placed_here : (w : FaultAndPath) (q : Place) → IsWrongShape q → w ≡ wrong_shape_here → IsPlaceOfFault w q
@@ -58,12 +58,12 @@ placed_here w q (path, reason) e = record {
 -- ---- what is sound has no fault
 
 module _ (D : Doubles) where
-  none_at : (t : Data) (v : Value) (w : FaultAndPath) → reads_in D t ≡ Ok v → fault_in_tree D t ≡ w
+  none_at : (t : Data) (v : Value) (w : FaultAndPath) → reads_tree_in D t ≡ Ok v → fault_in_tree D t ≡ w
       → Is (HasValueIn D t) (λ f path. FaultAtIn D f t path) w → fault_in_tree D t ≡ None
   none_at t v None reads is h = is
   none_at t v (Some f) reads is h = let bad = fault_to D h in let never : Ok v ≡ Err f.0 = sym reads ∙ bad in cc
 
-  pub sound : (j : json.Json) (t0 t : Data) (v : Value) → kept j ≡ Some t0 → reads_in_order D t0 ≡ Ok v
+  pub sound : (j : json.Json) (t0 t : Data) (v : Value) → tree_of_json j ≡ Some t0 → reads_tree_in_order D t0 ≡ Ok v
       → of_json j ≡ Some t → fault_in_tree D t ≡ None
   sound j t0 t v is reads of =
       let same : tree_sorted_by_key t0 ≡ t = same_Some (tree_sorted_by_key t0) t (sym (forgotten j ∙ ap (option_map tree_sorted_by_key) is) ∙ of) in
@@ -95,8 +95,8 @@ module _ (D : Doubles) where
   items_from whole js r ts is rise of = (js, ts, is, rise, of, refl)
 
   pub item_from : (whole : Option (json.Items × List Token)) (p : Parse json.Json) (n place : ℕ) (ts r : List Token)
-      (j : json.Json) (t0 : Data) (v : Value) → 0 < n → after_end_array ts ≡ None → p ts ≡ Some (j, r) → kept j ≡ Some t0
-      → reads_in_order D t0 ≡ Ok v → ItemsFrom whole (items p n ts) place
+      (j : json.Json) (t0 : Data) (v : Value) → 0 < n → after_end_array ts ≡ None → p ts ≡ Some (j, r) → tree_of_json j ≡ Some t0
+      → reads_tree_in_order D t0 ≡ Ok v → ItemsFrom whole (items p n ts) place
       → ItemsFrom whole (items p (n - 1) r) (place + 1)
   item_from whole p n place ts r j t0 v left going read is reads from js rest ds whole_is rise of =
       let g = from js rest ds whole_is rise of in
@@ -110,7 +110,7 @@ module _ (D : Doubles) where
         rises.1,
         a.3,
         g.5 ∙ ap (first_item_fault D place) a.4
-            ∙ ap (λ x. or (add_segment (element place) x) (first_item_fault D (place + 1) a.1)) none,
+            ∙ ap (λ x. or_fault (add_segment (element place) x) (first_item_fault D (place + 1) a.1)) none,
       )
 
   pub items_placed : (e f : TraversalError) (whole : Option (json.Items × List Token)) (depth n place : ℕ) (ts mid rest : List Token)
@@ -146,11 +146,11 @@ module _ (D : Doubles) where
 -- ---- trees of members whose keys ascend
 
 below_key : (l : List ℕ) (fault_in_tree : Members) (k : List ℕ) (d : Data) (ms : Members)
-    → IsBelow l (joined fault_in_tree (member k d ms)) → slice_cmp nat_cmp l k ≡ Less
+    → IsBelowMemberKeys l (joined fault_in_tree (member k d ms)) → slice_cmp nat_cmp l k ≡ Less
 below_key l no_members k d ms h = h.0
 below_key l (member a e fault_in_tree) k d ms h = below_key l fault_in_tree k d ms h.1
 
-put_later : (fault_in_tree : Members) (k : List ℕ) (d : Data) (ms : Members) → Ascends (joined fault_in_tree (member k d ms))
+put_later : (fault_in_tree : Members) (k : List ℕ) (d : Data) (ms : Members) → MemberKeysAscend (joined fault_in_tree (member k d ms))
     → put k d fault_in_tree ≡ joined fault_in_tree (member k d no_members)
 put_later no_members k d ms h = refl
 put_later (member l e fault_in_tree) k d ms h =
@@ -160,12 +160,12 @@ abbrev put_all : Members → Members → Members
 put_all no_members fault_in_tree = fault_in_tree
 put_all (member k d ms) fault_in_tree = put_all ms (put k d fault_in_tree)
 
-put_in_order : (ms fault_in_tree : Members) → Ascends (joined fault_in_tree ms) → put_all ms fault_in_tree ≡ joined fault_in_tree ms
+put_in_order : (ms fault_in_tree : Members) → MemberKeysAscend (joined fault_in_tree ms) → put_all ms fault_in_tree ≡ joined fault_in_tree ms
 put_in_order no_members fault_in_tree h = sym (joined_none fault_in_tree)
 put_in_order (member k d ms) fault_in_tree h =
     let again = joined_again fault_in_tree k d ms in
     ap (put_all ms) (put_later fault_in_tree k d ms h)
-    ∙ put_in_order ms (joined fault_in_tree (member k d no_members)) (subst Ascends (sym again) h) ∙ again
+    ∙ put_in_order ms (joined fault_in_tree (member k d no_members)) (subst MemberKeysAscend (sym again) h) ∙ again
 
 and_some : {A B : Type 0} (f : A → Option B) (x : Option A) (b : B) → option_and_then f x ≡ Some b
     → (a : A) × (x ≡ Some a) × (f a ≡ Some b)
@@ -184,19 +184,19 @@ trees_stand (json.member k j js) fault_in_tree all is =
     let g = trees_stand js (put k a.0 fault_in_tree) all a.2 in
     (member k a.0 g.0, join_trees (member k) (of_json j) (member_trees js) a.0 g.0 a.1 g.1, g.2)
 
-under_trees : (k : List ℕ) (js : json.Members) (ts : Members) → member_trees js ≡ Some ts → IsLessThanKeys k js → IsBelow k ts
-under_trees k json.no_members ts is under = subst (IsBelow k) (same_Some no_members ts is) tt
+under_trees : (k : List ℕ) (js : json.Members) (ts : Members) → member_trees js ≡ Some ts → IsLessThanKeys k js → IsBelowMemberKeys k ts
+under_trees k json.no_members ts is under = subst (IsBelowMemberKeys k) (same_Some no_members ts is) tt
 under_trees k (json.member l j js) ts is under =
     let a = split_kept (member l) (of_json j) (member_trees js) ts is in
-    subst (IsBelow k) (sym a.4) (under.0, under_trees k js a.1 a.3 under.1)
+    subst (IsBelowMemberKeys k) (sym a.4) (under.0, under_trees k js a.1 a.3 under.1)
 
-ascends : (js : json.Members) (ts : Members) → member_trees js ≡ Some ts → MembersHaveAscendingKeys js → Ascends ts
-ascends json.no_members ts is rise = subst Ascends (same_Some no_members ts is) tt
+ascends : (js : json.Members) (ts : Members) → member_trees js ≡ Some ts → MembersHaveAscendingKeys js → MemberKeysAscend ts
+ascends json.no_members ts is rise = subst MemberKeysAscend (same_Some no_members ts is) tt
 ascends (json.member k j js) ts is rise =
     let a = split_kept (member k) (of_json j) (member_trees js) ts is in
-    subst Ascends (sym a.4) (under_trees k js a.1 a.3 rise.0, ascends js a.1 a.3 rise.2)
+    subst MemberKeysAscend (sym a.4) (under_trees k js a.1 a.3 rise.0, ascends js a.1 a.3 rise.2)
 
--- where keys ascend the members of the tree are those of the text as they stand
+-- where keys ascend the members of the tree are those of the text unchanged
 pub rising : (js : json.Members) (all : Members) → MembersHaveAscendingKeys js → of_members js no_members ≡ Some all
     → member_trees js ≡ Some all
 rising js all rise is =
@@ -225,7 +225,7 @@ module _ (D : Doubles) where
   cond_false true c v is = cc
   cond_false false c v is = refl
 
-  -- a wrapper's key behind one that is none
+  -- a wrapper's key after one that is none
   shape_found : (k : List ℕ) (d : Data) (ts : Members) → wrapper_of k ≡ None → has_wrapper (member k d ts) ≡ true
       → wrapper_fault D (member k d ts) ≡ wrong_shape_here
   shape_found k d no_members plain has =
@@ -234,7 +234,7 @@ module _ (D : Doubles) where
       cond_false (bytes_eq k (codes "$code")) (bytes_eq l (codes "$scope")) _ (no_code k plain)
   shape_found k d (member l e (member m f ts)) plain has = refl
 
-  pub wrapped : (js : json.Members) (ts : Members) → member_trees js ≡ Some ts → FirstKeyIsPlain js → has_wrapper ts ≡ true
+  pub wrapped : (js : json.Members) (ts : Members) → member_trees js ≡ Some ts → FirstKeyIsNotWrapper js → has_wrapper ts ≡ true
       → fault_in_tree D (object ts) ≡ wrong_shape_here
   wrapped json.no_members ts is plain has =
       let none : has_wrapper ts ≡ false = ap has_wrapper (sym (same_Some no_members ts is)) in cc
@@ -259,7 +259,7 @@ module _ (D : Doubles) where
 
   pub member_from : (b : Bool) (whole : Option (json.Members × List Token)) (p : Parse json.Json) (n : ℕ) (k : List ℕ)
       (ts r s : List Token) (next : Option (List ℕ)) (j : json.Json) (t0 : Data) (v : Value) → 0 < n → p ts ≡ Some (j, r)
-      → read_key r ≡ Some (next, s) → kept j ≡ Some t0 → reads_in_order D t0 ≡ Ok v → (b ≡ true → wrapper_of k ≡ None)
+      → read_key r ≡ Some (next, s) → tree_of_json j ≡ Some t0 → reads_tree_in_order D t0 ≡ Ok v → (b ≡ true → wrapper_of k ≡ None)
       → MembersFrom b whole (members_step p (members p n) (Some k) ts)
       → MembersFrom b whole (members_step p (members p (n - 1)) next s)
   member_from b whole p n k ts r s next j t0 v left read named is reads plain from ms rest ds whole_is rise of =
@@ -274,13 +274,13 @@ module _ (D : Doubles) where
         more.1,
         rises.2,
         a.3,
-        g.5 ∙ ap (first_member_fault D) a.4 ∙ ap (λ x. or (add_segment (key k) x) (first_member_fault D a.1)) none,
+        g.5 ∙ ap (first_member_fault D) a.4 ∙ ap (λ x. or_fault (add_segment (key k) x) (first_member_fault D a.1)) none,
         λ yes. g.6 yes ∙ ap has_wrapper a.4 ∙ ap (λ o. is_some o || has_wrapper a.1) (plain yes),
       )
 
   -- a fault at a key
   place_at_key : (b : Bool) (k : List ℕ) (js : json.Members) (ds us : Members) (d : Data) (has : Bool) (p q : Place)
-      → member_trees js ≡ Some ds → (b ≡ true → FirstKeyIsPlain js) → first_member_fault D ds ≡ first_member_fault D (member k d us)
+      → member_trees js ≡ Some ds → (b ≡ true → FirstKeyIsNotWrapper js) → first_member_fault D ds ≡ first_member_fault D (member k d us)
       → (b ≡ true → has_wrapper ds ≡ has) → IsPlaceOfFault (fault_in_tree D d) p → IsPlaceOfMember (b && has) k p q → IsPlaceOfFault (first_fault_of_members D b ds) q
   place_at_key false k js ds us d has p q of plain same wraps is at =
       placed_within (fault_in_tree D d) (first_member_fault D ds) (key k) (first_member_fault D us) p q is at same

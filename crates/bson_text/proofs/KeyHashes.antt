@@ -11,6 +11,6 @@ distinct_from_hashes ks hs are apart i j d less within e =
     let e' = key_hash d in
     let first = get_or-map key_hash ks i d e' (omega arith) in
     let second = get_or-map key_hash ks j d e' within in
-    let members_inside : j < length hs = omega (arith, within, length-map ks key_hash, ap length are) in
-    apart i j e' less members_inside
+    let members_after_brace : j < length hs = omega (arith, within, length-map ks key_hash, ap length are) in
+    apart i j e' less members_after_brace
     (ap (λ x. get_or x i e') are ∙ first ∙ ap key_hash e ∙ sym second ∙ sym (ap (λ x. get_or x j e') are))

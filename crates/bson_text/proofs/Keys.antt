@@ -13,10 +13,10 @@ abbrev by_bytes : Key → Key → Ordering
 by_bytes a b = slice_cmp nat_cmp a.now b.now
 
 -- each of the first n keys is less than the next of them
-abbrev pub Ascend : List Key → ℕ → Type 0
-Ascend ks n = (i : ℕ) → i + 1 < n → (d : Key) → by_bytes (get_or ks i d) (get_or ks (i + 1) d) ≡ Less
+abbrev pub SpanKeysAscend : List Key → ℕ → Type 0
+SpanKeysAscend ks n = (i : ℕ) → i + 1 < n → (d : Key) → by_bytes (get_or ks i d) (get_or ks (i + 1) d) ≡ Less
 
-pub distinct_from_ascend : (ks : List Key) → Ascend ks (length ks) → AreDistinct (texts ks)
+pub distinct_from_ascend : (ks : List Key) → SpanKeysAscend ks (length ks) → AreDistinct (texts ks)
 distinct_from_ascend ks ascend =
     AreDistinct-from_places ks (λ i j less within d.
     let total = on_total (λ (k : Key). k.now) nat_list_cmp_total in

@@ -10,10 +10,10 @@ use Rattle.json.proofs.Grammar.{key_token, read_key-shorter, members_more}
 use Rattle.serde_json.specs.Data.{Data, array, object, Items, Members, no_members, member}
 use Rattle.serde_json.specs.Read.{of_json, converted}
 use Rattle.bson_scalar.specs.declared.wrapper.Wrapper.{Wrapper}
-use Rattle.bson_model.specs.OrderedTrees.{kept, kept_items, kept_members, tree_sorted_by_key}
+use Rattle.bson_model.specs.OrderedTrees.{tree_of_json, items_of_json, members_of_json, tree_sorted_by_key}
 use Rattle.bson_model.proofs.OfferedInOrder.{forgotten}
 use Rattle.bson_tokens.proofs.Offered.{was_read}
-use Rattle.bson_text.specs.TraversalResults.{kept_object, members_inside, members_after_key}
+use Rattle.bson_text.specs.TraversalResults.{tree_members_in_order, members_after_brace, members_after_key}
 
 abbrev pub Key : Type 0
 Key = Bor (List ℕ)
@@ -32,7 +32,7 @@ drop_first : (old ks : List Key) → drop (length old) (old ++ ks) ≡ ks
 drop_first [] ks = refl
 drop_first (k ∷ old) ks = drop_first old ks
 
--- the keys that were held behind the old ones
+-- the keys that were held after the old ones
 pub pushed : (old ks all : List Key) → all ≡ old ++ ks → texts (drop (length old) all) ≡ texts ks
 pushed old ks all e = ap texts (ap (drop (length old)) e ∙ drop_first old ks)
 
@@ -58,8 +58,8 @@ begun_at p None s = refl
 begun_at p (Some k) s = refl
 
 pub begins : (depth : ℕ) (k : Option (List ℕ)) (ts s : List Token) → read_key ts ≡ Some (k, s)
-    → members_inside depth ts ≡ members_after_key depth k s
-begins depth k ts s h = ap (members_inside depth) (read_key_is ts k s h) ∙ begun_at (value depth) k s
+    → members_after_brace depth ts ≡ members_after_key depth k s
+begins depth k ts s h = ap (members_after_brace depth) (read_key_is ts k s h) ∙ begun_at (value depth) k s
 
 -- a key that is not misplaced_wrapper
 pub located : (b : Bool) (o : Option Wrapper) → (b && is_some o) ≡ false → b ≡ true → o ≡ None
@@ -70,24 +70,24 @@ located false o h is = cc
 -- ---- a whole object
 
 pub object_of : (x : Option (json.Members × List Token)) (ms : Members) (r : List Token)
-    → kept_object x ≡ Some (ms, r) → converted kept (parse_map json.object x) ≡ Some (object ms, r)
-object_of x ms r e = let p = was_read (λ js. kept_members js no_members) x ms r e in
-    ap (λ o. converted kept (parse_map json.object o)) p.1
+    → tree_members_in_order x ≡ Some (ms, r) → converted tree_of_json (parse_map json.object x) ≡ Some (object ms, r)
+object_of x ms r e = let p = was_read (λ js. members_of_json js no_members) x ms r e in
+    ap (λ o. converted tree_of_json (parse_map json.object o)) p.1
     ∙ ap (λ o. option_map (λ d. (d, r)) (option_map object o)) p.2
 
 -- ---- a list, and a text
 
 pub array_of : (x : Option (json.Items × List Token)) (ts : Items) (r : List Token)
-    → converted kept_items x ≡ Some (ts, r) → converted kept (parse_map json.array x) ≡ Some (array ts, r)
-array_of x ts r e = let p = was_read kept_items x ts r e in
-    ap (λ o. converted kept (parse_map json.array o)) p.1
+    → converted items_of_json x ≡ Some (ts, r) → converted tree_of_json (parse_map json.array x) ≡ Some (array ts, r)
+array_of x ts r e = let p = was_read items_of_json x ts r e in
+    ap (λ o. converted tree_of_json (parse_map json.array o)) p.1
     ∙ ap (λ o. option_map (λ d. (d, r)) (option_map array o)) p.2
 
-pub last_read : (o : Option (json.Json × List Token)) (d : Data) → converted kept o ≡ Some (d, [])
-    → option_and_then kept (option_and_then (λ p. if_last p.0 p.1) o) ≡ Some d
+pub last_read : (o : Option (json.Json × List Token)) (d : Data) → converted tree_of_json o ≡ Some (d, [])
+    → option_and_then tree_of_json (option_and_then (λ p. if_last p.0 p.1) o) ≡ Some d
 last_read o d h =
-    let j = was_read kept o d [] h in
-    ap (λ q. option_and_then kept (option_and_then (λ p. if_last p.0 p.1) q)) j.1 ∙ j.2
+    let j = was_read tree_of_json o d [] h in
+    ap (λ q. option_and_then tree_of_json (option_and_then (λ p. if_last p.0 p.1) q)) j.1 ∙ j.2
 
 -- ---- an object of one key
 
@@ -98,8 +98,8 @@ mapped g (Some a) b h = (a, refl, cc)
 
 -- the tree in order of what has a tree by default
 pub kept_from : (j : json.Json) (held : Data) → of_json j ≡ Some held
-    → (d : Data) × (kept j ≡ Some d) × (tree_sorted_by_key d ≡ held)
-kept_from j held h = mapped tree_sorted_by_key (kept j) held (sym (forgotten j) ∙ h)
+    → (d : Data) × (tree_of_json j ≡ Some d) × (tree_sorted_by_key d ≡ held)
+kept_from j held h = mapped tree_sorted_by_key (tree_of_json j) held (sym (forgotten j) ∙ h)
 
 pub alone : (depth : ℕ) (k : List ℕ) (ts r s : List Token) (j : json.Json) → length r < length ts
     → value depth ts ≡ Some (j, r) → read_key r ≡ Some (None, s)
@@ -121,14 +121,14 @@ two depth k l ts r q end rest j i less read named other fewer ended =
     ∙ ap (parse_map (json.member l i))
     (members_end (value depth) (n - 1) end rest (omega (arith, less, shorter, fewer)) ended))
 
-pub two_kept : (k l : List ℕ) (j i : json.Json) (d e : Data) (s : List Token) → bytes_eq l k ≡ false → kept j ≡ Some d
-    → kept i ≡ Some e
-    → kept_object (Some (json.member k j (json.member l i json.no_members), s))
+pub two_kept : (k l : List ℕ) (j i : json.Json) (d e : Data) (s : List Token) → bytes_eq l k ≡ false → tree_of_json j ≡ Some d
+    → tree_of_json i ≡ Some e
+    → tree_members_in_order (Some (json.member k j (json.member l i json.no_members), s))
     ≡ Some (member k d (member l e no_members), s)
 two_kept k l j i d e s differ h g = rw (h, g, differ) refl
 
-pub alone_kept : (k : List ℕ) (j : json.Json) (d : Data) (s : List Token) → kept j ≡ Some d
-    → kept_object (Some (json.member k j json.no_members, s)) ≡ Some (member k d no_members, s)
+pub alone_kept : (k : List ℕ) (j : json.Json) (d : Data) (s : List Token) → tree_of_json j ≡ Some d
+    → tree_members_in_order (Some (json.member k j json.no_members, s)) ≡ Some (member k d no_members, s)
 alone_kept k j d s h =
     ap (λ o. option_map (λ ms. (ms, s)) (option_and_then (λ e. Some (member k e no_members)) o)) h
 

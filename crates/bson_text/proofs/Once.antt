@@ -1,4 +1,4 @@
--- Pairs of which no key stands twice: set in turn they are as they stand.
+-- Pairs of which no key occurs twice: set in turn they are unchanged.
 use Rattle.std.proofs.Common.{◌≡◌, ℕ, List, false, bytes_eq, refl, sym, ap, ◌∙◌, subst}
 use Rattle.std.proofs.lemmas.Bool.{or_parts}
 use Rattle.json.specs.Strict.{AreDistinct}
@@ -7,7 +7,7 @@ use Rattle.bson_model.proofs.OfferedInOrder.{turned}
 use Rattle.bson_text.specs.TraversalResults.{keys_of, with_pair_set, with_pairs_set, each_key_once}
 use Rattle.bson_text.proofs.Differ.{stands, Differ, differ}
 
--- pairs behind others
+-- pairs after others
 abbrev joined : Pairs → Pairs → Pairs
 joined no_pairs qs = qs
 joined (pair k v ps) qs = pair k v (joined ps qs)
@@ -27,7 +27,7 @@ apart_from l no_pairs k v ps h = (or_parts (bytes_eq l k) (stands l (keys_of ps)
 apart_from l (pair a w found) k v ps h =
     apart_from l found k v ps (or_parts (bytes_eq l a) (stands l (keys_of (joined found (pair k v ps)))) h).1
 
--- a new key goes last
+-- a new key becomes the last
 set_last : (found : Pairs) (k : List ℕ) (v : Value) (ps : Pairs) → Differ (keys_of (joined found (pair k v ps)))
     → with_pair_set k v found ≡ joined found (pair k v no_pairs)
 set_last no_pairs k v ps h = refl

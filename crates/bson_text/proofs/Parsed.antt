@@ -19,7 +19,7 @@ use Rattle.serde_json.specs.Read.{of_json, converted}
 use Rattle.bson_scalar.specs.Reading.{optional_wrapper_read_in}
 use Rattle.bson_scalar.specs.declared.form.Doubles.{Doubles}
 use Rattle.bson_scalar.specs.declared.wrapper.Wrapper.{Wrapper}
-use Rattle.bson_model.specs.OrderedTrees.{kept, tree_sorted_by_key}
+use Rattle.bson_model.specs.OrderedTrees.{tree_of_json, tree_sorted_by_key}
 use Rattle.bson_tokens.specs.WrapperContent.{IsWrapperContent}
 use Rattle.bson_tokens.proofs.Offered.{was_read as from_tree}
 use Rattle.bson_text.specs.TraversalResults.{members_after_key}
@@ -41,7 +41,7 @@ first_parsed depth None s r ms is =
 first_parsed depth (Some k) s r ms is =
     let g = then_parsed (json.member k) (members (value depth) (length s)) (value depth s) ms r is in (g.0, g.2, g.5)
 
--- behind the first member
+-- after the first member
 pub after_first : (p : Parse json.Json) (n : ℕ) (k : List ℕ) (ts r rest : List Token) (j : json.Json) (ms : json.Members)
     → members_step p (members p n) (Some k) ts ≡ Some (ms, rest) → p ts ≡ Some (j, r)
     → (ns : json.Members) × (members p n r ≡ Some (ns, rest)) × (ms ≡ json.member k j ns)
@@ -60,7 +60,7 @@ none_behind p (suc n) r s rest ns ended is =
     let same : (json.no_members, s) ≡ (ns, rest) = same_Some {A = json.Members × List Token} (json.no_members, s) (ns, rest) here in
     sym (ap (λ q. q.0) same)
 
--- a further member behind
+-- a further member after
 pub one_behind : (p : Parse json.Json) (n : ℕ) (r q rest : List Token) (l : List ℕ) (ns : json.Members)
     → read_key r ≡ Some (Some l, q) → members p n r ≡ Some (ns, rest)
     → (m : ℕ) × (i : json.Json) × (end : List Token) × (os : json.Members) × (p q ≡ Some (i, end))
@@ -84,16 +84,16 @@ ends_at p n end rest (Some (None, s)) key is =
 ends_at p n end rest (Some (Some k, s)) key is =
     let g = then_parsed (json.member k) (members p n) (p s) json.no_members rest is in let never = g.5 in cc
 
--- no member stands behind, so the object ends
+-- no member follows, so the object ends
 pub ended : (p : Parse json.Json) (n : ℕ) (end rest : List Token) → members p n end ≡ Some (json.no_members, rest)
     → read_key end ≡ Some (None, rest)
 unfolding members
 ended p zero end rest is = cc
 ended p (suc n) end rest is = ends_at p n end rest (read_key end) refl is
 
--- what a wrapper's tree stands for
+-- what a wrapper's tree represents
 pub held_is : (depth : ℕ) (ts r : List Token) (held : Data) → IsWrapperContent (converted of_json (value depth ts)) held r
-    → (j : json.Json) × (value depth ts ≡ Some (j, r)) × (d : Data) × (kept j ≡ Some d)
+    → (j : json.Json) × (value depth ts ≡ Some (j, r)) × (d : Data) × (tree_of_json j ≡ Some d)
     × ((D : Doubles) (w : Option Wrapper) → optional_wrapper_read_in D w held ≡ optional_wrapper_read_in D w (tree_sorted_by_key d))
     × (as_str held ≡ as_str (tree_sorted_by_key d))
 held_is depth ts r held read =

@@ -14,7 +14,7 @@ use Rattle.bson_scalar.specs.TreeText.{json_of_tree, json_of_items, json_of_memb
 use Rattle.bson_scalar.specs.Tokens.{code_tokens}
 use Rattle.bson_model.specs.Writing.{with_scope}
 
--- what stands behind a tree is printed as behind a value
+-- what follows a tree is printed as after a value
 mutual
   ends_json : (j : Json) (c : Bool) → fold (λ _ u. ends u) c (json_tokens j) ≡ true
   ends_json json.null c = refl

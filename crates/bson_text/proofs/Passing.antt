@@ -7,7 +7,7 @@ use Rattle.json.specs.Json.{Parse, parse_map, after_end_array, read_key, items, 
 use Rattle.json.specs.Token.{Token}
 use Rattle.bson_scalar.specs.Table.{wrapper_of}
 use Rattle.bson_tree.specs.declared.place.Place.{Place}
-use Rattle.bson_text.specs.ErrorPaths.{has_wrapper_key, IfFault}
+use Rattle.bson_text.specs.ErrorPaths.{has_wrapper_key, IfErrorIsFault}
 use Rattle.bson_text.specs.declared.traversal_error.TraversalError.{TraversalError}
 use Rattle.bson_text.specs.declared.traversal_error.TraversalError.TheVariants as failure
 
@@ -85,7 +85,7 @@ step_on p n l ts mid r ms is skip =
     let g = then_parsed (json.member l) (members p n) (p ts) ms r mid is skip in (g.1, g.2)
 
 -- what holds of the place at a fault has what follows from it
-pub at_map : (e : TraversalError) (P Q : Place → Type 0) → ((p : Place) → P p → Q p) → IfFault e P → IfFault e Q
+pub at_map : (e : TraversalError) (P Q : Place → Type 0) → ((p : Place) → P p → Q p) → IfErrorIsFault e P → IfErrorIsFault e Q
 at_map failure.OutOfMemory P Q f h = tt
 at_map failure.DuplicateKey P Q f h = tt
 at_map failure.GaveUp P Q f h = tt

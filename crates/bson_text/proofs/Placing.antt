@@ -9,8 +9,8 @@ use Rattle.std.proofs.lemmas.Slice.Eq.{bytes_eq-Decides}
 use Rattle.std.specs.List.{All, filter, range_with_len}
 use Rattle.std.specs.List.Sorted.{IsPermutation}
 use Rattle.bson_model.specs.StableOrder.{have_equal_keys, IsStableByKey}
-use Rattle.bson_text.specs.MemberSpans.{span_key, end_before_next, spans_from, no_span, span_or, key_or, spans_at, first_has_key}
-use Rattle.bson_text.specs.MemberSpans.{next_has_key, AreIndexesByKey, IsSortedObject, IsJoinedText}
+use Rattle.bson_text.specs.MemberSpans.{span_key, end_before_next, spans_from, empty_span, span_at_or_empty, key_at_or_empty, spans_at, first_index_has_key}
+use Rattle.bson_text.specs.MemberSpans.{next_has_key, AreIndexesByKey, IsSortedObject, IsTextOfSpans}
 use Rattle.bson_text.specs.declared.member_spans.MemberSpan.{MemberSpan}
 
 abbrev pub Key : Type 0
@@ -28,14 +28,14 @@ spans_long (k ∷ ks) [] end paired = cc
 spans_long (k ∷ ks) (s ∷ member_starts) end paired = ap suc (spans_long ks member_starts end (omega (arith, paired)))
 
 pub key_there : (ks : List Key) (member_starts : List ℕ) (end n : ℕ) → length ks ≡ length member_starts
-    → span_key (span_or (spans_from ks member_starts end) n) ≡ key_or ks n
+    → span_key (span_at_or_empty (spans_from ks member_starts end) n) ≡ key_at_or_empty ks n
 key_there [] member_starts end n paired = refl
 key_there (k ∷ ks) [] end n paired = cc
 key_there (k ∷ ks) (s ∷ member_starts) end zero paired = refl
 key_there (k ∷ ks) (s ∷ member_starts) end (suc n) paired = key_there ks member_starts end n (omega (arith, paired))
 
 pub span_there : (ks : List Key) (member_starts : List ℕ) (end n : ℕ) → length ks ≡ length member_starts → n < length ks
-    → span_or (spans_from ks member_starts end) n
+    → span_at_or_empty (spans_from ks member_starts end) n
     ≡ record { key = get_or ks n no_key; start = get_or member_starts n 0; end = end_before_next (drop (suc n) member_starts) end }
 span_there [] member_starts end n paired within = absurd (omega (arith, within))
 span_there (k ∷ ks) [] end n paired within = cc
@@ -44,19 +44,19 @@ span_there (k ∷ ks) (s ∷ member_starts) end (suc n) paired within =
     span_there ks member_starts end n (omega (arith, paired)) (omega (arith, within))
 
 pub next_there : (ks : List Key) (member_starts : List ℕ) (end : ℕ) (k : List ℕ) (places : List ℕ)
-    → length ks ≡ length member_starts → first_has_key ks k places ≡ next_has_key k (spans_at (spans_from ks member_starts end) places)
+    → length ks ≡ length member_starts → first_index_has_key ks k places ≡ next_has_key k (spans_at (spans_from ks member_starts end) places)
 next_there ks member_starts end k [] paired = refl
 next_there ks member_starts end k (n ∷ places) paired = ap (λ l. bytes_eq l k) (sym (key_there ks member_starts end n paired))
 
 pub next_first : (ks : List Key) (k places : List ℕ) (at n : ℕ) → suc at < length places
-    → n ≡ get_or places (suc at) n → bytes_eq (key_or ks n) k ≡ first_has_key ks k (drop (suc at) places)
+    → n ≡ get_or places (suc at) n → bytes_eq (key_at_or_empty ks n) k ≡ first_index_has_key ks k (drop (suc at) places)
 next_first ks k places at n within is =
-    sym (ap (first_has_key ks k) (drop-cons places (suc at) n within
+    sym (ap (first_index_has_key ks k) (drop-cons places (suc at) n within
     ∙ ap (λ m. m ∷ drop (suc (suc at)) places) (sym is)))
 
--- the piece at the next place, and those behind it
+-- the piece at the next place, and those after it
 pub next_picked : (ps : List MemberSpan) (places : List ℕ) (at n : ℕ) (p : MemberSpan) → at < length places
-    → n ≡ get_or places at n → p ≡ span_or ps n → spans_at ps (drop at places) ≡ p ∷ spans_at ps (drop (suc at) places)
+    → n ≡ get_or places at n → p ≡ span_at_or_empty ps n → spans_at ps (drop at places) ≡ p ∷ spans_at ps (drop (suc at) places)
 next_picked ps places at n p within is span =
     let rest = drop (suc at) places in
     ap (spans_at ps) (drop-cons places at n within ∙ ap (λ m. m ∷ rest) (sym is))
@@ -142,14 +142,14 @@ pub placed_first : (ks : List Key) (places : List ℕ) → places ≡ range_with
 placed_first ks places is =
     subst (AreIndexesByKey ks) (sym is) (IsPermutation-refl (range_with_len 0 (length ks)), λ n. refl)
 
-pub placed_again : (ks : List Key) (old new : List ℕ) → IsStableByKey (key_or ks) old new → IsPermutation old new
+pub placed_again : (ks : List Key) (old new : List ℕ) → IsStableByKey (key_at_or_empty ks) old new → IsPermutation old new
     → AreIndexesByKey ks old → AreIndexesByKey ks new
 placed_again ks old new stable same located =
     (IsPermutation-trans (range_with_len 0 (length ks)) old new located.0 same, λ n. stable n ∙ located.1 n)
 
--- pieces that are joined by their places stand in order
+-- pieces that are joined by their places are in order
 pub placed_in_order : (ks : List Key) (member_starts : List ℕ) (end : ℕ) (places texts written : List ℕ)
-    → length ks ≡ length member_starts → AreIndexesByKey ks places → IsJoinedText (spans_at (spans_from ks member_starts end) places) texts written
+    → length ks ≡ length member_starts → AreIndexesByKey ks places → IsTextOfSpans (spans_at (spans_from ks member_starts end) places) texts written
     → IsSortedObject (spans_from ks member_starts end) texts written
 placed_in_order ks member_starts end places texts written paired located joined =
     let ps = spans_from ks member_starts end in
@@ -157,11 +157,11 @@ placed_in_order ks member_starts end places texts written paired located joined 
     let new = spans_at ps places in
     let whole : spans_at ps all ≡ ps =
     ap (λ n. spans_at ps (range_with_len 0 n)) (sym (spans_long ks member_starts end paired))
-    ∙ sym (fill_by_all (span_or ps) ps (length ps) no_span refl (λ n h. refl)) in
-    let stable = stable_spans (key_or ks) (span_or ps) (λ n. key_there ks member_starts end n paired) all places located.1 in (
+    ∙ sym (fill_by_all (span_at_or_empty ps) ps (length ps) empty_span refl (λ n h. refl)) in
+    let stable = stable_spans (key_at_or_empty ks) (span_at_or_empty ps) (λ n. key_there ks member_starts end n paired) all places located.1 in (
       new,
       subst (λ qs. IsStableByKey span_key qs new) whole stable,
-      subst (λ qs. IsPermutation qs new) whole (IsPermutation-map (span_or ps) all places located.0),
+      subst (λ qs. IsPermutation qs new) whole (IsPermutation-map (span_at_or_empty ps) all places located.0),
       joined.0,
       joined.1,
     )

@@ -24,7 +24,7 @@ use Rattle.bson_tree.specs.declared.place.Place.{Place}
 use Rattle.bson_tokens.specs.FirstFault.{FaultAndPath, fault_in_tree, first_member_fault, scope_fault, add_segment, wrong_shape_here, code_fault}
 use Rattle.bson_tokens.specs.WrapperContent.{IsWrapperContent}
 use Rattle.bson_tokens.proofs.Offered.{was_read as from_tree}
-use Rattle.bson_text.specs.TraversalResults.{members_inside, members_after_key}
+use Rattle.bson_text.specs.TraversalResults.{members_after_brace, members_after_key}
 use Rattle.bson_text.proofs.Denials.{mapped_parse, then_parsed, split_kept, mapped}
 use Rattle.bson_text.proofs.Parsed.{same_parse, after_first, none_behind, a_text}
 use Rattle.bson_text.specs.ErrorPaths.{HasSortedKeys, MembersHaveAscendingKeys, member_trees, IsPlaceOfFault, IsWrongShape, IsPlaceFromParent, IsWrongShapeAtValue, IsScopeTypeError}
@@ -44,7 +44,7 @@ err_of (Err e) P none h = h
 none_some : {A : Type 0} (o : Option A) (a : A) → o ≡ None → o ≡ Some a → ⊥
 none_some o a h g = cc
 
--- ---- what stands behind a scope
+-- ---- what follows a scope
 
 is_first : (depth n : ℕ) (ts s r : List Token) (k : List ℕ) (ms : json.Members) → read_key ts ≡ Some (Some k, s)
     → members (value depth) n ts ≡ Some (ms, r)
@@ -141,7 +141,7 @@ module _ (D : Doubles) where
   none_found depth (token.null ∷ ts) r j d a o none is of = absurd none
   none_found depth (token.bad ∷ ts) r j d a o none is of = cc
 
-  -- the verdict of a scope alone, and of one with more behind it
+  -- the verdict of a scope alone, and of one with more after it
   scope_alone : (l : List ℕ) (e : Data) (us ws : Members) → us ≡ member l e ws → ws ≡ no_members
       → first_fault_of_code D us ≡ scope_fault D e
   scope_alone l e us ws is none = ap (first_fault_of_code D) (is ∙ ap (member l e) none)
@@ -167,7 +167,7 @@ module _ (D : Doubles) where
       let is = none_found depth ts g.1 g.0 a.0 _ _ none (sym (value_is depth ts) ∙ g.3) a.2 in
       (passed n l ms r parsed, placed_here (first_fault_of_code D us) q shape (ap (first_fault_of_code D) a.4 ∙ here_at l a.0 a.1 is))) out
 
-  -- a further key behind a scope that was read
+  -- a further key after a scope that was read
   pub end_placed : (b : Bool) (e : TraversalError) (depth : ℕ) (ts s rest : List Token) (i : json.Json) → value depth ts ≡ Some (i, s)
       → (b ≡ false → IsExtraKeyError depth s e rest) → LocatesCodeError D b depth e ts rest
   end_placed b e depth ts s rest i read out first = at_map e _ _ (λ q (shape, passed) n l ms r us parsed rise of.
@@ -199,14 +199,14 @@ module _ (D : Doubles) where
       let depth = suc d in
       let left : 0 < suc d = omega arith in
       let g = then_parsed (json.member l) (members (value depth) n) (value depth ts) ms r parsed in
-      let read : parse_map json.object (members_inside (depth - 1) s) ≡ Some (g.0, g.1) =
+      let read : parse_map json.object (members_after_brace (depth - 1) s) ≡ Some (g.0, g.1) =
       sym (ap (value depth) starts ∙ value-begin_object depth s left) ∙ g.3 in
-      let o = mapped_parse json.object (members_inside (depth - 1) s) g.0 g.1 read in
+      let o = mapped_parse json.object (members_after_brace (depth - 1) s) g.0 g.1 read in
       let a = split_kept (member l) (of_json g.0) (member_trees g.2) us (subst (λ x. member_trees x ≡ Some us) g.5 of) in
       let rises = subst MembersHaveAscendingKeys g.5 rise in
       let inner = subst HasSortedKeys o.2 rises.1 in
       let t = mapped object (of_members o.0 no_members) a.0 (subst (λ x. of_json x ≡ Some a.0) o.2 a.2) in
-      let now = subst (λ x. LocatesMembersError D x false (members_inside (depth - 1) s) mid) is (at left) in
+      let now = subst (λ x. LocatesMembersError D x false (members_after_brace (depth - 1) s) mid) is (at left) in
       let h = now o.0 g.1 t.0 o.1 inner (rising o.0 t.0 inner t.1) (λ yes. cc) in
       let k = passed n g.2 r (subst (λ x. members (value depth) n x ≡ Some (g.2, r)) (sym h.0) g.4) in (
         k.0,
@@ -244,19 +244,19 @@ module _ (D : Doubles) where
       let g = h o.0 l m.0 end a.1 o.1 rises.2 a.3 in
       (g.0, subst (λ v. IsPlaceOfFault v x) (sym same) g.1)) (at refl)
 
-  textless : (d : Data) (v : FaultAndPath) → as_str d ≡ None → code_fault d v ≡ wrong_shape_here
-  textless tree.null v is = refl
-  textless (tree.boolean b) v is = refl
-  textless (tree.number n) v is = refl
-  textless (tree.string s) v is = cc
-  textless (tree.array ds) v is = refl
-  textless (tree.object ms) v is = refl
+  not_a_string : (d : Data) (v : FaultAndPath) → as_str d ≡ None → code_fault d v ≡ wrong_shape_here
+  not_a_string tree.null v is = refl
+  not_a_string (tree.boolean b) v is = refl
+  not_a_string (tree.number n) v is = refl
+  not_a_string (tree.string s) v is = cc
+  not_a_string (tree.array ds) v is = refl
+  not_a_string (tree.object ms) v is = refl
 
   textless_found : (k l : List ℕ) (w : Wrapper) (d e : Data) (us : Members) (b : Bool) → wrapper_of k ≡ Some w
       → (bytes_eq k (codes "$code") && bytes_eq l (codes "$scope")) ≡ b → as_str d ≡ None
       → fault_in_tree D (object (member k d (member l e us))) ≡ wrong_shape_here
   textless_found k l w d e no_members true named are none = by_wrapper D k w d (member l e no_members) named
-      ∙ ap (λ x. cond x (code_fault d (scope_fault D e)) wrong_shape_here) are ∙ textless d (scope_fault D e) none
+      ∙ ap (λ x. cond x (code_fault d (scope_fault D e)) wrong_shape_here) are ∙ not_a_string d (scope_fault D e) none
   textless_found k l w d e no_members false named are none = by_wrapper D k w d (member l e no_members) named
       ∙ ap (λ x. cond x (code_fault d (scope_fault D e)) wrong_shape_here) are
   textless_found k l w d e (member m f us) b named are none = by_wrapper D k w d (member l e (member m f us)) named

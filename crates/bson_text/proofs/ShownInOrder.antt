@@ -6,22 +6,22 @@ use Rattle.json.specs.Strict.{AreDistinct}
 use Rattle.serde_json.specs.Written.{comma_if}
 use Rattle.bson_tokens.specs.declared.arrangement.Arrangement.{Arrangement}
 use Rattle.bson_tokens.specs.declared.arrangement.Arrangement.TheVariants.{FirstPositions}
-use Rattle.bson_model.specs.Displayed.{display_text, entry, entry_texts}
+use Rattle.bson_model.specs.Displayed.{display_text, displayed_entry, entry_texts}
 use Rattle.bson_model.specs.Value.{Pairs, no_pairs, pair, document}
-use Rattle.bson_text.specs.DisplayOutput.{member_front, separator_if, closing_brace, arranged_pairs, arranged_value}
+use Rattle.bson_text.specs.DisplayOutput.{display_with_comma, separator_if, closing_brace, arranged_pairs, arranged_value}
 use Rattle.bson_text.specs.DisplayOutput.{HasDisplayAdded, HasBegunDisplay, HasDisplayOfKey, HasDisplayOfPairs, HasDisplayOfValue}
 use Rattle.bson_text.specs.TraversalResults.{PairsWritten, keys_of, each_key_once}
-use Rattle.bson_text.specs.declared.sorted_writer.Mark.{Mark}
+use Rattle.bson_text.specs.declared.sorted_writer.ContainerStart.{ContainerStart}
 use Rattle.bson_text.specs.declared.display_writer.DisplayWriter.{DisplayWriter}
 use Rattle.bson_text.proofs.Once.{once_is}
 use Rattle.bson_text.proofs.ShownMembers.{member_text, same_order}
 use Rattle.bson_text.proofs.ShownTexts.{as_it_is}
 use Rattle.bson_text.proofs.Standing.{text_before}
 
--- the members, each behind a blank, with a comma before those behind another value
+-- the members, each after a blank, with a comma before those after another value
 abbrev members : Bool → Pairs → List ℕ
 members needs_comma no_pairs = []
-members needs_comma (pair k v ps) = comma_if needs_comma ++ ((codes " " ++ entry k (display_text v)) ++ members true ps)
+members needs_comma (pair k v ps) = comma_if needs_comma ++ ((codes " " ++ displayed_entry k (display_text v)) ++ members true ps)
 
 abbrev needs_comma_after : Bool → Pairs → Bool
 needs_comma_after needs_comma no_pairs = needs_comma
@@ -33,18 +33,18 @@ still_behind (pair k v ps) = refl
 
 members_after : (ps : Pairs) → members true ps ≡ flat_map (λ t. codes ", " ++ t) (entry_texts ps)
 members_after no_pairs = refl
-members_after (pair k v ps) = ap (λ l. codes ", " ++ (entry k (display_text v) ++ l)) (members_after ps)
+members_after (pair k v ps) = ap (λ l. codes ", " ++ (displayed_entry k (display_text v) ++ l)) (members_after ps)
 
 document_shown : (ps : Pairs)
     → codes "{" ++ (members false ps ++ closing_brace (needs_comma_after false ps)) ≡ display_text (document ps)
 document_shown no_pairs = refl
 document_shown (pair k v ps) =
-    ap (λ l. codes "{ " ++ ((entry k (display_text v) ++ l) ++ codes " }")) (members_after ps)
+    ap (λ l. codes "{ " ++ ((displayed_entry k (display_text v) ++ l) ++ codes " }")) (members_after ps)
 
--- what was written behind another state
+-- what was written after another state
 record Behind (ps : Pairs) (old new : DisplayWriter) : Type 0 where
   pub member_starts : List ℕ
-  pub start_count : new.member_starts.items ≡ old.member_starts.items ++ member_starts
+  pub outer_member_count : new.member_starts.items ≡ old.member_starts.items ++ member_starts
   pub text : new.text.items ≡ old.text.items ++ members old.needs_comma ps
   pub needs_comma : new.needs_comma ≡ needs_comma_after old.needs_comma ps
 
@@ -52,27 +52,27 @@ all_written : (ps : Pairs) (old new : DisplayWriter) → old.arrangement ≡ Fir
     → PairsWritten (λ a k v b. HasDisplayOfValue a v b) HasDisplayOfKey ps old new → Behind ps old new
 all_written no_pairs old new in_order is = record {
   member_starts = [];
-  start_count = ap (λ w. w.member_starts.items) (sym is) ∙ sym (append-nil old.member_starts.items);
+  outer_member_count = ap (λ w. w.member_starts.items) (sym is) ∙ sym (append-nil old.member_starts.items);
   text = ap (λ w. w.text.items) (sym is) ∙ sym (append-nil old.text.items);
   needs_comma = ap (λ w. w.needs_comma) (sym is);
 }
 all_written (pair k v ps) old new in_order (named, mid, wrote_key, wrote_value, more) =
     let rest = all_written ps mid new (wrote_value.1 ∙ wrote_key.1 ∙ in_order) more in
-    let own = codes " " ++ entry k (display_text v) in
+    let own = codes " " ++ displayed_entry k (display_text v) in
     record {
-      member_starts = length (member_front old) ∷ rest.member_starts;
-      start_count = rest.start_count ∙ ap (λ l. l ++ rest.member_starts) (wrote_value.2 ∙ wrote_key.2)
-          ∙ append_assoc old.member_starts.items (length (member_front old) ∷ []) rest.member_starts;
+      member_starts = length (display_with_comma old) ∷ rest.member_starts;
+      outer_member_count = rest.outer_member_count ∙ ap (λ l. l ++ rest.member_starts) (wrote_value.2 ∙ wrote_key.2)
+          ∙ append_assoc old.member_starts.items (length (display_with_comma old) ∷ []) rest.member_starts;
       text = rest.text ∙ ap (λ b. mid.text.items ++ members b ps) wrote_value.0
           ∙ ap (λ l. l ++ members true ps) (member_text k v old named mid wrote_key wrote_value
-          ∙ ap (λ a. member_front old ++ (codes " " ++ entry k (display_text (arranged_value a v)))) in_order
-          ∙ ap (λ w. member_front old ++ (codes " " ++ entry k (display_text w))) (as_it_is v))
-          ∙ append_assoc (member_front old) own (members true ps)
+          ∙ ap (λ a. display_with_comma old ++ (codes " " ++ displayed_entry k (display_text (arranged_value a v)))) in_order
+          ∙ ap (λ w. display_with_comma old ++ (codes " " ++ displayed_entry k (display_text w))) (as_it_is v))
+          ∙ append_assoc (display_with_comma old) own (members true ps)
           ∙ append_assoc old.text.items (comma_if old.needs_comma) (own ++ members true ps);
       needs_comma = rest.needs_comma ∙ ap (λ b. needs_comma_after b ps) wrote_value.0 ∙ still_behind ps;
     }
 
--- the text of the document behind what stood before it
+-- the text of the document after what preceded it
 whole : (before front mid now new : List ℕ) (ps : Pairs) → mid ≡ before ++ (front ++ codes "{")
     → now ≡ mid ++ members false ps → new ≡ now ++ closing_brace (needs_comma_after false ps)
     → new ≡ before ++ (front ++ display_text (document ps))
@@ -87,13 +87,13 @@ as_they_came : (a : Arrangement) (ps : Pairs) → a ≡ FirstPositions → AreDi
     → ps ≡ arranged_pairs a (each_key_once ps)
 as_they_came a ps is apart = sym (ap (λ o. arranged_pairs o (each_key_once ps)) is ∙ once_is ps apart)
 
--- the document's members, and the brace behind them
-pub document_added : (start mid now kept new : DisplayWriter) (mark : Mark) (ps : Pairs) → now.arrangement ≡ FirstPositions
+-- the document's members, and the brace after them
+pub document_added : (start mid now kept new : DisplayWriter) (mark : ContainerStart) (ps : Pairs) → now.arrangement ≡ FirstPositions
     → HasBegunDisplay start mark mid → PairsWritten (λ a k v b. HasDisplayOfValue a v b) HasDisplayOfKey ps mid now
     → AreDistinct (keys_of ps) → kept.text.items ≡ now.text.items → kept.arrangement ≡ now.arrangement
-    → kept.member_starts.items ≡ take mark.start_count now.member_starts.items → HasDisplayAdded kept (closing_brace now.needs_comma) true new
+    → kept.member_starts.items ≡ take mark.outer_member_count now.member_starts.items → HasDisplayAdded kept (closing_brace now.needs_comma) true new
     → HasDisplayOfPairs start (each_key_once ps) new
-document_added start mid now kept new mark ps in_order (here, start_count, (off, order, member_starts, text)) written apart same
+document_added start mid now kept new mark ps in_order (here, outer_member_count, (off, order, member_starts, text)) written apart same
     also cut (needs_comma, ordered, left, ended) =
     let first : mid.arrangement ≡ FirstPositions = sym (same_order ps mid now written) ∙ in_order in
     let all = all_written ps mid now first written in
@@ -102,8 +102,8 @@ document_added start mid now kept new mark ps in_order (here, start_count, (off,
       needs_comma,
       ordered ∙ also ∙ same_order ps mid now written ∙ order,
       left ∙ cut
-          ∙ text_before start.member_starts.items all.member_starts now.member_starts.items mark.start_count
-          (all.start_count ∙ ap (λ l. l ++ all.member_starts) member_starts) start_count,
+          ∙ text_before start.member_starts.items all.member_starts now.member_starts.items mark.outer_member_count
+          (all.outer_member_count ∙ ap (λ l. l ++ all.member_starts) member_starts) outer_member_count,
       whole start.text.items (separator_if start.needs_comma) mid.text.items now.text.items new.text.items ps text
           (all.text ∙ ap (λ b. mid.text.items ++ members b ps) off)
           (ended ∙ ap (λ l. l ++ closing_brace now.needs_comma) same ∙ ap (λ l. now.text.items ++ l) brace)

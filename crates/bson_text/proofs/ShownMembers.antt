@@ -6,17 +6,17 @@ use Rattle.std.proofs.lemmas.List.Elements.{All-head, All-tail}
 use Rattle.std.specs.List.{All, flat_map}
 use Rattle.std.specs.Cmp.Lexicographic.{slice_cmp}
 use Rattle.std.specs.Ordering.{match_ordering}
-use Rattle.bson_model.specs.Displayed.{display_text, entry, entry_texts}
+use Rattle.bson_model.specs.Displayed.{display_text, displayed_entry, entry_texts}
 use Rattle.bson_tokens.specs.declared.arrangement.Arrangement.TheVariants.{Ascending}
 use Rattle.bson_model.specs.Sorted.{insert_sorted_pair, sorted, sorted_pairs}
 use Rattle.bson_model.specs.StableOrder.{pairs_of}
 use Rattle.bson_model.specs.Value.{Value, Pairs, no_pairs, pair, document}
-use Rattle.bson_text.specs.MemberSpans.{span_key, open_text, object_text, ValuesByStart, value_of_span, IsMemberSpan}
-use Rattle.bson_text.specs.DisplayOutput.{display_with_separator, member_front, separator_if, HasBegunDisplay, HasDisplayOfValue, HasDisplayOfKey}
+use Rattle.bson_text.specs.MemberSpans.{span_key, unfinished_text, object_text, ValuesByStart, value_of_span, IsMemberSpan}
+use Rattle.bson_text.specs.DisplayOutput.{display_with_separator, display_with_comma, separator_if, HasBegunDisplay, HasDisplayOfValue, HasDisplayOfKey}
 use Rattle.bson_text.specs.DisplayOutput.{arranged_value}
 use Rattle.bson_text.specs.TraversalResults.{PairsWritten, keys_of, each_key_once}
 use Rattle.bson_text.specs.declared.member_spans.MemberSpan.{MemberSpan}
-use Rattle.bson_text.specs.declared.sorted_writer.Mark.{Mark}
+use Rattle.bson_text.specs.declared.sorted_writer.ContainerStart.{ContainerStart}
 use Rattle.bson_text.specs.declared.display_writer.DisplayWriter.{DisplayWriter}
 use Rattle.bson_text.proofs.SpansInOrder.{HasMembers, closed}
 use Rattle.bson_text.proofs.ShownTexts.{as_sorted}
@@ -25,31 +25,31 @@ use Rattle.bson_text.proofs.Standing.{Seen, MemberAdded, MembersAdded, DocumentS
 
 -- a member's text, with the blank in front of it
 abbrev pub IsShownMember : List ℕ → Value → List ℕ → Type 0
-IsShownMember k v s = s ≡ codes " " ++ entry k (display_text v)
+IsShownMember k v s = s ≡ codes " " ++ displayed_entry k (display_text v)
 
 abbrev pub seen : DisplayWriter → Seen
 seen w = record { text = w.text.items; member_starts = w.member_starts.items; needs_comma = w.needs_comma }
 
--- the key and the value behind it are the member's text
+-- the key and the value after it are the member's text
 pub member_text : (k : List ℕ) (v : Value) (old named new : DisplayWriter) → HasDisplayOfKey old k named → HasDisplayOfValue named v new
-    → new.text.items ≡ member_front old ++ (codes " " ++ entry k (display_text (arranged_value old.arrangement v)))
+    → new.text.items ≡ display_with_comma old ++ (codes " " ++ displayed_entry k (display_text (arranged_value old.arrangement v)))
 member_text k v old named new (off, order, begins, key) (after, same, kept, text) =
     let t = display_text (arranged_value old.arrangement v) in
     text ∙ ap (λ a. named.text.items ++ (separator_if named.needs_comma ++ display_text (arranged_value a v))) order
     ∙ ap (λ b. named.text.items ++ (separator_if b ++ t)) off ∙ ap (λ l. l ++ t) key
-    ∙ append_assoc (member_front old) (codes " \"" ++ (k ++ codes "\": ")) t
-    ∙ ap (λ l. member_front old ++ (codes " \"" ++ l)) (append_assoc k (codes "\": ") t)
+    ∙ append_assoc (display_with_comma old) (codes " \"" ++ (k ++ codes "\": ")) t
+    ∙ ap (λ l. display_with_comma old ++ (codes " \"" ++ l)) (append_assoc k (codes "\": ") t)
 
 one_added : (k : List ℕ) (v : Value) (old named new : DisplayWriter) → old.arrangement ≡ Ascending
     → HasDisplayOfKey old k named → HasDisplayOfValue named v new → MemberAdded IsShownMember k v (seen old) (seen new)
 one_added k v old named new ascending wrote_key wrote_value =
     record {
-      own = codes " " ++ entry k (display_text (sorted v));
+      own = codes " " ++ displayed_entry k (display_text (sorted v));
       is_text = refl;
       some = omega arith;
       text = member_text k v old named new wrote_key wrote_value
-          ∙ ap (λ a. member_front old ++ (codes " " ++ entry k (display_text (arranged_value a v)))) ascending
-          ∙ ap (λ w. member_front old ++ (codes " " ++ entry k (display_text w))) (as_sorted v);
+          ∙ ap (λ a. display_with_comma old ++ (codes " " ++ displayed_entry k (display_text (arranged_value a v)))) ascending
+          ∙ ap (λ w. display_with_comma old ++ (codes " " ++ displayed_entry k (display_text w))) (as_sorted v);
       member_starts = wrote_value.2 ∙ wrote_key.2;
       needs_comma = wrote_value.0;
     }
@@ -70,12 +70,12 @@ same_order no_pairs old new is = ap (λ w. w.arrangement) (sym is)
 same_order (pair k v ps) old new (named, mid, wrote_key, wrote_value, more) = same_order ps mid new more ∙ wrote_value.1 ∙ wrote_key.1
 
 -- the document that is open
-pub document_stands : (start mid now : DisplayWriter) (mark : Mark) (ps : Pairs) (ks : List (Bor (List ℕ)))
+pub document_stands : (start mid now : DisplayWriter) (mark : ContainerStart) (ps : Pairs) (ks : List (Bor (List ℕ)))
     → HasBegunDisplay start mark mid → PairsWritten (λ a k v b. HasDisplayOfValue a v b) HasDisplayOfKey ps mid now
     → keys_of ps ≡ map (λ k. k.now) ks → now.arrangement ≡ Ascending
     → DocumentStands IsShownMember (display_with_separator start) start.member_starts.items (seen now) mark ks ps
-document_stands start mid now mark ps ks (here, start_count, (off, order, kept, text)) written named ascending =
-    opened_document IsShownMember (display_with_separator start) start.member_starts.items (seen mid) (seen now) mark ps ks here start_count
+document_stands start mid now mark ps ks (here, outer_member_count, (off, order, kept, text)) written named ascending =
+    opened_document IsShownMember (display_with_separator start) start.member_starts.items (seen mid) (seen now) mark ps ks here outer_member_count
     (text ∙ sym (append_assoc start.text.items (separator_if start.needs_comma) (codes "{"))) kept off
     (members_added ps mid now (sym (same_order ps mid now written) ∙ ascending) written) named
 
@@ -120,30 +120,30 @@ module _ (texts : List ℕ) (values : ValuesByStart) where
   entries ps = entry_texts (pairs_of span_key (value_of_span values) ps)
 
   members_after : (ps : List MemberSpan) → All IsOne ps
-      → open_text texts true ps ≡ flat_map (λ t. codes ", " ++ t) (entries ps)
+      → unfinished_text texts true ps ≡ flat_map (λ t. codes ", " ++ t) (entries ps)
   members_after [] h = refl
   members_after (p ∷ ps) h =
-      ap (λ l. 44 ∷ (l ++ open_text texts true ps)) (All-head IsOne p ps h).1
-      ∙ ap (λ l. codes ", " ++ (entry (span_key p) (display_text (value_of_span values p)) ++ l))
+      ap (λ l. 44 ∷ (l ++ unfinished_text texts true ps)) (All-head IsOne p ps h).1
+      ∙ ap (λ l. codes ", " ++ (displayed_entry (span_key p) (display_text (value_of_span values p)) ++ l))
       (members_after ps (All-tail IsOne p ps h))
 
   -- some members, and a blank before the brace
   some_shown : (p : MemberSpan) (ps : List MemberSpan) → All IsOne (p ∷ ps)
-      → (123 ∷ open_text texts false (p ∷ ps)) ++ codes " }"
+      → (123 ∷ unfinished_text texts false (p ∷ ps)) ++ codes " }"
       ≡ display_text (document (pairs_of span_key (value_of_span values) (p ∷ ps)))
   some_shown p ps h =
-      ap (λ l. 123 ∷ ((l ++ open_text texts true ps) ++ codes " }")) (All-head IsOne p ps h).1
-      ∙ ap (λ l. codes "{ " ++ ((entry (span_key p) (display_text (value_of_span values p)) ++ l) ++ codes " }"))
+      ap (λ l. 123 ∷ ((l ++ unfinished_text texts true ps) ++ codes " }")) (All-head IsOne p ps h).1
+      ∙ ap (λ l. codes "{ " ++ ((displayed_entry (span_key p) (display_text (value_of_span values p)) ++ l) ++ codes " }"))
       (members_after ps (All-tail IsOne p ps h))
 
   -- the text without its last byte
   without_brace : (before new : List ℕ) (ps : List MemberSpan) → new ≡ before ++ object_text texts ps
-      → take (length new - 1) new ≡ before ++ 123 ∷ open_text texts false ps
+      → take (length new - 1) new ≡ before ++ 123 ∷ unfinished_text texts false ps
   without_brace before new ps is =
-      let front = before ++ 123 ∷ open_text texts false ps in
+      let front = before ++ 123 ∷ unfinished_text texts false ps in
       let whole : new ≡ front ++ 125 ∷ [] =
       is ∙ ap (λ l. before ++ 123 ∷ l) (sym (closed texts false ps))
-      ∙ sym (append_assoc before (123 ∷ open_text texts false ps) (125 ∷ [])) in
+      ∙ sym (append_assoc before (123 ∷ unfinished_text texts false ps) (125 ∷ [])) in
       text_before front (125 ∷ []) new (length new - 1) whole
       (omega (arith, ap length whole, length-append front (125 ∷ [])))
 
@@ -154,7 +154,7 @@ module _ (texts : List ℕ) (values : ValuesByStart) where
   shown_at before new [] all some is = cc
   shown_at before new (p ∷ ps) all some is =
       ap (λ l. l ++ codes " }") (without_brace before new (p ∷ ps) is)
-      ∙ append_assoc before (123 ∷ open_text texts false (p ∷ ps)) (codes " }")
+      ∙ append_assoc before (123 ∷ unfinished_text texts false (p ∷ ps)) (codes " }")
       ∙ ap (λ l. before ++ l) (some_shown p ps all)
 
   none_at : (before new : List ℕ) (ps : List MemberSpan) → no_pairs ≡ pairs_of span_key (value_of_span values) ps

@@ -1,4 +1,4 @@
--- Texts that a writer of the text that shows values puts one after another.
+-- Texts that a writer of the text that shows values writes one after another.
 use Rattle.std.proofs.Common.{◌≡◌, ℕ, ◌+◌, Bool, true, false, List, [], ◌∷◌, ◌++◌, codes, refl, sym, ap}
 use Rattle.std.proofs.Common.{◌∙◌, subst, append_assoc}
 use Rattle.std.specs.List.{flat_map}
@@ -10,7 +10,7 @@ use Rattle.bson_model.specs.Sorted.{sorted, sorted_items}
 use Rattle.bson_model.specs.Value as model
 use Rattle.bson_model.specs.Value.{Value, Values, no_values, code_scope, document}
 use Rattle.bson_model.specs.OrderedTexts.{HasMeaningInOrder}
-use Rattle.bson_text.specs.OutputTexts.{IsShownTextBy}
+use Rattle.bson_text.specs.OutputTexts.{IsShownTextArranged}
 use Rattle.bson_text.specs.DisplayOutput.{HasDisplayAdded, HasDisplayAfterSeparator, HasDisplayOfValue, separator_if}
 use Rattle.bson_text.specs.DisplayOutput.{arranged_items, arranged_value}
 use Rattle.bson_text.specs.TraversalResults.{ItemsWritten}
@@ -110,7 +110,7 @@ whole_shown old new v a (after, same, member_starts, shown) order first none =
 
 pub text_shown : (D : Doubles) (a : Arrangement) (text : List ℕ) (old new : DisplayWriter)
     → (v : Value) × HasMeaningInOrder D text v × HasDisplayOfValue old v new → old.arrangement ≡ a → old.needs_comma ≡ false
-    → old.text.items ≡ [] → IsShownTextBy D a text new.text.items
+    → old.text.items ≡ [] → IsShownTextArranged D a text new.text.items
 text_shown D FirstPositions text old new (v, meaning, added) order first none = record {
   value = v;
   meaning = meaning;

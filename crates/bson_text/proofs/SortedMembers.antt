@@ -13,13 +13,13 @@ use Rattle.bson_scalar.specs.declared.form.Form.{Form}
 use Rattle.bson_model.specs.Sorted.{sorted}
 use Rattle.bson_model.specs.StableOrder.{pairs_of}
 use Rattle.bson_model.specs.Value.{Value, Pairs, no_pairs, pair}
-use Rattle.bson_model.specs.Writing.{writes_in, writes_pairs_in}
-use Rattle.bson_text.specs.MemberSpans.{span_key, members_text, Ascend}
+use Rattle.bson_model.specs.Writing.{writes_value_in, writes_pairs_in}
+use Rattle.bson_text.specs.MemberSpans.{span_key, members_text, SpanKeysAscend}
 use Rattle.bson_text.specs.MemberSpans.{ValuesByStart, value_of_span, IsMemberSpan, IsMemberText}
 use Rattle.bson_text.specs.SortedOutput.{output_with_comma, HasBegunObject, HasSortedValue, HasKeyAdded}
 use Rattle.bson_text.specs.TraversalResults.{PairsWritten, keys_of}
 use Rattle.bson_text.specs.declared.member_spans.MemberSpan.{MemberSpan}
-use Rattle.bson_text.specs.declared.sorted_writer.Mark.{Mark}
+use Rattle.bson_text.specs.declared.sorted_writer.ContainerStart.{ContainerStart}
 use Rattle.bson_text.specs.declared.sorted_writer.SortedWriter.{SortedWriter}
 use Rattle.bson_text.proofs.PartTexts.{printed_members, no_more_members, one_more_member, object_printed}
 use Rattle.bson_text.proofs.SpansInOrder.{HasMembers}
@@ -38,8 +38,8 @@ module _ (D : Doubles) (f : Form) where
         own = quoted k ++ 58 ∷ text_of t;
         is_text = (
           t,
-          ap (λ E. writes_in E f (sorted v)) (sym (key_mode ∙ mode))
-              ∙ ap (λ g. writes_in named.doubles g (sorted v)) (sym (key_form ∙ form)) ∙ w,
+          ap (λ E. writes_value_in E f (sorted v)) (sym (key_mode ∙ mode))
+              ∙ ap (λ g. writes_value_in named.doubles g (sorted v)) (sym (key_form ∙ form)) ∙ w,
           refl,
         );
         some = omega (arith, length-append (quoted k) (58 ∷ text_of t));
@@ -62,18 +62,18 @@ module _ (D : Doubles) (f : Form) where
       (end_mode, end_form, (seen mid, one_added k v old named mid mode form wrote_key wrote_value, rest))
 
 -- the document that is open, in the writer's mode and form
-pub document_stands : (start mid now : SortedWriter) (mark : Mark) (ps : Pairs) (ks : List (Bor (List ℕ)))
+pub document_stands : (start mid now : SortedWriter) (mark : ContainerStart) (ps : Pairs) (ks : List (Bor (List ℕ)))
     → HasBegunObject start mark mid → PairsWritten (λ a k v b. HasSortedValue a v b) HasKeyAdded ps mid now
     → keys_of ps ≡ map (λ k. k.now) ks
     → (now.doubles ≡ start.doubles) × (now.form ≡ start.form)
     × DocumentStands (IsMemberText start.doubles start.form) (output_with_comma start) start.member_starts.items (seen now) mark ks ps
-document_stands start mid now mark ps ks (here, start_count, (mode, form, off, kept, text)) written named =
+document_stands start mid now mark ps ks (here, outer_member_count, (mode, form, off, kept, text)) written named =
     let (end_mode, end_form, added) = members_added start.doubles start.form ps mid now mode form written in
     let begins = text ∙ sym (append_assoc start.text.items (comma_if start.needs_comma) (123 ∷ [])) in (
       end_mode,
       end_form,
       opened_document (IsMemberText start.doubles start.form) (output_with_comma start) start.member_starts.items (seen mid) (seen now)
-          mark ps ks here start_count begins kept off added named,
+          mark ps ks here outer_member_count begins kept off added named,
     )
 
 -- ---- the text of the object
@@ -83,10 +83,10 @@ module _ (D : Doubles) (f : Form) (texts : List ℕ) (values : ValuesByStart) wh
   IsOne = IsMemberSpan (IsMemberText D f) texts values
 
   -- the texts of members by ascending key are the text of their trees, to which one of a lesser key comes first
-  spans_written : (needs_comma : Bool) (last : Option (List ℕ)) (ps : List MemberSpan) → Ascend last ps → All IsOne ps
+  spans_written : (needs_comma : Bool) (last : Option (List ℕ)) (ps : List MemberSpan) → SpanKeysAscend last ps → All IsOne ps
       → (ms : Members) × (writes_pairs_in D f (pairs_of span_key (value_of_span values) ps) ≡ Ok ms)
       × (members_text texts needs_comma ps ≡ printed_members needs_comma ms)
-      × ((k : List ℕ) (d : Data) → Ascend (Some k) ps → put k d ms ≡ member k d ms)
+      × ((k : List ℕ) (d : Data) → SpanKeysAscend (Some k) ps → put k d ms ≡ member k d ms)
   spans_written needs_comma last [] up h = (no_members, refl, sym (no_more_members needs_comma), λ k d up. refl)
   spans_written needs_comma last (p ∷ ps) up h =
       let here = All-head IsOne p ps h in

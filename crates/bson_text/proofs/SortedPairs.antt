@@ -1,4 +1,4 @@
--- Pairs put by ascending key: the later value of a key stays.
+-- Pairs inserted by ascending key: the later value of a key stays.
 use Rattle.std.proofs.Common.{◌≡◌, ℕ, List, true, false, Bool, Less, Equal, Greater, Ordering, nat_cmp, bytes_eq, refl, sym, ap, ◌∙◌, cond}
 use Rattle.std.proofs.Common.{subst}
 use Rattle.std.proofs.lemmas.Cmp.{nat_list_cmp_total, tied_itself}
@@ -42,7 +42,7 @@ set_sorted : (k : List ℕ) (v : Value) (ps : Pairs)
 set_sorted k v no_pairs = refl
 set_sorted k v (pair l w ps) = set_at (bytes_eq k l) k l v w ps refl (set_sorted k v ps)
 
--- the pairs after each of others, whose value is sorted, is put to them
+-- the pairs after each of others, whose value is sorted, is inserted into them
 abbrev pub put_in_turn : Pairs → Pairs → Pairs
 put_in_turn no_pairs found = found
 put_in_turn (pair k v ps) found = put_in_turn ps (insert_sorted_pair k (sorted v) found)

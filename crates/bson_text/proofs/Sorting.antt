@@ -1,4 +1,4 @@
--- Texts that a writer of a text with ascending keys puts one after another.
+-- Texts that a writer of a text with ascending keys writes one after another.
 use Rattle.std.proofs.Common.{◌≡◌, ℕ, ◌+◌, Bool, true, false, List, [], ◌∷◌, ◌++◌, Result, Ok, Err, refl, sym, ap, ◌∙◌}
 use Rattle.std.proofs.Common.{subst, append_assoc, MatchResult}
 use Rattle.std.specs.Result.{IsErrAnd}
@@ -6,7 +6,7 @@ use Rattle.json.specs.Print.{print}
 use Rattle.json.specs.Token.{Token}
 use Rattle.serde_json.specs.Data.{Data, Items, no_items, item, array, object}
 use Rattle.serde_json.specs.Written.{comma_if}
-use Rattle.bson_scalar.specs.Tokens.{tokens_of, code_tokens, Puts}
+use Rattle.bson_scalar.specs.Tokens.{tokens_of, code_tokens, AppendsTreeTokens}
 use Rattle.bson_scalar.specs.TreeText.{text_of}
 use Rattle.bson_scalar.specs.Written.{WriteFault}
 use Rattle.bson_scalar.specs.declared.form.Doubles.{Doubles}
@@ -15,7 +15,7 @@ use Rattle.bson_scalar.proofs.Offered.{text_is}
 use Rattle.bson_model.specs.Sorted.{sorted, sorted_items, sorted_pairs}
 use Rattle.bson_model.specs.Value as model
 use Rattle.bson_model.specs.Value.{Value, Values, no_values, Pairs, code_scope, document}
-use Rattle.bson_model.specs.Writing.{writes_in, writes_items_in, writes_pairs_in, with_scope}
+use Rattle.bson_model.specs.Writing.{writes_value_in, writes_items_in, writes_pairs_in, with_scope}
 use Rattle.bson_model.proofs.Offered.{has_no_float, has_text_in, in_range_in, read_tree, tree_is_in}
 use Rattle.bson_model.specs.OrderedTexts.{HasMeaningInOrder}
 use Rattle.bson_text.specs.OutputTexts.{IsSortedText}
@@ -49,7 +49,7 @@ part_added a b c needs_comma old new ts comma part none is =
     as_text a c _ _ needs_comma (ap (λ l. comma_if a.needs_comma ++ print l) (is ∙ ap (λ l. l ++ ts) none))
     (joined a b c (comma_if a.needs_comma) (print new) a.needs_comma needs_comma comma part)
 
-pub printed : (r : Result Data WriteFault) (old new : List Token) → Puts (Ok tt) r old new
+pub printed : (r : Result Data WriteFault) (old new : List Token) → AppendsTreeTokens (Ok tt) r old new
     → (t : Data) × (r ≡ Ok t) × (new ≡ old ++ tokens_of t)
 printed (Ok t) old new h = (t, refl, h)
 printed (Err e) old new h = absurd h
@@ -129,15 +129,15 @@ pub text_sorted : (D : Doubles) (f : Form) (text : List ℕ) (old new : SortedWr
     → old.needs_comma ≡ false → old.text.items ≡ [] → IsSortedText D f text new.text.items
 text_sorted D f text old new (v, meaning, (u, w, put)) mode form first none =
     let (s, whole, meant) = meaning.by_default in
-    let writes : writes_in D f (sorted v) ≡ Ok u =
-    ap (λ E. writes_in E f (sorted v)) (sym mode) ∙ ap (λ g. writes_in old.doubles g (sorted v)) (sym form) ∙ w in
-    let ranged = in_range_in D meant.means (read_tree text s whole) in
+    let writes : writes_value_in D f (sorted v) ≡ Ok u =
+    ap (λ E. writes_value_in E f (sorted v)) (sym mode) ∙ ap (λ g. writes_value_in old.doubles g (sorted v)) (sym form) ∙ w in
+    let within_type_range = in_range_in D meant.means (read_tree text s whole) in
     record {
       value = sorted v;
       meaning = meaning.by_default;
       tree = u;
-      is_tree = tree_is_in D f (sorted v) u writes ranged;
-      reads_again = λ plain. has_text_in D f (sorted v) u writes plain ranged;
+      is_tree = tree_is_in D f (sorted v) u writes within_type_range;
+      reads_again = λ plain. has_text_in D f (sorted v) u writes plain within_type_range;
       compact = put.4 ∙ ap (λ l. l ++ (comma_if old.needs_comma ++ text_of u)) none
           ∙ ap (λ b. comma_if b ++ text_of u) first
           ∙ sym (text_is D f u (has_no_float D f (sorted v) u writes));

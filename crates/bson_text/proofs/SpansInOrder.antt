@@ -14,9 +14,9 @@ use Rattle.bson_model.specs.Sorted.{insert_sorted_pair, IsBelowKeys, KeysAscend}
 use Rattle.bson_model.specs.StableOrder.{insert_each, pairs_of}
 use Rattle.bson_model.specs.Value.{Value, Pairs, no_pairs}
 use Rattle.bson_model.proofs.Offered.{turned, put_ascending}
-use Rattle.bson_text.specs.MemberSpans.{span_key, span_text, open_text, members_text, object_text, Ascend}
-use Rattle.bson_tokens.specs.PutMembers.{KeyFollows, KeysAscendFrom}
-use Rattle.bson_text.specs.MemberSpans.{last_of_each_key, next_has_key, IsOpenObject, IsObjectWritten, ValuesByStart, value_of_span, IsMemberSpan}
+use Rattle.bson_text.specs.MemberSpans.{span_key, span_text, unfinished_text, members_text, object_text, SpanKeysAscend}
+use Rattle.bson_tokens.specs.PutMembers.{KeyIsGreater, KeysAscendFrom}
+use Rattle.bson_text.specs.MemberSpans.{last_of_each_key, next_has_key, IsUnfinishedObject, IsObjectWritten, ValuesByStart, value_of_span, IsMemberSpan}
 use Rattle.bson_text.specs.MemberSpans.{spans_from}
 use Rattle.bson_text.specs.declared.member_spans.MemberSpan.{MemberSpan}
 use Rattle.bson_text.proofs.SortedPairs.{put_twice}
@@ -46,30 +46,30 @@ next_joined texts needs_comma p ps left old mid new is comma text =
     ∙ ap (λ l. old ++ members_text texts needs_comma l) (sym is)
 
 pub next_ascends : (last : Option (List ℕ)) (p : MemberSpan) (ps left : List MemberSpan) → left ≡ p ∷ ps
-    → KeyFollows last (span_key p) → Ascend (Some (span_key p)) ps → Ascend last left
-next_ascends last p ps left is follows up = subst (Ascend last) (sym is) (follows, up)
+    → KeyIsGreater last (span_key p) → SpanKeysAscend (Some (span_key p)) ps → SpanKeysAscend last left
+next_ascends last p ps left is follows up = subst (SpanKeysAscend last) (sym is) (follows, up)
 
 -- pieces ascend whose keys do
-pub spans_ascend : (last : Option (List ℕ)) (ks : List (Bor (List ℕ))) (member_starts : List ℕ) (end : ℕ)
-    → KeysAscendFrom last (map (λ k. k.now) ks) → Ascend last (spans_from ks member_starts end)
-spans_ascend last [] member_starts end up = tt
-spans_ascend last (k ∷ ks) [] end up = tt
-spans_ascend last (k ∷ ks) (s ∷ member_starts) end up = (up.0, spans_ascend (Some k.now) ks member_starts end up.1)
+pub span_keys_ascend : (last : Option (List ℕ)) (ks : List (Bor (List ℕ))) (member_starts : List ℕ) (end : ℕ)
+    → KeysAscendFrom last (map (λ k. k.now) ks) → SpanKeysAscend last (spans_from ks member_starts end)
+span_keys_ascend last [] member_starts end up = tt
+span_keys_ascend last (k ∷ ks) [] end up = tt
+span_keys_ascend last (k ∷ ks) (s ∷ member_starts) end up = (up.0, span_keys_ascend (Some k.now) ks member_starts end up.1)
 
-least_of : (values : ValuesByStart) (k l : List ℕ) (ps : List MemberSpan) → slice_cmp nat_cmp k l ≡ Less → Ascend (Some l) ps
+least_of : (values : ValuesByStart) (k l : List ℕ) (ps : List MemberSpan) → slice_cmp nat_cmp k l ≡ Less → SpanKeysAscend (Some l) ps
     → IsBelowKeys k (pairs_of span_key (value_of_span values) ps)
 least_of values k l [] less up = tt
 least_of values k l (p ∷ ps) less up =
     let first = nat_list_cmp_total.trans k l (span_key p) less up.0 in
     (first, least_of values k (span_key p) ps first up.1)
 
-ascending_pairs : (values : ValuesByStart) (last : Option (List ℕ)) (ps : List MemberSpan) → Ascend last ps
+ascending_pairs : (values : ValuesByStart) (last : Option (List ℕ)) (ps : List MemberSpan) → SpanKeysAscend last ps
     → KeysAscend (pairs_of span_key (value_of_span values) ps)
 ascending_pairs values last [] up = tt
 ascending_pairs values last (p ∷ ps) up =
     (least_after values (span_key p) ps up.1, ascending_pairs values (Some (span_key p)) ps up.1)
   where
-    least_after : (values : ValuesByStart) (k : List ℕ) (ps : List MemberSpan) → Ascend (Some k) ps
+    least_after : (values : ValuesByStart) (k : List ℕ) (ps : List MemberSpan) → SpanKeysAscend (Some k) ps
         → IsBelowKeys k (pairs_of span_key (value_of_span values) ps)
     least_after values k [] up = tt
     least_after values k (p ∷ ps) up = (up.0, least_of values k (span_key p) ps up.0 up.1)
@@ -88,7 +88,7 @@ module _ (values : ValuesByStart) where
   abbrev put_spans : List MemberSpan → Pairs → Pairs
   put_spans = insert_each span_key (value_of_span values)
 
-  -- one that stands again is put for nothing
+  -- one whose key occurs again is inserted without effect
   put_again : (p : MemberSpan) (ps : List MemberSpan) (qs : Pairs) → next_has_key (span_key p) ps ≡ true
       → put_spans ps (insert_sorted_pair (span_key p) (value_of_span values p) qs) ≡ put_spans ps qs
   put_again p [] qs again = cc
@@ -118,7 +118,7 @@ pub all_last : (P : MemberSpan → Type 0) (ps : List MemberSpan) → All P ps �
 all_last P [] h = h
 all_last P (p ∷ ps) h = all_last_at _ P p ps refl (All-head P p ps h) (all_last P ps (All-tail P p ps h))
 
-stands_once : (k : List ℕ) (ps : List MemberSpan) → Ascend (Some k) ps → next_has_key k ps ≡ false
+stands_once : (k : List ℕ) (ps : List MemberSpan) → SpanKeysAscend (Some k) ps → next_has_key k ps ≡ false
 stands_once k [] up = refl
 stands_once k (p ∷ ps) up = reported _ refl
   where
@@ -131,22 +131,22 @@ stands_once k (p ∷ ps) up = reported _ refl
         cc
 
 -- where the keys ascend each piece is its key's last
-last_of_ascending : (last : Option (List ℕ)) (ps : List MemberSpan) → Ascend last ps → last_of_each_key ps ≡ ps
+last_of_ascending : (last : Option (List ℕ)) (ps : List MemberSpan) → SpanKeysAscend last ps → last_of_each_key ps ≡ ps
 last_of_ascending last [] up = refl
 last_of_ascending last (p ∷ ps) up =
     rw (stands_once (span_key p) ps up.1) (ap (λ l. p ∷ l) (last_of_ascending (Some (span_key p)) ps up.1))
 
 pub closed : (texts : List ℕ) (needs_comma : Bool) (ps : List MemberSpan)
-    → open_text texts needs_comma ps ++ 125 ∷ [] ≡ members_text texts needs_comma ps
+    → unfinished_text texts needs_comma ps ++ 125 ∷ [] ≡ members_text texts needs_comma ps
 closed texts needs_comma [] = refl
 closed texts needs_comma (p ∷ ps) =
     let s = span_text texts p in
-    append_assoc (comma_if needs_comma) (s ++ open_text texts true ps) (125 ∷ [])
-    ∙ ap (λ l. comma_if needs_comma ++ l) (append_assoc s (open_text texts true ps) (125 ∷ [])
+    append_assoc (comma_if needs_comma) (s ++ unfinished_text texts true ps) (125 ∷ [])
+    ∙ ap (λ l. comma_if needs_comma ++ l) (append_assoc s (unfinished_text texts true ps) (125 ∷ [])
     ∙ ap (λ l. s ++ l) (closed texts true ps))
 
 -- an object whose keys ascend is ended by its brace
-pub ended_in_place : (old texts new : List ℕ) (ps : List MemberSpan) → IsOpenObject old texts ps → Ascend None ps
+pub ended_in_place : (old texts new : List ℕ) (ps : List MemberSpan) → IsUnfinishedObject old texts ps → SpanKeysAscend None ps
     → new ≡ texts ++ 125 ∷ [] → IsObjectWritten ps old texts new
 ended_in_place old texts new ps began_document up is =
     let same = last_of_ascending None ps up in (
@@ -155,20 +155,20 @@ ended_in_place old texts new ps began_document up is =
         ps,
         λ p. refl,
         IsPermutation-refl ps,
-        subst (Ascend None) (sym same) up,
+        subst (SpanKeysAscend None) (sym same) up,
         ap (object_text texts) (sym same),
       ),
-      is ∙ ap (λ l. l ++ 125 ∷ []) began_document ∙ append_assoc old (123 ∷ open_text texts false ps) (125 ∷ [])
+      is ∙ ap (λ l. l ++ 125 ∷ []) began_document ∙ append_assoc old (123 ∷ unfinished_text texts false ps) (125 ∷ [])
           ∙ ap (λ l. old ++ 123 ∷ l) (closed texts false ps),
     )
 
 -- ---- the object
 
--- an object was ended with these members behind the old text, by ascending key, whose pairs are those that were put
+-- an object was ended with these members after the old text, by ascending key, whose pairs are those that were inserted
 pub record HasMembers (IsText : List ℕ → Value → List ℕ → Type 0) (old texts new : List ℕ) (put : Pairs) : Type 0 where
   pub values : ValuesByStart
   pub members : List MemberSpan
-  pub up : Ascend None members
+  pub up : SpanKeysAscend None members
   pub all : All (IsMemberSpan IsText texts values) members
   pub pairs : put ≡ pairs_of span_key (value_of_span values) members
   pub text : new ≡ old ++ object_text texts members

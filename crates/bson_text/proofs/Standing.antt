@@ -9,12 +9,12 @@ use Rattle.std.specs.List.{All}
 use Rattle.serde_json.specs.Written.{comma_if}
 use Rattle.bson_model.specs.Sorted.{insert_sorted_pair, sorted, sorted_pairs}
 use Rattle.bson_model.specs.Value.{Value, Pairs, no_pairs, pair, document}
-use Rattle.bson_text.specs.MemberSpans.{span_key, span_text, end_before_next, spans_from, open_text}
-use Rattle.bson_text.specs.MemberSpans.{ValuesByStart, value_of_span, IsObjectWritten, IsOpenObject, IsMemberSpan, IsSpanWithin}
+use Rattle.bson_text.specs.MemberSpans.{span_key, span_text, end_before_next, spans_from, unfinished_text}
+use Rattle.bson_text.specs.MemberSpans.{ValuesByStart, value_of_span, IsObjectWritten, IsUnfinishedObject, IsMemberSpan, IsSpanWithin}
 use Rattle.bson_model.specs.StableOrder.{insert_each}
 use Rattle.bson_text.specs.TraversalResults.{keys_of, each_key_once}
 use Rattle.bson_text.specs.declared.member_spans.MemberSpan.{MemberSpan}
-use Rattle.bson_text.specs.declared.sorted_writer.Mark.{Mark}
+use Rattle.bson_text.specs.declared.sorted_writer.ContainerStart.{ContainerStart}
 use Rattle.bson_text.proofs.SpansInOrder.{HasMembers, object_in_order}
 use Rattle.bson_text.proofs.SortedPairs.{put_in_turn, once_sorted}
 
@@ -54,7 +54,7 @@ module _ (values : ValuesByStart) (v : Value) (at : ℕ) where
 
 -- ---- members that are added
 
--- what is seen of a writer: the text, the member_starts of the members of open documents, and whether a value stands before
+-- what is seen of a writer: its text, the member_starts of open documents, and whether a value precedes
 -- what comes next
 pub record Seen : Type 0 where
   pub text : List ℕ
@@ -94,17 +94,17 @@ text_before old more text start is end =
 module _ (IsText : List ℕ → Value → List ℕ → Type 0) where
   -- ---- the members of a document
 
-  -- the piece is one of a value in the text, and member_starts behind the front
+  -- the piece is one of a value in the text, and member_starts after the front
   abbrev StandsBehind : List ℕ → ℕ → ValuesByStart → MemberSpan → Type 0
   StandsBehind text front values p = (front ≤ p.start) × IsMemberSpan IsText text values p
 
-  -- the text behind the front is that of the pieces of pairs, whose values are put sorted
+  -- the text after the front is that of the pieces of pairs, whose values are inserted sorted
   pub record Stand (text front : List ℕ) (needs_comma : Bool) (ks : List Key) (member_starts : List ℕ) (ps : Pairs) : Type 0 where
     pub values : ValuesByStart
     pub all : All (StandsBehind text (length front) values) (spans_from ks member_starts (length text))
     pub put : (qs : Pairs)
         → insert_each span_key (value_of_span values) (spans_from ks member_starts (length text)) qs ≡ put_in_turn ps qs
-    pub began_document : text ≡ front ++ open_text text needs_comma (spans_from ks member_starts (length text))
+    pub began_document : text ≡ front ++ unfinished_text text needs_comma (spans_from ks member_starts (length text))
     pub paired : length ks ≡ length member_starts
     pub ends : needs_comma ≡ true → end_before_next member_starts (length text) ≡ length front
 
@@ -128,7 +128,7 @@ module _ (IsText : List ℕ → Value → List ℕ → Type 0) where
       let s = one.own in
       let end = end_before_next member_starts (length text) in
       let spans = spans_from ks member_starts (length text) in
-      let others = open_text text true spans in
+      let others = unfinished_text text true spans in
       let p : MemberSpan = record { key = k; start = start; end = end } in
       let some : 0 < length s = one.some in
       let long : length mid.text ≡ start + length s = ap length one.text ∙ length-append (front ++ comma) s in
@@ -191,30 +191,30 @@ module _ (IsText : List ℕ → Value → List ℕ → Type 0) where
 
   -- ---- a whole document
 
-  -- the open document's text stands behind that before it, and its member_starts behind those that were start_count
-  pub record DocumentStands (before start_count : List ℕ) (now : Seen) (mark : Mark) (ks : List Key) (ps : Pairs)
+  -- the open document's text follows that before it, and its member_starts after those that were outer_member_count
+  pub record DocumentStands (before outer_member_count : List ℕ) (now : Seen) (mark : ContainerStart) (ks : List Key) (ps : Pairs)
       : Type 0 where
     pub member_starts : List ℕ
-    pub starts_are : now.member_starts ≡ start_count ++ member_starts
-    pub held_are : mark.start_count ≡ length start_count
+    pub starts_are : now.member_starts ≡ outer_member_count ++ member_starts
+    pub held_are : mark.outer_member_count ≡ length outer_member_count
     pub stands_before : take mark.start now.text ≡ before
     pub paired : length ks ≡ length member_starts
-    pub began_document : IsOpenObject before now.text (spans_from ks member_starts (length now.text))
+    pub began_document : IsUnfinishedObject before now.text (spans_from ks member_starts (length now.text))
     pub values : ValuesByStart
     pub all : All (IsMemberSpan IsText now.text values) (spans_from ks member_starts (length now.text))
     pub put : insert_each span_key (value_of_span values) (spans_from ks member_starts (length now.text)) no_pairs
         ≡ put_in_turn ps no_pairs
 
-  pub opened_document : (before start_count : List ℕ) (mid now : Seen) (mark : Mark) (ps : Pairs) (ks : List Key)
-      → mark.start ≡ length before → mark.start_count ≡ length start_count → mid.text ≡ before ++ 123 ∷ [] → mid.member_starts ≡ start_count
+  pub opened_document : (before outer_member_count : List ℕ) (mid now : Seen) (mark : ContainerStart) (ps : Pairs) (ks : List Key)
+      → mark.start ≡ length before → mark.outer_member_count ≡ length outer_member_count → mid.text ≡ before ++ 123 ∷ [] → mid.member_starts ≡ outer_member_count
       → mid.needs_comma ≡ false → MembersAdded IsText ps mid now → keys_of ps ≡ map (λ k. k.now) ks
-      → DocumentStands before start_count now mark ks ps
-  opened_document before start_count mid now mark ps ks here many begins kept off written named =
+      → DocumentStands before outer_member_count now mark ks ps
+  opened_document before outer_member_count mid now mark ps ks here many begins kept off written named =
       let (member_starts, held_are, stand) = pairs_stand ps ks mid now written named in
       let spans = spans_from ks member_starts (length now.text) in
-      let members = open_text now.text false spans in
+      let members = unfinished_text now.text false spans in
       let whole : now.text ≡ before ++ 123 ∷ members =
-      stand.began_document ∙ ap (λ b. mid.text ++ open_text now.text b spans) off ∙ ap (λ l. l ++ members) begins
+      stand.began_document ∙ ap (λ b. mid.text ++ unfinished_text now.text b spans) off ∙ ap (λ l. l ++ members) begins
       ∙ append_assoc before (123 ∷ []) members in
       record {
         member_starts = member_starts;
@@ -229,31 +229,31 @@ module _ (IsText : List ℕ → Value → List ℕ → Type 0) where
         put = stand.put no_pairs;
       }
 
-module _ {IsText : List ℕ → Value → List ℕ → Type 0} {before start_count : List ℕ} {now : Seen} {mark : Mark}
-    {ks : List Key} {ps : Pairs} (d : DocumentStands IsText before start_count now mark ks ps) where
+module _ {IsText : List ℕ → Value → List ℕ → Type 0} {before outer_member_count : List ℕ} {now : Seen} {mark : ContainerStart}
+    {ks : List Key} {ps : Pairs} (d : DocumentStands IsText before outer_member_count now mark ks ps) where
   -- the document's own member_starts
-  pub own_starts : (all : List ℕ) → all ≡ now.member_starts → take (length all - mark.start_count) (drop mark.start_count all) ≡ d.member_starts
+  pub own_starts : (all : List ℕ) → all ≡ now.member_starts → take (length all - mark.outer_member_count) (drop mark.outer_member_count all) ≡ d.member_starts
   own_starts all is =
-      let whole : all ≡ start_count ++ (d.member_starts ++ []) =
-      is ∙ d.starts_are ∙ ap (λ l. start_count ++ l) (sym (append-nil d.member_starts)) in
-      slice_between all start_count d.member_starts [] mark.start_count (length all) whole d.held_are
-      (ap length (is ∙ d.starts_are) ∙ length-append start_count d.member_starts)
+      let whole : all ≡ outer_member_count ++ (d.member_starts ++ []) =
+      is ∙ d.starts_are ∙ ap (λ l. outer_member_count ++ l) (sym (append-nil d.member_starts)) in
+      slice_between all outer_member_count d.member_starts [] mark.outer_member_count (length all) whole d.held_are
+      (ap length (is ∙ d.starts_are) ∙ length-append outer_member_count d.member_starts)
 
-  pub are_held : (all : List ℕ) → all ≡ now.member_starts → mark.start_count ≤ length all
-  are_held all is = omega (arith, d.held_are, ap length (is ∙ d.starts_are), length-append start_count d.member_starts)
+  pub are_held : (all : List ℕ) → all ≡ now.member_starts → mark.outer_member_count ≤ length all
+  are_held all is = omega (arith, d.held_are, ap length (is ∙ d.starts_are), length-append outer_member_count d.member_starts)
 
-  pub others_held : take mark.start_count now.member_starts ≡ start_count
-  others_held = text_before start_count d.member_starts now.member_starts mark.start_count d.starts_are d.held_are
+  pub others_held : take mark.outer_member_count now.member_starts ≡ outer_member_count
+  others_held = text_before outer_member_count d.member_starts now.member_starts mark.outer_member_count d.starts_are d.held_are
 
   pub all_within : All (IsSpanWithin now.text) (spans_from ks d.member_starts (length now.text))
   all_within = All-weaker (IsMemberSpan IsText now.text d.values) (IsSpanWithin now.text) (λ p h. h.0)
       (spans_from ks d.member_starts (length now.text)) d.all
 
-  pub stands_open : IsOpenObject (take mark.start now.text) now.text (spans_from ks d.member_starts (length now.text))
+  pub stands_open : IsUnfinishedObject (take mark.start now.text) now.text (spans_from ks d.member_starts (length now.text))
   stands_open =
-      subst (λ old. IsOpenObject old now.text (spans_from ks d.member_starts (length now.text))) (sym d.stands_before) d.began_document
+      subst (λ old. IsUnfinishedObject old now.text (spans_from ks d.member_starts (length now.text))) (sym d.stands_before) d.began_document
 
-  -- the document's members, once they were put in order
+  -- the document's members, once they were inserted in order
   pub has_members : (new : List ℕ)
       → IsObjectWritten (spans_from ks d.member_starts (length now.text)) (take mark.start now.text) now.text new
       → HasMembers IsText before now.text new (sorted_pairs (each_key_once ps))

@@ -9,7 +9,7 @@ use Rattle.std.proofs.lemmas.Str.{IsUtf8-take, IsCharBoundary-before_ascii, enco
 use Rattle.std.specs.List.{All}
 use Rattle.std.specs.Str.{is_utf8}
 use Rattle.serde_json.specs.Written.{comma_if}
-use Rattle.bson_text.specs.MemberSpans.{span_text, open_text, EndsWithBrace, IsObjectWritten, IsOpenObject, last_of_each_key}
+use Rattle.bson_text.specs.MemberSpans.{span_text, unfinished_text, EndsWithBrace, IsObjectWritten, IsUnfinishedObject, last_of_each_key}
 use Rattle.bson_text.specs.declared.member_spans.MemberSpan.{MemberSpan}
 use Rattle.bson_text.proofs.SpansInOrder.{all_last, closed}
 use lib.Utf8.{low_scalar}
@@ -21,7 +21,7 @@ byte_utf8 b low = subst IsUtf8 (encode_ascii b low) (IsUtf8-encode b (low_scalar
 pub nothing_utf8 : (xs : List ℕ) → xs ≡ [] → is_utf8 xs ≡ true
 nothing_utf8 xs none = ap is_utf8 none ∙ is_utf8-from_IsUtf8 [] IsUtf8-nil
 
--- a text behind another
+-- a text after another
 pub joined_utf8 : (xs ys new : List ℕ) → is_utf8 xs ≡ true → IsUtf8 ys → new ≡ xs ++ ys → is_utf8 new ≡ true
 joined_utf8 xs ys new u v is =
     ap is_utf8 is ∙ is_utf8-from_IsUtf8 (xs ++ ys) (IsUtf8-append xs ys (IsUtf8-from_is_utf8 xs u) v)
@@ -32,7 +32,7 @@ pub extended_utf8 : (b : Bool) (xs ys new : List ℕ) → is_utf8 xs ≡ true �
 extended_utf8 true xs ys new u v is = joined_utf8 xs ys new u v is
 extended_utf8 false xs ys new u v is = ap is_utf8 is ∙ u
 
--- what stands before a byte of ASCII, and behind it
+-- what precedes a byte of ASCII, and after it
 pub cut_at : (xs ys : List ℕ) (b : ℕ) → b < 128 → IsUtf8 (xs ++ b ∷ ys) → IsUtf8 xs × IsUtf8 ys
 cut_at xs ys b low u =
     let whole = xs ++ b ∷ ys in
@@ -55,37 +55,37 @@ module _ (texts : List ℕ) where
   IsUtf8Span p = IsUtf8 (span_text texts p)
 
   -- commas separate them
-  separate : (p : MemberSpan) (ps : List MemberSpan) → IsUtf8 (span_text texts p ++ open_text texts true ps) → All IsUtf8Span (p ∷ ps)
+  separate : (p : MemberSpan) (ps : List MemberSpan) → IsUtf8 (span_text texts p ++ unfinished_text texts true ps) → All IsUtf8Span (p ∷ ps)
   separate p [] u = All-cons IsUtf8Span p [] (subst IsUtf8 (append-nil (span_text texts p)) u) (All-nil IsUtf8Span)
   separate p (q ∷ ps) u =
-      let (here, rest) = cut_at (span_text texts p) (span_text texts q ++ open_text texts true ps) 44 (omega arith) u in
+      let (here, rest) = cut_at (span_text texts p) (span_text texts q ++ unfinished_text texts true ps) 44 (omega arith) u in
       All-cons IsUtf8Span p (q ∷ ps) here (separate q ps rest)
 
-  spans_utf8 : (ps : List MemberSpan) → IsUtf8 (open_text texts false ps) → All IsUtf8Span ps
+  spans_utf8 : (ps : List MemberSpan) → IsUtf8 (unfinished_text texts false ps) → All IsUtf8Span ps
   spans_utf8 [] u = All-nil IsUtf8Span
   spans_utf8 (p ∷ ps) u = separate p ps u
 
-  open_utf8 : (needs_comma : Bool) (ps : List MemberSpan) → All IsUtf8Span ps → IsUtf8 (open_text texts needs_comma ps)
+  open_utf8 : (needs_comma : Bool) (ps : List MemberSpan) → All IsUtf8Span ps → IsUtf8 (unfinished_text texts needs_comma ps)
   open_utf8 needs_comma [] h = IsUtf8-nil
   open_utf8 needs_comma (p ∷ ps) h =
-      IsUtf8-append (comma_if needs_comma) (span_text texts p ++ open_text texts true ps) (comma_utf8 needs_comma)
-      (IsUtf8-append (span_text texts p) (open_text texts true ps) (All-head IsUtf8Span p ps h)
+      IsUtf8-append (comma_if needs_comma) (span_text texts p ++ unfinished_text texts true ps) (comma_utf8 needs_comma)
+      (IsUtf8-append (span_text texts p) (unfinished_text texts true ps) (All-head IsUtf8Span p ps h)
       (open_utf8 true ps (All-tail IsUtf8Span p ps h)))
 
--- what stands before an open object
-pub before_utf8 : (before texts : List ℕ) (ps : List MemberSpan) → IsOpenObject before texts ps → is_utf8 texts ≡ true → IsUtf8 before
+-- what precedes an open object
+pub before_utf8 : (before texts : List ℕ) (ps : List MemberSpan) → IsUnfinishedObject before texts ps → is_utf8 texts ≡ true → IsUtf8 before
 before_utf8 before texts ps began_document u =
-    (cut_at before (open_text texts false ps) 123 (omega arith) (subst IsUtf8 began_document (IsUtf8-from_is_utf8 texts u))).0
+    (cut_at before (unfinished_text texts false ps) 123 (omega arith) (subst IsUtf8 began_document (IsUtf8-from_is_utf8 texts u))).0
 
 -- the object that was ended, its pieces in another order
-pub ended_utf8 : (before texts new : List ℕ) (spans : List MemberSpan) → IsOpenObject before texts spans → is_utf8 texts ≡ true
+pub ended_utf8 : (before texts new : List ℕ) (spans : List MemberSpan) → IsUnfinishedObject before texts spans → is_utf8 texts ≡ true
     → IsObjectWritten spans before texts new → EndsWithBrace new
 ended_utf8 before texts new spans began_document u (written, (ps, stable, same, up, is), put) =
-    let (first, rest) = cut_at before (open_text texts false spans) 123 (omega arith)
+    let (first, rest) = cut_at before (unfinished_text texts false spans) 123 (omega arith)
     (subst IsUtf8 began_document (IsUtf8-from_is_utf8 texts u)) in
     let all = All-permutation (IsUtf8Span texts) spans ps same (spans_utf8 texts spans rest) in
     let qs = last_of_each_key ps in
-    let members = open_text texts false qs in
+    let members = unfinished_text texts false qs in
     let front = before ++ 123 ∷ members in (
       front,
       is_utf8-from_IsUtf8 front (IsUtf8-append before (123 ∷ members) first

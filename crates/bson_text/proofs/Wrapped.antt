@@ -20,15 +20,15 @@ use Rattle.bson_tree.specs.Place.{key, PathSegment, path_of, FaultAtIn, HasValue
 use Rattle.bson_tree.proofs.Offered.{first_found}
 use Rattle.bson_tokens.proofs.Offered.{Is, is_found}
 use Rattle.bson_tree.specs.declared.place.Place.{Place}
-use Rattle.bson_tokens.specs.FirstFault.{FaultAndPath, fault_in_tree, first_member_fault, wrapper_fault, or, add_segment, wrong_shape_here, scalar_fault}
+use Rattle.bson_tokens.specs.FirstFault.{FaultAndPath, fault_in_tree, first_member_fault, wrapper_fault, or_fault, add_segment, wrong_shape_here, scalar_fault}
 use Rattle.bson_tokens.specs.WrapperContent.{IsWrapperContent}
 use Rattle.bson_tokens.proofs.Offered.{was_read as from_tree}
-use Rattle.bson_text.specs.TraversalResults.{members_inside, members_after_key}
+use Rattle.bson_text.specs.TraversalResults.{members_after_brace, members_after_key}
 use Rattle.bson_text.proofs.Objects.{begins}
 use Rattle.bson_text.proofs.Denials.{then_parsed, split_kept, mapped}
 use Rattle.bson_text.proofs.Parsed.{same_parse, after_first, none_behind}
-use Rattle.bson_text.specs.ErrorPaths.{member_trees, FirstKeyIsPlain, IfFault, IsPlaceOfFault, IsScalarFault}
-use Rattle.bson_text.specs.ErrorPaths.{IsWrongShapeAtValue, IsErrorAtKey, HasNoPlace, LocatesValueError, LocatesItemsError, LocatesMembersError, LocatesObjectError}
+use Rattle.bson_text.specs.ErrorPaths.{member_trees, FirstKeyIsNotWrapper, IfErrorIsFault, IsPlaceOfFault, IsScalarFault}
+use Rattle.bson_text.specs.ErrorPaths.{IsWrongShapeAtValue, IsErrorAtKey, IsNotFault, LocatesValueError, LocatesItemsError, LocatesMembersError, LocatesObjectError}
 use Rattle.json.specs.declared.error.Error.{Error}
 use Rattle.json.specs.declared.error.Error.TheVariants as json_error
 use Rattle.bson_text.specs.TraversalErrors.{error_of_json}
@@ -37,20 +37,20 @@ use Rattle.bson_text.specs.declared.traversal_error.TraversalError.TheVariants a
 use Rattle.bson_text.proofs.Passing.{at_map, members_off}
 use Rattle.bson_text.proofs.Faults.{placed_within, placed_here, MembersFrom, wrapped, array_placed, object_placed}
 
-pub no_fault : (e : TraversalError) (P : Place → Type 0) → HasNoPlace e → IfFault e P
+pub no_fault : (e : TraversalError) (P : Place → Type 0) → IsNotFault e → IfErrorIsFault e P
 no_fault failure.OutOfMemory P h = tt
 no_fault failure.DuplicateKey P h = tt
 no_fault failure.GaveUp P h = tt
 no_fault failure.Syntax P h = tt
 no_fault (failure.Fault q) P h = absurd h
 
-pub reader_stop : (e : Error) (P : Place → Type 0) → IfFault (error_of_json e) P
+pub reader_stop : (e : Error) (P : Place → Type 0) → IfErrorIsFault (error_of_json e) P
 reader_stop json_error.Invalid P = tt
 reader_stop json_error.OutOfMemory P = tt
 reader_stop json_error.TooLong P = tt
 reader_stop json_error.DuplicateKey P = tt
 
-pub or_nothing : (v : FaultAndPath) → v ≡ or v None
+pub or_nothing : (v : FaultAndPath) → v ≡ or_fault v None
 or_nothing None = refl
 or_nothing (Some f) = refl
 
@@ -65,13 +65,13 @@ one_behind p (suc n) r q rest l ns named is =
     (n, sym (ap (option_and_then (λ x. members_step p (members p n) x.0 x.1)) named) ∙ is)
 
 first_plain : (depth : ℕ) (first : Option (List ℕ)) (s r : List Token) (ms : json.Members)
-    → members_after_key depth first s ≡ Some (ms, r) → ((k : List ℕ) → first ≡ Some k → wrapper_of k ≡ None) → FirstKeyIsPlain ms
+    → members_after_key depth first s ≡ Some (ms, r) → ((k : List ℕ) → first ≡ Some k → wrapper_of k ≡ None) → FirstKeyIsNotWrapper ms
 first_plain depth None s r ms is plain =
     let same : (json.no_members, s) ≡ (ms, r) = same_Some {A = json.Members × List Token} (json.no_members, s) (ms, r) is in
-    subst FirstKeyIsPlain (ap (λ p. p.0) same) tt
+    subst FirstKeyIsNotWrapper (ap (λ p. p.0) same) tt
 first_plain depth (Some k) s r ms is plain =
     let g = then_parsed (json.member k) (members (value depth) (length s)) (value depth s) ms r is in
-    subst FirstKeyIsPlain (sym g.5) (plain k refl)
+    subst FirstKeyIsNotWrapper (sym g.5) (plain k refl)
 
 module _ (D : Doubles) where
   -- ---- numbers
@@ -92,7 +92,7 @@ module _ (D : Doubles) where
 
   pub document_placed : (e : TraversalError) (depth : ℕ) (first : Option (List ℕ)) (ts s rest : List Token)
       → read_key ts ≡ Some (first, s) → ((k : List ℕ) → first ≡ Some k → wrapper_of k ≡ None)
-      → LocatesMembersError D e true (members_after_key depth first s) rest → LocatesObjectError D e (members_inside depth ts) rest
+      → LocatesMembersError D e true (members_after_key depth first s) rest → LocatesObjectError D e (members_after_brace depth ts) rest
   document_placed e depth first ts s rest named plain = at_map e _ _ (λ q at ms r ds is rise of.
       let now : members_after_key depth first s ≡ Some (ms, r) = sym (begins depth first ts s named) ∙ is in
       at ms r ds now rise of (λ yes. first_plain depth first s r ms now plain))
@@ -178,10 +178,10 @@ module _ (D : Doubles) where
       (array_placed D e (items (value (depth - 1)) (length s) s) rest at)
 
   pub object_at : (e : TraversalError) (depth : ℕ) (ts s rest : List Token) → ts ≡ token.begin_object ∷ s → 0 < depth
-      → LocatesObjectError D e (members_inside (depth - 1) s) rest → LocatesValueError D e (value depth ts) rest
+      → LocatesObjectError D e (members_after_brace (depth - 1) s) rest → LocatesValueError D e (value depth ts) rest
   object_at e depth ts s rest starts left at =
       subst (λ x. LocatesValueError D e x rest) (sym (ap (value depth) starts ∙ value-begin_object depth s left))
-      (object_placed D e (members_inside (depth - 1) s) rest at)
+      (object_placed D e (members_after_brace (depth - 1) s) rest at)
 
   -- ---- the place of the verdict is that of the first fault
 

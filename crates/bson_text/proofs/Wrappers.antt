@@ -18,15 +18,15 @@ use Rattle.bson_scalar.specs.Scalar.{Scalar, code}
 use Rattle.bson_scalar.specs.Table.{wrapper_of}
 use Rattle.bson_scalar.specs.declared.form.Doubles.{Doubles}
 use Rattle.bson_scalar.specs.declared.wrapper.Wrapper.{Wrapper}
-use Rattle.bson_model.specs.Reading.{scalar_value, code_value}
+use Rattle.bson_model.specs.Reading.{scalar_result_as_value, code_value}
 use Rattle.bson_model.specs.Value as model
 use Rattle.bson_model.specs.Value.{Value, Pairs, scalar}
-use Rattle.bson_model.specs.OrderedTrees.{kept, tree_sorted_by_key}
-use Rattle.bson_model.specs.OrderedReading.{reads_in_order, scope_in_order}
+use Rattle.bson_model.specs.OrderedTrees.{tree_of_json, tree_sorted_by_key}
+use Rattle.bson_model.specs.OrderedReading.{reads_tree_in_order, reads_scope_in_order}
 use Rattle.bson_tokens.specs.WrapperContent.{IsWrapperContent}
 use Rattle.bson_tokens.proofs.Offered.{was_read}
-use Rattle.bson_text.specs.TraversalResults.{ReadsTree, ReadsObject, ReadsMembers, ReadsScope, ReadsCode, IsEndOfCode, kept_object}
-use Rattle.bson_text.specs.TraversalResults.{members_inside, members_after_key}
+use Rattle.bson_text.specs.TraversalResults.{ReadsTree, ReadsObject, ReadsMembers, ReadsScope, ReadsCode, IsEndOfCode, tree_members_in_order}
+use Rattle.bson_text.specs.TraversalResults.{members_after_brace, members_after_key}
 use Rattle.bson_text.proofs.Objects.{object_of, begins, kept_from, alone, alone_kept, two, two_kept}
 
 a_text : (t : Data) (s : List ℕ) → as_str t ≡ Some s → t ≡ string s
@@ -41,24 +41,24 @@ module _ (D : Doubles) where
   -- ---- scalars
 
   pub token_means : (depth : ℕ) (k : Token) (ts s : List Token) (t : Data) (v : Value) (Wrote : Value → Type 0)
-      → ts ≡ k ∷ s → converted kept (value depth (k ∷ s)) ≡ Some (t, s) → reads_in_order D t ≡ Ok v → Wrote v
-      → ReadsTree D (converted kept (value depth ts)) s Wrote
+      → ts ≡ k ∷ s → converted tree_of_json (value depth (k ∷ s)) ≡ Some (t, s) → reads_tree_in_order D t ≡ Ok v → Wrote v
+      → ReadsTree D (converted tree_of_json (value depth ts)) s Wrote
   token_means depth k ts s t v Wrote is read means written =
-      (t, v, ap (λ x. converted kept (value depth x)) is ∙ read, means, written)
+      (t, v, ap (λ x. converted tree_of_json (value depth x)) is ∙ read, means, written)
 
   pub number_means : (depth : ℕ) (k : List ℕ) (ts s : List Token) (n : Num) (x : Scalar) (Wrote : Value → Type 0)
       → ts ≡ token.number k ∷ s → number_of k ≡ Some n → number_read_in D n ≡ Ok x → Wrote (scalar x)
-      → ReadsTree D (converted kept (value depth ts)) s Wrote
+      → ReadsTree D (converted tree_of_json (value depth ts)) s Wrote
   number_means depth k ts s n x Wrote is found read written =
       token_means depth (token.number k) ts s (number n) (scalar x) Wrote is
-      (ap (converted kept) (value_is depth (token.number k ∷ s))
-      ∙ ap (λ m. option_map (λ d. (d, s)) (option_map number m)) found) (ap scalar_value read) written
+      (ap (converted tree_of_json) (value_is depth (token.number k ∷ s))
+      ∙ ap (λ m. option_map (λ d. (d, s)) (option_map number m)) found) (ap scalar_result_as_value read) written
 
   pub single_means : (depth : ℕ) (k : List ℕ) (wrapper : Wrapper) (ts r s : List Token) (held : Data) (x : Scalar)
       (Wrote : Value → Type 0) → wrapper_of k ≡ Some wrapper
       → IsWrapperContent (converted of_json (value depth ts)) held r → length r < length ts
       → read_key r ≡ Some (None, s) → wrapper_read_in D wrapper held ≡ Ok x → Wrote (scalar x)
-      → ReadsObject D (kept_object (members_after_key depth (Some k) ts)) s Wrote
+      → ReadsObject D (tree_members_in_order (members_after_key depth (Some k) ts)) s Wrote
   single_means depth k wrapper ts r s held x Wrote named read less ended single written =
       let j = was_read of_json (value depth ts) read.0 r read.1 in
       let d = kept_from j.0 read.0 j.2 in
@@ -67,18 +67,18 @@ module _ (D : Doubles) where
       ∙ sym (read.2.0 D (wrapper_of k)) ∙ ap (λ o. optional_wrapper_read_in D o held) named ∙ single in (
         member k d.0 no_members,
         scalar x,
-        ap kept_object (alone depth k ts r s j.0 less j.1 ended) ∙ alone_kept k j.0 d.0 s d.1,
-        rw is (ap scalar_value means),
+        ap tree_members_in_order (alone depth k ts r s j.0 less j.1 ended) ∙ alone_kept k j.0 d.0 s d.1,
+        rw is (ap scalar_result_as_value means),
         written,
       )
 
   -- ---- code with its scope
 
   pub scope_means : (depth : ℕ) (first : Option (List ℕ)) (ts s r : List Token) (Framed : Pairs → Type 0) → 0 < depth
-      → read_key ts ≡ Some (first, s) → ReadsMembers D false (kept_object (members_after_key (depth - 1) first s)) r Framed
+      → read_key ts ≡ Some (first, s) → ReadsMembers D false (tree_members_in_order (members_after_key (depth - 1) first s)) r Framed
       → ReadsScope D depth ts r Framed
   scope_means depth first ts s r Framed left key (ms, ps, read, means, free, wrote_document) =
-      (left, (ms, ps, ap kept_object (begins (depth - 1) first ts s key) ∙ read, means, free, wrote_document))
+      (left, (ms, ps, ap tree_members_in_order (begins (depth - 1) first ts s key) ∙ read, means, free, wrote_document))
 
   pub code_alone : (depth : ℕ) (s : List ℕ) (needs_comma_after : Bool) (ts r rest : List Token) (Wrote : Value → Type 0)
       → ts ≡ token.null ∷ r → IsEndOfCode s needs_comma_after r rest → Wrote (scalar (code s))
@@ -88,7 +88,7 @@ module _ (D : Doubles) where
         null,
         None,
         r,
-        ap (λ x. converted kept (value depth x)) is ∙ ap (converted kept) (value_is depth (token.null ∷ r)),
+        ap (λ x. converted tree_of_json (value depth x)) is ∙ ap (converted tree_of_json) (value_is depth (token.null ∷ r)),
         omega (arith, length_is),
         ended,
         refl,
@@ -104,41 +104,41 @@ module _ (D : Doubles) where
         object ms,
         Some ps,
         r,
-        ap (λ x. converted kept (value depth x)) is ∙ ap (converted kept) (value-begin_object depth q left)
-            ∙ object_of (members_inside (depth - 1) q) ms r read,
+        ap (λ x. converted tree_of_json (value depth x)) is ∙ ap (converted tree_of_json) (value-begin_object depth q left)
+            ∙ object_of (members_after_brace (depth - 1) q) ms r read,
         omega (arith, length_is),
         ended,
         rw means refl,
         ends ps wrote_document,
       )
 
-  code_is : (s : List ℕ) (d e : Data) (scope : Option Pairs) → tree_sorted_by_key d ≡ string s → scope_in_order D e ≡ Ok scope
-      → reads_in_order D (object (member (codes "$code") d (member (codes "$scope") e no_members)))
+  code_is : (s : List ℕ) (d e : Data) (scope : Option Pairs) → tree_sorted_by_key d ≡ string s → reads_scope_in_order D e ≡ Ok scope
+      → reads_tree_in_order D (object (member (codes "$code") d (member (codes "$scope") e no_members)))
       ≡ Ok (code_value s scope)
   code_is s d e scope is means = rw (is, means) refl
 
-  behind_is : (s : List ℕ) (d : Data) (scope : Option Pairs) → scope_in_order D d ≡ Ok scope
-      → reads_in_order D (object (member (codes "$scope") d (member (codes "$code") (string s) no_members)))
+  behind_is : (s : List ℕ) (d : Data) (scope : Option Pairs) → reads_scope_in_order D d ≡ Ok scope
+      → reads_tree_in_order D (object (member (codes "$scope") d (member (codes "$code") (string s) no_members)))
       ≡ Ok (code_value s scope)
   behind_is s d scope means = rw means refl
 
   pub code_means : (depth : ℕ) (k l s : List ℕ) (ts r q rest : List Token) (held : Data) (Wrote : Value → Type 0)
       → IsWrapperContent (converted of_json (value depth ts)) held r → length r < length ts → read_key r ≡ Some (Some l, q)
       → (bytes_eq k (codes "$code") && bytes_eq l (codes "$scope")) ≡ true → held ≡ string s
-      → ReadsCode D depth s false q rest Wrote → ReadsObject D (kept_object (members_after_key depth (Some k) ts)) rest Wrote
+      → ReadsCode D depth s false q rest Wrote → ReadsObject D (tree_members_in_order (members_after_key depth (Some k) ts)) rest Wrote
   code_means depth k l s ts r q rest held Wrote read less key are text
       (e, scope, end, found, fewer, ended, means, written) =
       let both = and_parts (bytes_eq k (codes "$code")) (bytes_eq l (codes "$scope")) are in
       let first : k ≡ codes "$code" = (bytes_eq-Decides k (codes "$code")).0 both.0 in
       let second : l ≡ codes "$scope" = (bytes_eq-Decides l (codes "$scope")).0 both.1 in
       let j = was_read of_json (value depth ts) read.0 r read.1 in
-      let i = was_read kept (value depth q) e end found in
+      let i = was_read tree_of_json (value depth q) e end found in
       let d = kept_from j.0 read.0 j.2 in
       let named : read_key r ≡ Some (Some (codes "$scope"), q) = key ∙ ap (λ x. Some (Some x, q)) second in (
         member (codes "$code") d.0 (member (codes "$scope") e no_members),
         code_value s scope,
-        ap (λ x. kept_object (members_after_key depth (Some x) ts)) first
-            ∙ ap kept_object (two depth (codes "$code") (codes "$scope") ts r q end rest j.0 i.0 less j.1 named i.1 fewer ended)
+        ap (λ x. tree_members_in_order (members_after_key depth (Some x) ts)) first
+            ∙ ap tree_members_in_order (two depth (codes "$code") (codes "$scope") ts r q end rest j.0 i.0 less j.1 named i.1 fewer ended)
             ∙ two_kept (codes "$code") (codes "$scope") j.0 i.0 d.0 e rest refl d.1 i.2,
         code_is s d.0 e scope (d.2 ∙ a_text read.0 s (sym read.2.1 ∙ ap as_str text)) means,
         written,
@@ -146,17 +146,17 @@ module _ (D : Doubles) where
 
   pub behind_means : (depth : ℕ) (s : List ℕ) (first : Option (List ℕ)) (ts q rest : List Token) (Wrote : Value → Type 0)
       → read_key ts ≡ Some (first, q) → first ≡ Some (codes "$scope") → ReadsCode D depth s true q rest Wrote
-      → ReadsObject D (kept_object (members_inside depth ts)) rest Wrote
+      → ReadsObject D (tree_members_in_order (members_after_brace depth ts)) rest Wrote
   behind_means depth s first ts q rest Wrote key is (d, scope, r, found, less, (end, named, ended), means, written) =
       let k = codes "$scope" in
       let l = codes "$code" in
-      let j = was_read kept (value depth q) d r found in
-      let mark : members_inside depth ts ≡ members_after_key depth (Some k) q =
+      let j = was_read tree_of_json (value depth q) d r found in
+      let mark : members_after_brace depth ts ≡ members_after_key depth (Some k) q =
       begins depth (Some k) ts q (key ∙ ap (λ x. Some (x, q)) is) in
       let needs_comma : value depth (token.string s ∷ end) ≡ Some (json.string s, end) = value_is depth (token.string s ∷ end) in (
         member k d (member l (string s) no_members),
         code_value s scope,
-        ap kept_object (mark
+        ap tree_members_in_order (mark
             ∙ two depth k l q r (token.string s ∷ end) end rest j.0 (json.string s) less j.1 named needs_comma (omega arith) ended)
             ∙ two_kept k l j.0 (json.string s) d (string s) rest refl j.2 refl,
         behind_is s d scope means,

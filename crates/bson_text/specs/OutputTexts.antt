@@ -44,6 +44,6 @@ pub record IsShownText (doubles : Doubles) (text written : List ℕ) : Type 0 wh
   pub shown : written ≡ display_text value
 
 -- the same by where keys go: for private clauses
-abbrev pub IsShownTextBy : Doubles → Arrangement → List ℕ → List ℕ → Type 0
-IsShownTextBy doubles FirstPositions = IsShownTextInOrder doubles
-IsShownTextBy doubles Ascending = IsShownText doubles
+abbrev pub IsShownTextArranged : Doubles → Arrangement → (text written : List ℕ) → Type 0
+IsShownTextArranged doubles FirstPositions = IsShownTextInOrder doubles
+IsShownTextArranged doubles Ascending = IsShownText doubles

@@ -12,13 +12,13 @@ scope_token scope.Object = Token.begin_object
 -- no scope begins there
 abbrev pub IsNotScopeStart : List Token → Type 0
 IsNotScopeStart [] = ⊤
-IsNotScopeStart (Token.begin_object ∷ ts) = ⊥
-IsNotScopeStart (Token.end_object ∷ ts) = ⊤
-IsNotScopeStart (Token.begin_array ∷ ts) = ⊤
-IsNotScopeStart (Token.end_array ∷ ts) = ⊤
-IsNotScopeStart (Token.key s ∷ ts) = ⊤
-IsNotScopeStart (Token.string s ∷ ts) = ⊤
-IsNotScopeStart (Token.number s ∷ ts) = ⊤
-IsNotScopeStart (Token.boolean b ∷ ts) = ⊤
-IsNotScopeStart (Token.null ∷ ts) = ⊥
-IsNotScopeStart (Token.bad ∷ ts) = ⊤
+IsNotScopeStart (Token.begin_object ∷ later_tokens) = ⊥
+IsNotScopeStart (Token.end_object ∷ later_tokens) = ⊤
+IsNotScopeStart (Token.begin_array ∷ later_tokens) = ⊤
+IsNotScopeStart (Token.end_array ∷ later_tokens) = ⊤
+IsNotScopeStart (Token.key token_text ∷ later_tokens) = ⊤
+IsNotScopeStart (Token.string token_text ∷ later_tokens) = ⊤
+IsNotScopeStart (Token.number token_text ∷ later_tokens) = ⊤
+IsNotScopeStart (Token.boolean truth ∷ later_tokens) = ⊤
+IsNotScopeStart (Token.null ∷ later_tokens) = ⊥
+IsNotScopeStart (Token.bad ∷ later_tokens) = ⊤

@@ -4,17 +4,21 @@ use Rattle.json.specs.Token.{Token}
 use Rattle.serde_json.specs.Data.{Data, Members, object}
 use Rattle.bson_scalar.specs.Tokens.{tokens_of}
 use Rattle.bson_model.specs.Value.{Value, Pairs}
-use Rattle.bson_model.specs.OrderedWriting.{writes_in_order, pairs_in_order}
+use Rattle.bson_model.specs.OrderedWriting.{writes_value_in_order, writes_pairs_in_order}
 use Rattle.bson_text.specs.declared.text_writer.TextWriter.{TextWriter}
 
--- these tokens come after the old ones, and nothing else is another
-abbrev pub HasTokensAdded : TextWriter → List Token → TextWriter → Type 0
-HasTokensAdded old ts new = (new.doubles ≡ old.doubles) × (new.form ≡ old.form) × (new.out.before ≡ old.out.before)
-    × (new.out.tokens ≡ old.out.tokens ++ ts)
+-- these tokens come after the old ones, and nothing else changes
+abbrev pub HasTokensAdded : (old : TextWriter) → (added_tokens : List Token) → (new : TextWriter) → Type 0
+HasTokensAdded old added_tokens new = (new.doubles ≡ old.doubles) × (new.form ≡ old.form)
+    × (new.json_writer.before ≡ old.json_writer.before)
+    × (new.json_writer.tokens ≡ old.json_writer.tokens ++ added_tokens)
 
-abbrev pub HasValueTokens : TextWriter → Value → TextWriter → Type 0
-HasValueTokens old v new = (u : Data) × (writes_in_order old.doubles old.form v ≡ Ok u) × HasTokensAdded old (tokens_of u) new
+abbrev pub HasValueTokens : (old : TextWriter) → Value → (new : TextWriter) → Type 0
+HasValueTokens old written_value new = (value_tree : Data)
+    × (writes_value_in_order old.doubles old.form written_value ≡ Ok value_tree)
+    × HasTokensAdded old (tokens_of value_tree) new
 
-abbrev pub HasPairTokens : TextWriter → Pairs → TextWriter → Type 0
-HasPairTokens old ps new =
-    (us : Members) × (pairs_in_order old.doubles old.form ps ≡ Ok us) × HasTokensAdded old (tokens_of (object us)) new
+abbrev pub HasPairTokens : (old : TextWriter) → Pairs → (new : TextWriter) → Type 0
+HasPairTokens old document_pairs new =
+    (tree_members : Members) × (writes_pairs_in_order old.doubles old.form document_pairs ≡ Ok tree_members)
+    × HasTokensAdded old (tokens_of (object tree_members)) new

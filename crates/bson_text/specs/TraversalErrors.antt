@@ -4,7 +4,7 @@ use Rattle.json.specs.Strict.{AreDistinct}
 use Rattle.json.specs.Token.{Token}
 use Rattle.json.specs.declared.error.Error.{Error}
 use Rattle.json.specs.declared.error.Error.TheVariants as json_error
-use Rattle.bson_scalar.specs.Faults.{Fault as Wrong, IsReadError}
+use Rattle.bson_scalar.specs.Faults.{Fault as ScalarFault, IsReadError}
 use Rattle.bson_scalar.specs.Normal.{writable_scalar_in}
 use Rattle.bson_scalar.specs.Scalar.{Scalar}
 use Rattle.bson_scalar.specs.declared.error.Error.{Error as ReadError}
@@ -29,33 +29,38 @@ error_of_writing write_error.OutOfMemory = OutOfMemory
 error_of_writing write_error.FiniteDouble = GaveUp
 
 -- A writer fails if an allocation fails, if keys are not unique, or if it gives up a text for which this holds.
-abbrev pub IsWriterErrorIf : Type 0 → Type 0 → TraversalError → Type 0
-IsWriterErrorIf Unique GivesUp OutOfMemory = Unit {0}
-IsWriterErrorIf Unique GivesUp DuplicateKey = Unique → ⊥
-IsWriterErrorIf Unique GivesUp GaveUp = GivesUp
-IsWriterErrorIf Unique GivesUp Syntax = ⊥
-IsWriterErrorIf Unique GivesUp (Fault place) = ⊥
+abbrev pub IsWriterErrorIf : (KeysAreDistinct WriterGivesUp : Type 0) → TraversalError → Type 0
+IsWriterErrorIf KeysAreDistinct WriterGivesUp OutOfMemory = Unit {0}
+IsWriterErrorIf KeysAreDistinct WriterGivesUp DuplicateKey = KeysAreDistinct → ⊥
+IsWriterErrorIf KeysAreDistinct WriterGivesUp GaveUp = WriterGivesUp
+IsWriterErrorIf KeysAreDistinct WriterGivesUp Syntax = ⊥
+IsWriterErrorIf KeysAreDistinct WriterGivesUp (Fault place) = ⊥
 
 -- A writer may give up a text that is read in a mode of doubles in which it gives up some.
-abbrev pub MayFail : (Doubles → Type 0) → TraversalError → Type 0
-MayFail MayGiveUp e = IsWriterErrorIf (Unit {0}) ((doubles : Doubles) → MayGiveUp doubles) e
+abbrev pub IsWriterError : (WriterMayGiveUp : Doubles → Type 0) → TraversalError → Type 0
+IsWriterError WriterMayGiveUp reported_error = IsWriterErrorIf (Unit {0}) ((doubles : Doubles)
+    → WriterMayGiveUp doubles) reported_error
 
 -- For a scalar it may also do this if the scalar is not one that has a text in the mode.
-abbrev pub MayFailAtScalar : (Doubles → Type 0) → Scalar → TraversalError → Type 0
-MayFailAtScalar MayGiveUp x e = IsWriterErrorIf (Unit {0}) ((doubles : Doubles) → writable_scalar_in doubles x ≡ true → MayGiveUp doubles) e
+abbrev pub IsScalarWriterError : (WriterMayGiveUp : Doubles → Type 0) → Scalar → TraversalError → Type 0
+IsScalarWriterError WriterMayGiveUp scalar_value reported_error = IsWriterErrorIf (Unit {0}) ((doubles : Doubles)
+    → writable_scalar_in doubles scalar_value ≡ true → WriterMayGiveUp doubles) reported_error
 
 -- When a document of these keys ends, it may report that two of them are equal. A sorting writer may give up keys
 -- that do not ascend.
-abbrev pub MayFailAtDocumentEnd : (Doubles → Type 0) → Type 0 → List (List ℕ) → TraversalError → Type 0
-MayFailAtDocumentEnd MayGiveUp SortsKeys keys e = IsWriterErrorIf (AreDistinct keys) ((SortsKeys → KeysAscendFrom None keys) → (doubles : Doubles) → MayGiveUp doubles) e
+abbrev pub IsDocumentEndError : (WriterMayGiveUp : Doubles → Type 0) → (WriterSortsKeys : Type 0)
+    → (keys : List (List ℕ)) → TraversalError → Type 0
+IsDocumentEndError WriterMayGiveUp WriterSortsKeys keys reported_error =
+    IsWriterErrorIf (AreDistinct keys)
+    ((WriterSortsKeys → KeysAscendFrom None keys) → (doubles : Doubles) → WriterMayGiveUp doubles) reported_error
 
 -- A fault becomes a text that was given up.
-abbrev pub IsGivenUpAfter : TraversalError → TraversalError → Type 0
-IsGivenUpAfter OutOfMemory e = e ≡ OutOfMemory
-IsGivenUpAfter DuplicateKey e = e ≡ DuplicateKey
-IsGivenUpAfter GaveUp e = e ≡ GaveUp
-IsGivenUpAfter Syntax e = e ≡ GaveUp
-IsGivenUpAfter (Fault place) e = e ≡ GaveUp
+abbrev pub IsErrorAfterGivingUp : (inner_error reported_error : TraversalError) → Type 0
+IsErrorAfterGivingUp OutOfMemory reported_error = reported_error ≡ OutOfMemory
+IsErrorAfterGivingUp DuplicateKey reported_error = reported_error ≡ DuplicateKey
+IsErrorAfterGivingUp GaveUp reported_error = reported_error ≡ GaveUp
+IsErrorAfterGivingUp Syntax reported_error = reported_error ≡ GaveUp
+IsErrorAfterGivingUp (Fault place) reported_error = reported_error ≡ GaveUp
 
 -- The error says that the text is invalid.
 abbrev pub IsInvalidInput : TraversalError → Type 0
@@ -66,26 +71,30 @@ IsInvalidInput Syntax = Unit {0}
 IsInvalidInput (Fault place) = Unit {0}
 
 -- The error is of the same kind as the inner error, or an allocation failed.
-abbrev pub IsSameKindOrMemory : TraversalError → TraversalError → Type 0
-IsSameKindOrMemory old OutOfMemory = Unit {0}
-IsSameKindOrMemory old DuplicateKey = old ≡ DuplicateKey
-IsSameKindOrMemory old GaveUp = old ≡ GaveUp
-IsSameKindOrMemory old Syntax = IsInvalidInput old
-IsSameKindOrMemory old (Fault place) = IsInvalidInput old
+abbrev pub IsSameKindOrOutOfMemory : (inner_error reported_error : TraversalError) → Type 0
+IsSameKindOrOutOfMemory inner_error OutOfMemory = Unit {0}
+IsSameKindOrOutOfMemory inner_error DuplicateKey = inner_error ≡ DuplicateKey
+IsSameKindOrOutOfMemory inner_error GaveUp = inner_error ≡ GaveUp
+IsSameKindOrOutOfMemory inner_error Syntax = IsInvalidInput inner_error
+IsSameKindOrOutOfMemory inner_error (Fault place) = IsInvalidInput inner_error
 
 -- The error of reading a scalar.
-abbrev pub IsReadingError : Result Scalar Wrong → TraversalError → Type 0
-IsReadingError r e = (cause : ReadError) × IsReadError cause r × IsSameKindOrMemory (error_of_reading cause) e
+abbrev pub IsReadingError : (read_result : Result Scalar ScalarFault) → (reported_error : TraversalError) → Type 0
+IsReadingError read_result reported_error = (cause : ReadError) × IsReadError cause read_result
+    × IsSameKindOrOutOfMemory (error_of_reading cause) reported_error
 
 -- what an error rules out. `GaveUp`: that the text can be streamed. `DuplicateKey`: that keys are unique. A fault: that
 -- keys are unique and the text is valid. `OutOfMemory`: nothing
-abbrev pub RuledOut : TraversalError → Type 0 → Type 0 → Type 0 → Type 0
-RuledOut OutOfMemory ValueNotGivenUp Once Means = ⊥
-RuledOut DuplicateKey ValueNotGivenUp Once Means = Once
-RuledOut GaveUp ValueNotGivenUp Once Means = ValueNotGivenUp
-RuledOut Syntax ValueNotGivenUp Once Means = Once × Means
-RuledOut (Fault place) ValueNotGivenUp Once Means = Once × Means
+abbrev pub ErrorRulesOut : TraversalError → (ValueCanBeStreamed KeysAreUnique MeansValue : Type 0) → Type 0
+ErrorRulesOut OutOfMemory ValueCanBeStreamed KeysAreUnique MeansValue = ⊥
+ErrorRulesOut DuplicateKey ValueCanBeStreamed KeysAreUnique MeansValue = KeysAreUnique
+ErrorRulesOut GaveUp ValueCanBeStreamed KeysAreUnique MeansValue = ValueCanBeStreamed
+ErrorRulesOut Syntax ValueCanBeStreamed KeysAreUnique MeansValue = KeysAreUnique × MeansValue
+ErrorRulesOut (Fault place) ValueCanBeStreamed KeysAreUnique MeansValue = KeysAreUnique × MeansValue
 
 -- nothing of the kind was parsed
-abbrev pub IsNotParsed : {X : Type 0} → Option (X × List Token) → (X → List Token → Type 0) → Type 0
-IsNotParsed {X} parsed Is = (x : X) (rest : List Token) → parsed ≡ Some (x, rest) → Is x rest → ⊥
+abbrev pub IsNotParsed : {X : Type 0} → (parsed : Option (X × List Token)) → (ClaimHolds : X → List Token → Type 0)
+    → Type 0
+IsNotParsed {X} parsed ClaimHolds =
+    (parsed_value : X) (remaining_tokens : List Token) → parsed ≡ Some (parsed_value, remaining_tokens)
+    → ClaimHolds parsed_value remaining_tokens → ⊥

@@ -1,5 +1,5 @@
--- What a walk over the tokens of a text has read, and that its value was written, by a writer's own word for a value
--- that was written under a name: for private clauses.
+-- What the traversal of a text's tokens has read, and that the writer has written its value. For private
+-- clauses.
 use Rattle.std.specs.Prelude.{◌≡◌, ◌<◌, ◌+◌, ◌-◌, ℕ, List, [], ◌∷◌, length, Bool, true, false, Option, None, Some, Ok}
 use Rattle.std.specs.Prelude.{codes, if◌then◌else◌}
 use Rattle.std.specs.Str.{bytes_eq}
@@ -13,84 +13,114 @@ use Rattle.bson_scalar.specs.declared.form.Doubles.{Doubles}
 use Rattle.bson_model.specs.Reading.{code_value}
 use Rattle.bson_model.specs.Value as model
 use Rattle.bson_model.specs.Value.{Value, Values, no_values, Pairs, no_pairs, pair}
-use Rattle.bson_model.specs.OrderedTrees.{kept, kept_members}
-use Rattle.bson_model.specs.OrderedReading.{reads_in_order, items_in_order, members_in_order, scope_in_order}
+use Rattle.bson_model.specs.OrderedTrees.{tree_of_json, members_of_json}
+use Rattle.bson_model.specs.OrderedReading.{reads_tree_in_order, reads_items_in_order, reads_members_in_order, reads_scope_in_order}
 
 -- the elements of an array from the place n on were written in turn, each under its place's name
-abbrev pub ItemsWritten : {S : Type 0} → (S → List ℕ → Value → S → Type 0) → (ℕ → List ℕ) → ℕ → Values → S → S → Type 0
-ItemsWritten wrote_value name n no_values old new = old ≡ new
-ItemsWritten {S} wrote_value name n (model.value v vs) old new =
-    (mid : S) × wrote_value old (name n) v mid × ItemsWritten wrote_value name (n + 1) vs mid new
+abbrev pub ItemsWritten : {WriterState : Type 0} → (wrote_value : WriterState → List ℕ → Value → WriterState → Type 0)
+    → (name_of_item : ℕ → List ℕ) → (item_index : ℕ) → Values → (state_before state_after : WriterState) → Type 0
+ItemsWritten wrote_value name_of_item item_index no_values state_before state_after = state_before ≡ state_after
+ItemsWritten {WriterState} wrote_value name_of_item item_index
+    (model.value written_value item_values) state_before state_after =
+    (state_between : WriterState) × wrote_value state_before (name_of_item item_index) written_value state_between
+    × ItemsWritten wrote_value name_of_item (item_index + 1) item_values state_between state_after
 
 -- the pairs of a document were written in turn, each key and then its value
-abbrev pub PairsWritten : {S : Type 0} → (S → List ℕ → Value → S → Type 0) → (S → List ℕ → S → Type 0) → Pairs → S → S
+abbrev pub PairsWritten : {WriterState : Type 0} → (wrote_value : WriterState → List ℕ → Value → WriterState → Type 0)
+    → (wrote_key : WriterState → List ℕ → WriterState → Type 0) → Pairs → (state_before state_after : WriterState)
     → Type 0
-PairsWritten wrote_value wrote_key no_pairs old new = old ≡ new
-PairsWritten {S} wrote_value wrote_key (pair k v ps) old new =
-    (named : S) × (mid : S) × wrote_key old k named × wrote_value named k v mid × PairsWritten wrote_value wrote_key ps mid new
+PairsWritten wrote_value wrote_key no_pairs state_before state_after = state_before ≡ state_after
+PairsWritten {WriterState} wrote_value wrote_key
+    (pair key_bytes written_value document_pairs) state_before state_after =
+    (state_after_key : WriterState) × (state_between : WriterState) × wrote_key state_before key_bytes state_after_key
+    × wrote_value state_after_key key_bytes written_value state_between
+    × PairsWritten wrote_value wrote_key document_pairs state_between state_after
 
 abbrev pub keys_of : Pairs → List (List ℕ)
 keys_of no_pairs = []
-keys_of (pair k v ps) = k ∷ keys_of ps
+keys_of (pair key_bytes written_value document_pairs) = key_bytes ∷ keys_of document_pairs
 
--- the pairs with v at k: at k's place where k is there, else last
-abbrev pub with_pair_set : List ℕ → Value → Pairs → Pairs
-with_pair_set k v no_pairs = pair k v no_pairs
-with_pair_set k v (pair l w ps) = if bytes_eq k l then pair l v ps else pair l w (with_pair_set k v ps)
+-- the pairs with this value at the key: at its position if the key exists, otherwise last
+abbrev pub with_pair_set : (key_bytes : List ℕ) → Value → Pairs → Pairs
+with_pair_set key_bytes written_value no_pairs = pair key_bytes written_value no_pairs
+with_pair_set key_bytes written_value (pair other_key other_value document_pairs) =
+    if bytes_eq key_bytes other_key then pair other_key written_value document_pairs
+    else pair other_key other_value (with_pair_set key_bytes written_value document_pairs)
 
 -- the pairs after each in turn is set
-abbrev pub with_pairs_set : Pairs → Pairs → Pairs
-with_pairs_set no_pairs found = found
-with_pairs_set (pair k v ps) found = with_pairs_set ps (with_pair_set k v found)
+abbrev pub with_pairs_set : (new_pairs pairs_so_far : Pairs) → Pairs
+with_pairs_set no_pairs pairs_so_far = pairs_so_far
+with_pairs_set (pair key_bytes written_value document_pairs) pairs_so_far =
+    with_pairs_set document_pairs (with_pair_set key_bytes written_value pairs_so_far)
 
--- each key once: of one that stands twice the last value, at the place of the first
-abbrev pub each_key_once : Pairs → Pairs
-each_key_once ps = with_pairs_set ps no_pairs
+-- each key once: a duplicate key has its last value, at its first position
+abbrev pub each_key_once : (document_pairs : Pairs) → Pairs
+each_key_once document_pairs = with_pairs_set document_pairs no_pairs
 
 -- the members of an object, in their order
-abbrev pub kept_object : Option (json.Members × List Token) → Option (Members × List Token)
-kept_object ms = converted (λ js. kept_members js no_members) ms
+abbrev pub tree_members_in_order : (parsed : Option (json.Members × List Token)) → Option (Members × List Token)
+tree_members_in_order parsed = converted (λ json_members. members_of_json json_members no_members) parsed
 
--- the members of an object whose brace was read, and those behind a key that was read, or behind its end
-abbrev pub members_inside : ℕ → List Token → Option (json.Members × List Token)
-members_inside depth ts = members (value depth) (length ts) ts
+-- the members of an object whose brace was read, and those after a key that was read, or after its end
+abbrev pub members_after_brace : (depth : ℕ) → (input_tokens : List Token) → Option (json.Members × List Token)
+members_after_brace depth input_tokens = members (value depth) (length input_tokens) input_tokens
 
-abbrev pub members_after_key : ℕ → Option (List ℕ) → List Token → Option (json.Members × List Token)
-members_after_key depth k ts = members_step (value depth) (members (value depth) (length ts)) k ts
+abbrev pub members_after_key : (depth : ℕ) → (key_bytes : Option (List ℕ)) → (input_tokens : List Token)
+    → Option (json.Members × List Token)
+members_after_key depth key_bytes input_tokens =
+    members_step (value depth) (members (value depth) (length input_tokens)) key_bytes input_tokens
 
--- the end of an object of this code and its scope, before which the code stands where it comes behind
-abbrev pub IsEndOfCode : List ℕ → Bool → List Token → List Token → Type 0
-IsEndOfCode s false ts rest = read_key ts ≡ Some (None, rest)
-IsEndOfCode s true ts rest =
-    (r : List Token) × (read_key ts ≡ Some (Some (codes "$code"), string s ∷ r)) × (read_key r ≡ Some (None, rest))
+-- the end of an object of this code and its scope; the code comes before the end if it follows the scope
+abbrev pub IsEndOfCode : (code_bytes : List ℕ) → (code_follows_scope : Bool)
+    → (input_tokens remaining_tokens : List Token) → Type 0
+IsEndOfCode code_bytes false input_tokens remaining_tokens = read_key input_tokens ≡ Some (None, remaining_tokens)
+IsEndOfCode code_bytes true input_tokens remaining_tokens =
+    (tokens_after_value : List Token)
+    × (read_key input_tokens ≡ Some (Some (codes "$code"), string code_bytes ∷ tokens_after_value))
+    × (read_key tokens_after_value ≡ Some (None, remaining_tokens))
 
 module _ (doubles : Doubles) where
   -- a tree was read, of which these tokens are left, and of the value that it means in its order this holds
-  abbrev pub ReadsTree : Option (Data × List Token) → List Token → (Value → Type 0) → Type 0
-  ReadsTree tree rest Holds = (t : Data) × (v : Value) × (tree ≡ Some (t, rest)) × (reads_in_order doubles t ≡ Ok v) × Holds v
+  abbrev pub ReadsTree : (tree : Option (Data × List Token)) → (remaining_tokens : List Token)
+      → (Holds : Value → Type 0) → Type 0
+  ReadsTree tree remaining_tokens Holds = (value_tree : Data) × (written_value : Value)
+      × (tree ≡ Some (value_tree, remaining_tokens)) × (reads_tree_in_order doubles value_tree ≡ Ok written_value)
+      × Holds written_value
 
   -- the same of the trees of a list, and of the members of an object
-  abbrev pub ReadsItems : Option (Items × List Token) → List Token → (Values → Type 0) → Type 0
-  ReadsItems trees rest Hold =
-      (ts : Items) × (vs : Values) × (trees ≡ Some (ts, rest)) × (items_in_order doubles ts ≡ Ok vs) × Hold vs
+  abbrev pub ReadsItems : (trees : Option (Items × List Token)) → (remaining_tokens : List Token)
+      → (Holds : Values → Type 0) → Type 0
+  ReadsItems trees remaining_tokens Holds =
+      (tree_items : Items) × (item_values : Values) × (trees ≡ Some (tree_items, remaining_tokens))
+      × (reads_items_in_order doubles tree_items ≡ Ok item_values) × Holds item_values
 
-  abbrev pub ReadsObject : Option (Members × List Token) → List Token → (Value → Type 0) → Type 0
-  ReadsObject trees rest Holds =
-      (ms : Members) × (v : Value) × (trees ≡ Some (ms, rest)) × (reads_in_order doubles (object ms) ≡ Ok v) × Holds v
+  abbrev pub ReadsObject : (trees : Option (Members × List Token)) → (remaining_tokens : List Token)
+      → (Holds : Value → Type 0) → Type 0
+  ReadsObject trees remaining_tokens Holds =
+      (tree_members : Members) × (written_value : Value) × (trees ≡ Some (tree_members, remaining_tokens))
+      × (reads_tree_in_order doubles (object tree_members) ≡ Ok written_value) × Holds written_value
 
   -- the members alone, whose keys are no wrapper's where they are a document's
-  abbrev pub ReadsMembers : Bool → Option (Members × List Token) → List Token → (Pairs → Type 0) → Type 0
-  ReadsMembers is_document trees rest Hold =
-      (ts : Members) × (ps : Pairs) × (trees ≡ Some (ts, rest)) × (members_in_order doubles ts ≡ Ok ps)
-      × (is_document ≡ true → has_wrapper ts ≡ false) × Hold ps
+  abbrev pub ReadsMembers : (is_document : Bool) → (trees : Option (Members × List Token))
+      → (remaining_tokens : List Token) → (Holds : Pairs → Type 0)
+      → Type 0
+  ReadsMembers is_document trees remaining_tokens Holds =
+      (tree_members : Members) × (document_pairs : Pairs) × (trees ≡ Some (tree_members, remaining_tokens))
+      × (reads_members_in_order doubles tree_members ≡ Ok document_pairs)
+      × (is_document ≡ true → has_wrapper tree_members ≡ false) × Holds document_pairs
 
   -- the document of a scope whose brace was read, in an object that may hold others so deep
-  abbrev pub ReadsScope : ℕ → List Token → List Token → (Pairs → Type 0) → Type 0
-  ReadsScope depth ts rest Hold = (0 < depth) × ReadsMembers false (kept_object (members_inside (depth - 1) ts)) rest Hold
+  abbrev pub ReadsScope : (depth : ℕ) → (input_tokens remaining_tokens : List Token) → (Holds : Pairs → Type 0) → Type 0
+  ReadsScope depth input_tokens remaining_tokens Holds = (0 < depth)
+      × ReadsMembers false (tree_members_in_order (members_after_brace (depth - 1) input_tokens)) remaining_tokens Holds
 
   -- code from the scope's value on, to the end of their object
-  abbrev pub ReadsCode : ℕ → List ℕ → Bool → List Token → List Token → (Value → Type 0) → Type 0
-  ReadsCode depth s needs_comma_after ts rest Holds =
-      (d : Data) × (scope : Option Pairs) × (r : List Token) × (converted kept (value depth ts) ≡ Some (d, r))
-      × (length r < length ts) × IsEndOfCode s needs_comma_after r rest × (scope_in_order doubles d ≡ Ok scope)
-      × Holds (code_value s scope)
+  abbrev pub ReadsCode : (depth : ℕ) → (code_bytes : List ℕ) → (code_follows_scope : Bool)
+      → (input_tokens remaining_tokens : List Token) → (Holds : Value → Type 0) → Type 0
+  ReadsCode depth code_bytes code_follows_scope input_tokens remaining_tokens Holds =
+      (scope_tree : Data) × (scope : Option Pairs) × (tokens_after_value : List Token)
+      × (converted tree_of_json (value depth input_tokens) ≡ Some (scope_tree, tokens_after_value))
+      × (length tokens_after_value < length input_tokens)
+      × IsEndOfCode code_bytes code_follows_scope tokens_after_value remaining_tokens
+      × (reads_scope_in_order doubles scope_tree ≡ Ok scope)
+      × Holds (code_value code_bytes scope)

@@ -2,7 +2,7 @@
 ghost use Rattle.std.specs.Prelude.{OnOk, IfErr};
 ghost use Rattle.bson_model.specs.Value.{Value as Meaning};
 ghost use Rattle.bson_model.specs.OrderedTexts.{HasMeaningInOrder};
-ghost use Rattle.bson_text.specs.ErrorDenials.{RulesOutText};
+ghost use Rattle.bson_text.specs.ErrorDenials.{ErrorRulesOutText};
 ghost use Rattle.bson_text.specs.ErrorPaths.{LocatesTextError};
 
 use crate::distinct_keys::are_distinct;
@@ -20,7 +20,7 @@ use std::alloc::Global;
 ///
 /// # Errors
 ///
-/// - `OutOfMemory`: a request for memory was refused.
+/// - `OutOfMemory`: an allocation failed.
 /// - `DuplicateKey`: an object has two equal keys.
 /// - `GaveUp`: an object begins with `$scope`.
 /// - `Syntax`: the text is not JSON of at most 127 levels, or a number is out of range.
@@ -32,9 +32,9 @@ pub fn check_text(
     text: &str,
     scratch: &mut Scratch,
 ) -> Result<(), TraversalError>
-    ensures ok { OnOk result ((v : Meaning) × HasMeaningInOrder doubles text.now v) }
-    ensures stops { IfErr result (λ e. RulesOutText doubles ⊥ ⊥ e text.now) }
-    ensures located { IfErr result (λ e. LocatesTextError doubles e text.now) }
+    ensures ok { OnOk result ((written_value : Meaning) × HasMeaningInOrder doubles text.now written_value) }
+    ensures stops { IfErr result (λ reported_error. ErrorRulesOutText doubles ⊥ ⊥ reported_error text.now) }
+    ensures located { IfErr result (λ reported_error. LocatesTextError doubles reported_error text.now) }
 {
     write_text(alloc, doubles, text, scratch, DiscardWriter { alloc })?;
     Ok(())
@@ -48,7 +48,7 @@ pub struct DiscardWriter {
 }
 
 impl ValueWriter for DiscardWriter {
-    type Open = ();
+    type OpenContainer = ();
 
     ghost use Rattle.std.specs.Prelude.{[]};
 
@@ -56,19 +56,19 @@ impl ValueWriter for DiscardWriter {
 
     ghost sorts_keys = { ⊥ };
 
-    ghost item_name_of = { λ n. [] };
+    ghost item_name_of = { λ item_index. [] };
 
-    ghost wrote_value = { λ old k v new. Unit {0} };
+    ghost wrote_value = { λ old key_name written_value new. Unit {0} };
 
-    ghost wrote_document = { λ old ps new. Unit {0} };
+    ghost wrote_document = { λ old document_pairs new. Unit {0} };
 
-    ghost began_array = { λ old k mark new. Unit {0} };
+    ghost began_array = { λ old key_name open_container new. Unit {0} };
 
-    ghost began_document = { λ old mark new. Unit {0} };
+    ghost began_document = { λ old open_container new. Unit {0} };
 
-    ghost wrote_key = { λ old k new. Unit {0} };
+    ghost wrote_key = { λ old key_name new. Unit {0} };
 
-    ghost began_code = { λ old k s mark new. Unit {0} };
+    ghost began_code = { λ old key_name code_bytes open_container new. Unit {0} };
 
     fn string(&mut self, _name: &str, _text: &str) -> Result<(), TraversalError> {
         Ok(())
@@ -94,15 +94,15 @@ impl ValueWriter for DiscardWriter {
         Ok(())
     }
 
-    fn end_array(&mut self, _open: ()) -> Result<(), TraversalError> {
+    fn end_array(&mut self, _open_container: ()) -> Result<(), TraversalError> {
         Ok(())
     }
 
-    fn embed(&mut self, _name: &str) -> Result<(), TraversalError> {
+    fn embed_document(&mut self, _name: &str) -> Result<(), TraversalError> {
         Ok(())
     }
 
-    fn begin(&mut self) -> Result<(), TraversalError> {
+    fn begin_document(&mut self) -> Result<(), TraversalError> {
         Ok(())
     }
 
@@ -110,7 +110,11 @@ impl ValueWriter for DiscardWriter {
         Ok(())
     }
 
-    fn end(&mut self, _open: (), keys: &mut [&str]) -> Result<(), TraversalError> {
+    fn end_document(
+        &mut self,
+        _open_container: (),
+        keys: &mut [&str],
+    ) -> Result<(), TraversalError> {
         if !are_distinct(self.alloc, keys) {
             return Err(TraversalError::DuplicateKey);
         }
@@ -121,7 +125,7 @@ impl ValueWriter for DiscardWriter {
         Ok(())
     }
 
-    fn end_code(&mut self, _open: ()) -> Result<(), TraversalError> {
+    fn end_code(&mut self, _open_container: ()) -> Result<(), TraversalError> {
         Ok(())
     }
 }

@@ -8,12 +8,12 @@ ghost use Rattle.bson_scalar.specs.View.{scalar_of, scalar_view};
 ghost use Rattle.bson_model.specs.Value.{Pairs};
 ghost use Rattle.bson_tokens.specs.declared.arrangement.Arrangement.TheVariants as arrangement;
 ghost use Rattle.bson_text.specs.MemberSpans.{EndsWithBrace};
-ghost use Rattle.bson_text.specs.TraversalErrors.{MayFailAtDocumentEnd};
+ghost use Rattle.bson_text.specs.TraversalErrors.{IsDocumentEndError};
 ghost use Rattle.bson_text.specs.TraversalResults.{PairsWritten, keys_of, each_key_once};
 
 use crate::distinct_keys::are_distinct;
 use crate::member_spans::{end_object, put_comma};
-use crate::sorted_writer::Mark;
+use crate::sorted_writer::ContainerStart;
 use crate::traversal_error::TraversalError;
 use crate::value_writer::ValueWriter;
 use bson_scalar::scalar::Scalar;
@@ -31,13 +31,13 @@ pub(crate) struct DisplayWriter {
     pub(crate) arrangement: Arrangement,
     pub(crate) text: Vec<u8>,
     // Memory for the text of a scalar.
-    pub(crate) part: String,
+    pub(crate) fragment: String,
     // The offsets of the members of all open documents, the outermost document before the others.
     pub(crate) member_starts: Vec<usize>,
     // Whether a value precedes the next value.
     pub(crate) needs_comma: bool,
     // How many bytes may be allocated to sort members.
-    pub(crate) limit: usize,
+    pub(crate) sort_memory_limit: usize,
     ghost utf8: { is_utf8 text.items ≡ true },
 }
 
@@ -47,7 +47,8 @@ impl DisplayWriter {
 
     // Adds the separator of elements that is due.
     fn add_separator(&mut self) -> Result<(), AllocError>
-        ensures { OnOk result (HasDisplayAdded self.old (separator_if self.old.needs_comma) self.old.needs_comma self.new) }
+        ensures { OnOk result
+            (HasDisplayAdded self.old (separator_if self.old.needs_comma) self.old.needs_comma self.new) }
     {
         if self.needs_comma {
             self.text.extend_from_slice(b", ")?;
@@ -56,7 +57,7 @@ impl DisplayWriter {
     }
 
     // Adds the text, after which a comma is needed or not.
-    fn add(&mut self, text: &str, needs_comma: bool) -> Result<(), AllocError>
+    fn add_text(&mut self, text: &str, needs_comma: bool) -> Result<(), AllocError>
         ensures { OnOk result (HasDisplayAdded self.old text.now needs_comma self.new) }
     {
         self.text.extend_from_slice(text.as_bytes())?;
@@ -69,63 +70,87 @@ impl DisplayWriter {
         ensures { OnOk result (HasDisplayAfterSeparator self.old (scalar_text (scalar_view value)) true self.new) }
     {
         self.add_separator()?;
-        self.part.clear();
-        write!(self.part, "{}", scalar_ref(&value))?;
-        self.text.extend_from_slice(self.part.as_bytes())?;
+        self.fragment.clear();
+        write!(self.fragment, "{}", scalar_ref(&value))?;
+        self.text.extend_from_slice(self.fragment.as_bytes())?;
         self.needs_comma = true;
         Ok(())
     }
 
-    fn position(&self) -> Mark
+    fn container_start(&self) -> ContainerStart
         ensures start { result.start ≡ length self.now.text.items }
-        ensures start_count { result.start_count ≡ length self.now.member_starts.items }
+        ensures outer_member_count { result.outer_member_count ≡ length self.now.member_starts.items }
     {
-        Mark {
+        ContainerStart {
             start: self.text.len(),
-            start_count: self.member_starts.len(),
+            outer_member_count: self.member_starts.len(),
         }
     }
 
     // Ends a document with its members in ascending key order.
-    fn end_sorted(&mut self, mark: Mark, keys: &[&str]) -> Result<(), TraversalError>
-        requires stands { (start : DisplayWriter) × (mid : DisplayWriter) × (ps : Pairs) × HasBegunDisplay start mark mid
-            × PairsWritten (λ a k v b. HasDisplayOfValue a v b) HasDisplayOfKey ps mid self.old
-            × (keys_of ps ≡ map (λ k. k.now) keys.now) }
+    fn end_sorted(
+        &mut self,
+        open_container: ContainerStart,
+        keys: &[&str],
+    ) -> Result<(), TraversalError>
+        requires members_written { (writer_before : DisplayWriter) × (writer_begun : DisplayWriter)
+            × (document_pairs : Pairs)
+            × HasBegunDisplay writer_before open_container writer_begun
+            × PairsWritten
+            (λ state_before key_name shown_value state_after.
+            HasDisplayOfValue state_before shown_value state_after) HasDisplayOfKey document_pairs writer_begun self.old
+            × (keys_of document_pairs ≡ map (λ key_name. key_name.now) keys.now) }
         requires ascending { self.old.arrangement ≡ arrangement.Ascending }
-        ensures written { OnOk result ((start : DisplayWriter) (mid : DisplayWriter) (ps : Pairs) → HasBegunDisplay start mark mid
-            → PairsWritten (λ a k v b. HasDisplayOfValue a v b) HasDisplayOfKey ps mid self.old
-            → keys_of ps ≡ map (λ k. k.now) keys.now → HasDisplayOfPairs start (each_key_once ps) self.new) }
-        ensures stops { IfErr result (MayFailAtDocumentEnd (λ doubles. ⊥) ⊤ (map (λ k. k.now) keys.now)) }
+        ensures written { OnOk result
+            ((writer_before : DisplayWriter) (writer_begun : DisplayWriter) (document_pairs : Pairs)
+            → HasBegunDisplay writer_before open_container writer_begun
+            → PairsWritten
+            (λ state_before key_name shown_value state_after.
+            HasDisplayOfValue state_before shown_value state_after) HasDisplayOfKey document_pairs writer_begun self.old
+            → keys_of document_pairs ≡ map (λ key_name. key_name.now) keys.now
+            → HasDisplayOfPairs writer_before (each_key_once document_pairs) self.new) }
+        ensures stops { IfErr result (IsDocumentEndError (λ doubles. ⊥) ⊤ (map (λ key_name. key_name.now) keys.now)) }
     {
-        let member_starts = &self.member_starts[mark.start_count..];
+        let member_starts = &self.member_starts[open_container.outer_member_count..];
         end_object(
             self.alloc,
             keys,
             member_starts,
-            mark.start,
-            self.limit,
+            open_container.start,
+            self.sort_memory_limit,
             &mut self.text,
         )?;
         put_space_before_brace(keys.is_empty(), &mut self.text)?;
-        self.member_starts.truncate(mark.start_count);
+        self.member_starts
+            .truncate(open_container.outer_member_count);
         self.needs_comma = true;
         Ok(())
     }
 
     // Ends a document, and keeps its members in input order. Rejects a duplicate key.
-    fn end_in_order(&mut self, mark: Mark, keys: &mut [&str]) -> Result<(), TraversalError>
-        requires first_places { self.old.arrangement ≡ arrangement.FirstPositions }
-        ensures written { OnOk result ((start : DisplayWriter) (mid : DisplayWriter) (ps : Pairs) → HasBegunDisplay start mark mid
-            → PairsWritten (λ a k v b. HasDisplayOfValue a v b) HasDisplayOfKey ps mid self.old
-            → keys_of ps ≡ map (λ k. k.now) keys.old → HasDisplayOfPairs start (each_key_once ps) self.new) }
-        ensures stops { IfErr result (MayFailAtDocumentEnd (λ doubles. ⊥) ⊤ (map (λ k. k.now) keys.old)) }
+    fn end_in_order(
+        &mut self,
+        open_container: ContainerStart,
+        keys: &mut [&str],
+    ) -> Result<(), TraversalError>
+        requires first_occurrences { self.old.arrangement ≡ arrangement.FirstPositions }
+        ensures written { OnOk result
+            ((writer_before : DisplayWriter) (writer_begun : DisplayWriter) (document_pairs : Pairs)
+            → HasBegunDisplay writer_before open_container writer_begun
+            → PairsWritten
+            (λ state_before key_name shown_value state_after.
+            HasDisplayOfValue state_before shown_value state_after) HasDisplayOfKey document_pairs writer_begun self.old
+            → keys_of document_pairs ≡ map (λ key_name. key_name.now) keys.old
+            → HasDisplayOfPairs writer_before (each_key_once document_pairs) self.new) }
+        ensures stops { IfErr result (IsDocumentEndError (λ doubles. ⊥) ⊤ (map (λ key_name. key_name.now) keys.old)) }
     {
         let brace = DisplayWriter::closing_brace(self.needs_comma);
         if !are_distinct(self.alloc, keys) {
             return Err(TraversalError::DuplicateKey);
         }
-        self.member_starts.truncate(mark.start_count);
-        Ok(self.add(brace, true)?)
+        self.member_starts
+            .truncate(open_container.outer_member_count);
+        Ok(self.add_text(brace, true)?)
     }
 
     // Returns the brace that ends a document, with a space after members.
@@ -138,7 +163,7 @@ impl DisplayWriter {
 
 // The members begin with a space, so that only a comma separates them.
 impl ValueWriter for DisplayWriter {
-    type Open = Mark;
+    type OpenContainer = ContainerStart;
 
     ghost use Rattle.bson_text.specs.DisplayOutput.{HasBegunDisplay, HasBegunCodeDisplay, HasDisplayOfKey, HasDisplayAfterSeparator, HasDisplayOfPairs, HasDisplayOfValue};
 
@@ -146,25 +171,25 @@ impl ValueWriter for DisplayWriter {
 
     ghost sorts_keys = { ⊤ };
 
-    ghost item_name_of = { λ n. [] };
+    ghost item_name_of = { λ item_index. [] };
 
-    ghost wrote_value = { λ old k v new. HasDisplayOfValue old v new };
+    ghost wrote_value = { λ old key_name shown_value new. HasDisplayOfValue old shown_value new };
 
-    ghost wrote_document = { λ old ps new. HasDisplayOfPairs old ps new };
+    ghost wrote_document = { λ old document_pairs new. HasDisplayOfPairs old document_pairs new };
 
-    ghost began_array = { λ old k mark new. HasDisplayAfterSeparator old (codes "[") false new };
+    ghost began_array = { λ old key_name open_container new. HasDisplayAfterSeparator old (codes "[") false new };
 
-    ghost began_document = { λ old mark new. HasBegunDisplay old mark new };
+    ghost began_document = { λ old open_container new. HasBegunDisplay old open_container new };
 
-    ghost wrote_key = { λ old k new. HasDisplayOfKey old k new };
+    ghost wrote_key = { λ old key_name new. HasDisplayOfKey old key_name new };
 
-    ghost began_code = { λ old k s mark new. HasBegunCodeDisplay old s mark new };
+    ghost began_code = { λ old key_name code_bytes open_container new. HasBegunCodeDisplay old code_bytes open_container new };
 
     fn string(&mut self, _name: &str, text: &str) -> Result<(), TraversalError> {
         self.add_separator()?;
-        self.add("\"", false)?;
-        self.add(text, false)?;
-        Ok(self.add("\"", true)?)
+        self.add_text("\"", false)?;
+        self.add_text(text, false)?;
+        Ok(self.add_text("\"", true)?)
     }
 
     fn boolean(&mut self, _name: &str, truth: bool) -> Result<(), TraversalError> {
@@ -183,26 +208,26 @@ impl ValueWriter for DisplayWriter {
         ""
     }
 
-    fn begin_array(&mut self, _name: &str) -> Result<Mark, TraversalError> {
+    fn begin_array(&mut self, _name: &str) -> Result<ContainerStart, TraversalError> {
         self.add_separator()?;
-        let mark = self.position();
-        self.add("[", false)?;
-        Ok(mark)
+        let open_container = self.container_start();
+        self.add_text("[", false)?;
+        Ok(open_container)
     }
 
-    fn end_array(&mut self, _mark: Mark) -> Result<(), TraversalError> {
-        Ok(self.add("]", true)?)
+    fn end_array(&mut self, _open_container: ContainerStart) -> Result<(), TraversalError> {
+        Ok(self.add_text("]", true)?)
     }
 
-    fn embed(&mut self, _name: &str) -> Result<(), TraversalError> {
+    fn embed_document(&mut self, _name: &str) -> Result<(), TraversalError> {
         Ok(())
     }
 
-    fn begin(&mut self) -> Result<Mark, TraversalError> {
+    fn begin_document(&mut self) -> Result<ContainerStart, TraversalError> {
         self.add_separator()?;
-        let mark = self.position();
-        self.add("{", false)?;
-        Ok(mark)
+        let open_container = self.container_start();
+        self.add_text("{", false)?;
+        Ok(open_container)
     }
 
     fn key(&mut self, name: &str) -> Result<(), TraversalError> {
@@ -210,26 +235,30 @@ impl ValueWriter for DisplayWriter {
         let Ok(()) = self.member_starts.push(self.text.len()) else {
             return Err(TraversalError::OutOfMemory);
         };
-        self.add(" \"", false)?;
-        self.add(name, false)?;
-        Ok(self.add("\": ", false)?)
+        self.add_text(" \"", false)?;
+        self.add_text(name, false)?;
+        Ok(self.add_text("\": ", false)?)
     }
 
-    fn end(&mut self, mark: Mark, keys: &mut [&str]) -> Result<(), TraversalError> {
+    fn end_document(
+        &mut self,
+        open_container: ContainerStart,
+        keys: &mut [&str],
+    ) -> Result<(), TraversalError> {
         match self.arrangement {
-            Arrangement::FirstPositions => self.end_in_order(mark, keys),
-            Arrangement::Ascending => self.end_sorted(mark, keys),
+            Arrangement::FirstPositions => self.end_in_order(open_container, keys),
+            Arrangement::Ascending => self.end_sorted(open_container, keys),
         }
     }
 
     // Begins the scope, which is not shown.
-    fn begin_code(&mut self, _name: &str, code: &str) -> Result<Mark, TraversalError> {
+    fn begin_code(&mut self, _name: &str, code: &str) -> Result<ContainerStart, TraversalError> {
         self.add_separator()?;
-        self.add(code, false)?;
-        Ok(self.position())
+        self.add_text(code, false)?;
+        Ok(self.container_start())
     }
 
-    fn end_code(&mut self, scope: Mark) -> Result<(), TraversalError> {
+    fn end_code(&mut self, scope: ContainerStart) -> Result<(), TraversalError> {
         self.text.truncate(scope.start);
         self.needs_comma = true;
         Ok(())
@@ -258,10 +287,10 @@ fn scalar_ref(value: &Scalar) -> ScalarRef<'_>
         Scalar::Undefined => ScalarRef::Undefined,
         Scalar::MinKey => ScalarRef::MinKey,
         Scalar::MaxKey => ScalarRef::MaxKey,
-        Scalar::Boolean(b) => ScalarRef::Boolean(*b),
+        Scalar::Boolean(truth) => ScalarRef::Boolean(*truth),
         Scalar::Double(pattern) => ScalarRef::Double(*pattern),
-        Scalar::Int32(z) => ScalarRef::Int32(*z),
-        Scalar::Int64(z) => ScalarRef::Int64(*z),
+        Scalar::Int32(number_value) => ScalarRef::Int32(*number_value),
+        Scalar::Int64(number_value) => ScalarRef::Int64(*number_value),
         Scalar::String(text) => ScalarRef::String(text.as_str()),
         Scalar::Symbol(text) => ScalarRef::Symbol(text.as_str()),
         Scalar::JavaScriptCode(code) => ScalarRef::JavaScriptCode(code.as_str()),

@@ -14,40 +14,41 @@ const MAX_KEYS_COMPARED_IN_PAIRS: usize = 32;
 /// Returns whether no two of the keys are equal. If there are many and they do not ascend, their
 /// hashes are sorted, and the keys themselves only if two hashes are equal.
 pub fn are_distinct(alloc: Global, keys: &mut [&str]) -> bool
-    ensures { IsTrue result ↔ AreDistinct (map (λ k. k.now) keys.old) }
+    ensures { IsTrue result ↔ AreDistinct (map (λ member_key. member_key.now) keys.old) }
 {
-    if ascend(keys) {
+    if keys_ascend(keys) {
         return true;
     }
     if keys.len() <= MAX_KEYS_COMPARED_IN_PAIRS {
-        return differ_in_pairs(keys);
+        return are_distinct_pairwise(keys);
     }
-    if differ_by_hashes(alloc, keys) {
+    if are_distinct_by_hashes(alloc, keys) {
         return true;
     }
     keys.sort_unstable();
-    ascend(keys)
+    keys_ascend(keys)
 }
 
 // Each key is less than the next, by bytes.
-fn ascend(keys: &[&str]) -> bool
-    ensures distinct { IsTrue result → AreDistinct (map (λ k. k.now) keys.now) }
-    ensures sorted { IsSorted (λ a b. slice_cmp nat_cmp a.now b.now) keys.now → AreDistinct (map (λ k. k.now) keys.now)
+fn keys_ascend(keys: &[&str]) -> bool
+    ensures distinct { IsTrue result → AreDistinct (map (λ member_key. member_key.now) keys.now) }
+    ensures sorted { IsSorted (λ first_key second_key. slice_cmp nat_cmp first_key.now second_key.now) keys.now
+        → AreDistinct (map (λ member_key. member_key.now) keys.now)
         → IsTrue result }
 {
-    for next in 1..keys.len() {
-        if !keys[next - 1].cmp(keys[next]).is_lt() {
+    for next_index in 1..keys.len() {
+        if !keys[next_index - 1].cmp(keys[next_index]).is_lt() {
             return false;
         }
     }
     true
 }
 
-fn differ_in_pairs(keys: &[&str]) -> bool
-    ensures { IsTrue result ↔ AreDistinct (map (λ k. k.now) keys.now) }
+fn are_distinct_pairwise(keys: &[&str]) -> bool
+    ensures { IsTrue result ↔ AreDistinct (map (λ member_key. member_key.now) keys.now) }
 {
-    for at in 1..keys.len() {
-        if keys[..at].contains(&keys[at]) {
+    for key_index in 1..keys.len() {
+        if keys[..key_index].contains(&keys[key_index]) {
             return false;
         }
     }
@@ -55,8 +56,8 @@ fn differ_in_pairs(keys: &[&str]) -> bool
 }
 
 // Returns whether no two keys have the same hash; false if an allocation fails.
-fn differ_by_hashes(alloc: Global, keys: &[&str]) -> bool
-    ensures { IsTrue result → AreDistinct (map (λ k. k.now) keys.now) }
+fn are_distinct_by_hashes(alloc: Global, keys: &[&str]) -> bool
+    ensures { IsTrue result → AreDistinct (map (λ member_key. member_key.now) keys.now) }
 {
     match hashes_of(alloc, keys) {
         Ok(mut hashes) => are_distinct_hashes(hashes.as_mut_slice()),
@@ -65,11 +66,11 @@ fn differ_by_hashes(alloc: Global, keys: &[&str]) -> bool
 }
 
 fn hashes_of(alloc: Global, keys: &[&str]) -> Result<Vec<u64>, AllocError>
-    ensures { IfOk result (λ hashes. hashes.items ≡ map key_hash (map (λ k. k.now) keys.now)) }
+    ensures { IfOk result (λ hashes. hashes.items ≡ map key_hash (map (λ member_key. member_key.now) keys.now)) }
 {
     let mut hashes = Vec::with_capacity(alloc, keys.len())?;
-    'keys: for at in 0..keys.len() {
-        hashes.push(hash_key(keys[at]))?;
+    'keys: for key_index in 0..keys.len() {
+        hashes.push(hash_key(keys[key_index]))?;
     }
     Ok(hashes)
 }

@@ -9,8 +9,8 @@ ghost use Rattle.bson_text.specs.declared.traversal_error.TraversalError.{Traver
 ghost use Rattle.bson_scalar.specs.Table.{wrapper_of};
 ghost use Rattle.bson_tree.specs.Place.{path_of, segment_of, key as key_segment};
 ghost use Rattle.bson_text.specs.ErrorPaths.{IsElementError, IsMemberError, IsScalarFault, SkipsItems, SkipsMembers, IsErrorAtKey, IsWrongShapeAtValue};
-ghost use Rattle.bson_text.specs.ErrorPaths.{IfFault, IsWrongShape, HasNoPlace, IsWrongShapeAtKey, IsErrorInScope};
-ghost use Rattle.bson_text.specs.TraversalErrors.{error_of_reading, IsGivenUpAfter, IsSameKindOrMemory, IsReadingError};
+ghost use Rattle.bson_text.specs.ErrorPaths.{IfErrorIsFault, IsWrongShape, IsNotFault, IsWrongShapeAtKey, IsErrorInScope};
+ghost use Rattle.bson_text.specs.TraversalErrors.{error_of_reading, IsErrorAfterGivingUp, IsSameKindOrOutOfMemory, IsReadingError};
 ghost use Rattle.bson_text.specs.declared.traversal_error.TraversalError.TheVariants.{Syntax};
 
 use crate::level::Level;
@@ -27,8 +27,8 @@ use std::alloc::{AllocError, Global};
 
 // Returns the fault at the place, or `OutOfMemory` if an allocation fails.
 fn error_at(alloc: Global, place: Place) -> TraversalError
-    ensures located { IfFault result (λ q. q ≡ place) }
-    ensures kind { IsSameKindOrMemory Syntax result }
+    ensures located { IfErrorIsFault result (λ found_place. found_place ≡ place) }
+    ensures kind { IsSameKindOrOutOfMemory Syntax result }
 {
     match Box::new(alloc, place) {
         Ok(place) => TraversalError::Fault(place),
@@ -38,8 +38,8 @@ fn error_at(alloc: Global, place: Place) -> TraversalError
 
 // Returns the fault that the value itself has the wrong shape.
 fn wrong_shape_here(alloc: Global, message: &'static str) -> TraversalError
-    ensures located { IfFault result IsWrongShape }
-    ensures kind { IsSameKindOrMemory Syntax result }
+    ensures located { IfErrorIsFault result IsWrongShape }
+    ensures kind { IsSameKindOrOutOfMemory Syntax result }
 {
     error_at(
         alloc,
@@ -52,8 +52,9 @@ fn wrong_shape_here(alloc: Global, message: &'static str) -> TraversalError
 
 // Adds a segment to the path, for the array or object around the value.
 fn with_segment(mut place: Box<Place>, segment: Segment) -> Result<Box<Place>, AllocError>
-    ensures path { IfOk result (λ p. path_of p.value ≡ path_of place.value ++ segment_of segment ∷ []) }
-    ensures reason { IfOk result (λ p. p.value.reason ≡ place.value.reason) }
+    ensures path { IfOk result
+        (λ extended_place. path_of extended_place.value ≡ path_of place.value ++ segment_of segment ∷ []) }
+    ensures reason { IfOk result (λ extended_place. extended_place.value.reason ≡ place.value.reason) }
 {
     place.segments.push(segment)?;
     Ok(place)
@@ -61,8 +62,9 @@ fn with_segment(mut place: Box<Place>, segment: Segment) -> Result<Box<Place>, A
 
 // Returns the fault of a scalar, with an empty path.
 pub(crate) fn scalar_error(alloc: Global, cause: error::Error) -> TraversalError
-    ensures located { (r : Result Meaning Fault) → IsReadError cause r → IsScalarFault r result }
-    ensures kind { IsSameKindOrMemory (error_of_reading cause) result }
+    ensures located { (read_result : Result Meaning Fault) → IsReadError cause read_result
+        → IsScalarFault read_result result }
+    ensures kind { IsSameKindOrOutOfMemory (error_of_reading cause) result }
 {
     match cause {
         error::Error::OutOfMemory => TraversalError::OutOfMemory,
@@ -96,13 +98,13 @@ pub(crate) fn skip_members(
 {
     let mut first_wrapper: Option<Wrapper> = None;
     'members: while let Some(key) = reader.next_key()? {
-        first_wrapper = or_wrapper(first_wrapper, key);
+        first_wrapper = earliest_wrapper(first_wrapper, key);
         reader.skip_value(depth)?;
     }
     Ok(first_wrapper)
 }
 
-fn or_wrapper(first_wrapper: Option<Wrapper>, key: &str) -> Option<Wrapper>
+fn earliest_wrapper(first_wrapper: Option<Wrapper>, key: &str) -> Option<Wrapper>
     ensures { is_some result ≡ (is_some first_wrapper || is_some (wrapper_of key.now)) }
 {
     match first_wrapper {
@@ -115,18 +117,18 @@ fn or_wrapper(first_wrapper: Option<Wrapper>, key: &str) -> Option<Wrapper>
 pub(crate) fn error_in_element(
     reader: &mut Reader<'_>,
     depth: usize,
-    at: usize,
+    item_index: usize,
     failure: TraversalError,
 ) -> TraversalError
-    ensures located { IsElementError depth at failure reader.old result reader.new }
-    ensures kind { IsSameKindOrMemory failure result }
+    ensures located { IsElementError depth item_index failure reader.old result reader.new }
+    ensures kind { IsSameKindOrOutOfMemory failure result }
 {
     match failure {
         TraversalError::Fault(place) => {
             let Ok(()) = skip_items(reader, depth) else {
                 return TraversalError::Syntax;
             };
-            match with_segment(place, Segment::Element(at)) {
+            match with_segment(place, Segment::Element(item_index)) {
                 Ok(place) => TraversalError::Fault(place),
                 Err(_) => TraversalError::OutOfMemory,
             }
@@ -148,7 +150,7 @@ pub(crate) fn error_in_member(
     failure: TraversalError,
 ) -> TraversalError
     ensures located { IsMemberError level.depth is_document key.now failure reader.old result reader.new }
-    ensures kind { IsSameKindOrMemory failure result }
+    ensures kind { IsSameKindOrOutOfMemory failure result }
 {
     match failure {
         TraversalError::Fault(place) => {
@@ -173,8 +175,9 @@ pub(crate) fn error_in_member(
 }
 
 fn place_at_key(alloc: Global, key: &str, place: Box<Place>) -> Result<Box<Place>, AllocError>
-    ensures path { IfOk result (λ p. path_of p.value ≡ path_of place.value ++ key_segment key.now ∷ []) }
-    ensures reason { IfOk result (λ p. p.value.reason ≡ place.value.reason) }
+    ensures path { IfOk result
+        (λ extended_place. path_of extended_place.value ≡ path_of place.value ++ key_segment key.now ∷ []) }
+    ensures reason { IfOk result (λ extended_place. extended_place.value.reason ≡ place.value.reason) }
 {
     with_segment(place, Segment::Key(String::from_str(alloc, key)?))
 }
@@ -182,7 +185,7 @@ fn place_at_key(alloc: Global, key: &str, place: Box<Place>) -> Result<Box<Place
 // Extends the path of a scalar's fault by the only key of its wrapper.
 pub(crate) fn error_at_key(alloc: Global, key: &str, failure: TraversalError) -> TraversalError
     ensures located { IsErrorAtKey key.now failure result }
-    ensures kind { IsSameKindOrMemory failure result }
+    ensures kind { IsSameKindOrOutOfMemory failure result }
 {
     match failure {
         TraversalError::Fault(place) => match place_at_key(alloc, key, place) {
@@ -203,7 +206,7 @@ pub(crate) fn wrong_shape_at_key(
     message: &'static str,
 ) -> TraversalError
     ensures located { IsWrongShapeAtKey level.depth reader.old result reader.new }
-    ensures kind { IsSameKindOrMemory Syntax result }
+    ensures kind { IsSameKindOrOutOfMemory Syntax result }
 {
     let Ok(_) = skip_members(reader, level.depth) else {
         return TraversalError::Syntax;
@@ -218,7 +221,7 @@ pub(crate) fn wrong_shape_at_value(
     message: &'static str,
 ) -> TraversalError
     ensures located { IsWrongShapeAtValue level.depth reader.old result reader.new }
-    ensures kind { IsSameKindOrMemory Syntax result }
+    ensures kind { IsSameKindOrOutOfMemory Syntax result }
 {
     let Ok(()) = reader.skip_value(level.depth) else {
         return TraversalError::Syntax;
@@ -233,7 +236,7 @@ pub(crate) fn error_in_scope(
     failure: TraversalError,
 ) -> TraversalError
     ensures located { IsErrorInScope level.depth failure reader.old result reader.new }
-    ensures kind { IsSameKindOrMemory failure result }
+    ensures kind { IsSameKindOrOutOfMemory failure result }
 {
     match failure {
         TraversalError::Fault(place) => match reader.next_key() {
@@ -253,8 +256,8 @@ pub(crate) fn error_in_scope(
 
 // If code was read ahead, a fault can be that code's, so the traversal gives up.
 pub(crate) fn give_up(failure: TraversalError) -> TraversalError
-    ensures located { HasNoPlace result }
-    ensures kind { IsGivenUpAfter failure result }
+    ensures located { IsNotFault result }
+    ensures kind { IsErrorAfterGivingUp failure result }
 {
     match failure {
         TraversalError::Fault(_) => TraversalError::GaveUp,
@@ -269,15 +272,18 @@ pub(crate) fn give_up(failure: TraversalError) -> TraversalError
 pub(crate) fn read_scalar(
     level: Level,
     wrapper: Wrapper,
-    held: Value,
+    content: Value,
     key: &str,
 ) -> Result<Scalar, TraversalError>
-    ensures ok { IfOk result (λ x. wrapper_read_in level.doubles wrapper (view held) ≡ Ok (scalar_view x)) }
-    ensures located { IfErr result (λ f. (e : Failure) × IsScalarFault (wrapper_read_in level.doubles wrapper (view held)) e
-        × IsErrorAtKey key.now e f) }
-    ensures kind { IfErr result (λ f. IsReadingError (wrapper_read_in level.doubles wrapper (view held)) f) }
+    ensures ok { IfOk result
+        (λ scalar_value. wrapper_read_in level.doubles wrapper (view content) ≡ Ok (scalar_view scalar_value)) }
+    ensures located { IfErr result (λ reported_error. (scalar_failure : Failure)
+        × IsScalarFault (wrapper_read_in level.doubles wrapper (view content)) scalar_failure
+        × IsErrorAtKey key.now scalar_failure reported_error) }
+    ensures kind { IfErr result
+        (λ reported_error. IsReadingError (wrapper_read_in level.doubles wrapper (view content)) reported_error) }
 {
-    match read_wrapper(level.alloc, level.doubles, wrapper, held) {
+    match read_wrapper(level.alloc, level.doubles, wrapper, content) {
         Ok(value) => Ok(value),
         Err(cause) => Err(error_at_key(level.alloc, key, scalar_error(level.alloc, cause))),
     }

@@ -1,12 +1,12 @@
 //! From text to text, token by token.
 ghost use Rattle.std.specs.Prelude.{◌≡◌, IfOk, IfErr, IsUtf8, ⊤};
-ghost use Rattle.bson_text.specs.OutputTexts.{IsFilteredText, IsShownText, IsShownTextBy, IsShownTextInOrder};
+ghost use Rattle.bson_text.specs.OutputTexts.{IsFilteredText, IsShownText, IsShownTextArranged, IsShownTextInOrder};
 ghost use Rattle.bson_text.specs.OutputTexts.{IsSortedText};
 ghost use Rattle.bson_text.specs.RejectedText.{IsRejectedText};
 ghost use Rattle.bson_scalar.specs.declared.form.Doubles.TheVariants.{Finite};
 
 use crate::display_writer::DisplayWriter;
-use crate::member_spans::memory_allowed;
+use crate::member_spans::allowed_sort_memory;
 use crate::sorted_writer::SortedWriter;
 use crate::text_writer::TextWriter;
 use crate::traversal::write_text;
@@ -16,11 +16,11 @@ use bson_tokens::arrangement::Arrangement;
 use json::{Scratch, Writer};
 use std::alloc::Global;
 
-// The capacity for a part, enough for almost every value, and for the offsets of members. A short
+// The capacity for a fragment, enough for almost every value, and for the offsets of members. A short
 // input needs no more.
-const PART_CAPACITY: usize = 64;
+const FRAGMENT_CAPACITY: usize = 64;
 
-const STARTS_CAPACITY: usize = 16;
+const MEMBER_STARTS_CAPACITY: usize = 16;
 
 /// Writes the compact text of the value that the text denotes in the form, with the keys of each
 /// document in the order of the text, at every depth. It is written as the text is read, with no
@@ -28,9 +28,9 @@ const STARTS_CAPACITY: usize = 16;
 ///
 /// # Errors
 ///
-/// - `OutOfMemory`: a request for memory was refused.
+/// - `OutOfMemory`: an allocation failed.
 /// - `DuplicateKey`: an object has two equal keys. The text that
-///   [`normalize_text`](bson_tokens::normalize::normalize_text) returns by first places has none, and
+///   [`normalize_text`](bson_tokens::normalize::normalize_text) returns by first positions has none, and
 ///   means the same.
 /// - `GaveUp`: an object begins with `$scope`, or the mode is `Finite` and a double has no text.
 /// - `Syntax`: the text is not JSON of at most 127 levels, or a number is out of range.
@@ -50,10 +50,10 @@ pub fn filter_text(
         alloc,
         doubles,
         form,
-        out: Writer::new(Vec::with_capacity(alloc, output_capacity(text))?),
+        json_writer: Writer::new(Vec::with_capacity(alloc, output_capacity(text))?),
     };
-    let written = write_text(alloc, doubles, text, scratch, writer)?;
-    Ok(written.out.into_inner())
+    let finished_writer = write_text(alloc, doubles, text, scratch, writer)?;
+    Ok(finished_writer.json_writer.into_inner())
 }
 
 /// Writes what [`filter_text`] writes, with the keys of each document in ascending order of bytes;
@@ -80,13 +80,13 @@ pub fn sort_text(
         doubles,
         form,
         text: Vec::with_capacity(alloc, output_capacity(text))?,
-        part: Vec::with_capacity(alloc, PART_CAPACITY)?,
-        member_starts: Vec::with_capacity(alloc, STARTS_CAPACITY)?,
+        fragment: Vec::with_capacity(alloc, FRAGMENT_CAPACITY)?,
+        member_starts: Vec::with_capacity(alloc, MEMBER_STARTS_CAPACITY)?,
         needs_comma: false,
-        limit: memory_allowed(text.len()),
+        sort_memory_limit: allowed_sort_memory(text.len()),
     };
-    let written = write_text(alloc, doubles, text, scratch, writer)?;
-    Ok(written.text)
+    let finished_writer = write_text(alloc, doubles, text, scratch, writer)?;
+    Ok(finished_writer.text)
 }
 
 /// Writes the text that shows the value that the text denotes by default, with the keys of each
@@ -106,7 +106,7 @@ pub fn show_text(
     ensures utf8 { IfOk result (λ written. IsUtf8 written.items) }
     ensures accepts { IfErr result (IsRejectedText doubles ⊥ ⊤ text.now) }
 {
-    show_by(alloc, doubles, Arrangement::Ascending, text, scratch)
+    show_text_arranged(alloc, doubles, Arrangement::Ascending, text, scratch)
 }
 
 /// Writes what [`show_text`] writes, with the keys of each document in the order of the text.
@@ -124,17 +124,17 @@ pub fn show_text_in_order(
     ensures utf8 { IfOk result (λ written. IsUtf8 written.items) }
     ensures accepts { IfErr result (IsRejectedText doubles ⊥ ⊤ text.now) }
 {
-    show_by(alloc, doubles, Arrangement::FirstPositions, text, scratch)
+    show_text_arranged(alloc, doubles, Arrangement::FirstPositions, text, scratch)
 }
 
-fn show_by(
+fn show_text_arranged(
     alloc: Global,
     doubles: Doubles,
     arrangement: Arrangement,
     text: &str,
     scratch: &mut Scratch,
 ) -> Result<Vec<u8>, TraversalError>
-    ensures ok { IfOk result (λ written. IsShownTextBy doubles arrangement text.now written.items) }
+    ensures ok { IfOk result (λ written. IsShownTextArranged doubles arrangement text.now written.items) }
     ensures utf8 { IfOk result (λ written. IsUtf8 written.items) }
     ensures accepts { IfErr result (IsRejectedText doubles ⊥ ⊤ text.now) }
 {
@@ -142,13 +142,13 @@ fn show_by(
         alloc,
         arrangement,
         text: Vec::with_capacity(alloc, output_capacity(text))?,
-        part: String::new(alloc),
+        fragment: String::new(alloc),
         member_starts: Vec::new(alloc),
         needs_comma: false,
-        limit: memory_allowed(text.len()),
+        sort_memory_limit: allowed_sort_memory(text.len()),
     };
-    let written = write_text(alloc, doubles, text, scratch, writer)?;
-    Ok(written.text)
+    let finished_writer = write_text(alloc, doubles, text, scratch, writer)?;
+    Ok(finished_writer.text)
 }
 
 // The length of the input. It is 0 for a long input, so that the reader's scratch gets the block that

@@ -3,7 +3,7 @@ ghost use Rattle.std.specs.Prelude.{IfErr, IfOk, List, ℕ};
 ghost use Rattle.serde_json.specs.Read.{read};
 ghost use Rattle.bson_tokens.specs.Normalized.{IsNormalizedText};
 ghost use Rattle.bson_tokens.specs.declared.arrangement.Arrangement.TheVariants.{Ascending};
-ghost use Rattle.bson_tokens.specs.ReadOutcomes.{InvalidIfNotRead};
+ghost use Rattle.bson_tokens.specs.ReadOutcomes.{NothingReadIfInvalid};
 ghost use Rattle.bson_tokens.specs.TextErrors.{IsTextPlaceIn};
 
 use crate::discard_writer::check_text;
@@ -34,8 +34,8 @@ use std::alloc::{AllocError, Global};
 /// }
 /// ```
 pub fn first_fault_in(alloc: Global, doubles: Doubles, text: &str) -> Result<Option<Place>, Error>
-    ensures place { IfOk result (λ found. IsTextPlaceIn doubles text.now found) }
-    ensures broken { IfErr result (InvalidIfNotRead (read text.now)) }
+    ensures place { IfOk result (λ place_or_none. IsTextPlaceIn doubles text.now place_or_none) }
+    ensures broken { IfErr result (NothingReadIfInvalid (read text.now)) }
 {
     let normalized = normalize_text(alloc, Arrangement::Ascending, text)?;
     Ok(first_fault_of_normalized(alloc, doubles, normalized.as_str())?)
@@ -54,7 +54,7 @@ pub fn first_fault_of_normalized(
     normalized: &str,
 ) -> Result<Option<Place>, AllocError>
     ensures place { (text : List ℕ) → IsNormalizedText Ascending text normalized.now
-        → IfOk result (λ found. IsTextPlaceIn doubles text found) }
+        → IfOk result (λ place_or_none. IsTextPlaceIn doubles text place_or_none) }
 {
     match check_text(alloc, doubles, normalized, &mut Scratch::new(alloc)) {
         Ok(()) => Ok(None),

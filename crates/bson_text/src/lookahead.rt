@@ -33,7 +33,9 @@ impl<'a> Lookahead<'a> {
         first_key: Option<&str>,
         offset: usize,
     ) -> Result<Option<String>, AllocError>
-        ensures { IfOk result (λ code. IfSome code (λ _. option_map (λ k. k.now) first_key.entry ≡ Some (codes "$scope"))) }
+        ensures { IfOk result
+            (λ code. IfSome code
+            (λ _. option_map (λ member_key. member_key.now) first_key.entry ≡ Some (codes "$scope"))) }
     {
         let Some(key) = first_key else {
             return Ok(None);
@@ -46,7 +48,7 @@ impl<'a> Lookahead<'a> {
 
     fn code_at(&mut self, offset: usize) -> Result<Option<String>, AllocError> {
         if self.codes.is_none() {
-            self.codes = Some(codes_of(self.alloc, self.text)?);
+            self.codes = Some(codes_after_scopes(self.alloc, self.text)?);
         }
         let Some(codes) = &mut self.codes else {
             return Ok(None);
@@ -57,8 +59,8 @@ impl<'a> Lookahead<'a> {
 
 // An array or an object that is open, by the last key of it that was read.
 #[derive(Clone, Copy, Drop)]
-enum Open {
-    // None.
+enum OpenContainer {
+    // No key was read.
     Brace,
     // `$scope`, at the beginning: the scope begins at this offset.
     Scope(usize),
@@ -69,22 +71,22 @@ enum Open {
 }
 
 // Returns the code right after each scope that begins its object, by the offset of the scope.
-fn codes_of(alloc: Global, text: &str) -> Result<BTreeMap<usize, String>, AllocError> {
+fn codes_after_scopes(alloc: Global, text: &str) -> Result<BTreeMap<usize, String>, AllocError> {
     let mut scratch = Scratch::new(alloc);
     let mut reader = Reader::new(text, &mut scratch)?;
     let mut codes = BTreeMap::new(alloc);
-    let mut open = Vec::new(alloc);
+    let mut open_containers = Vec::new(alloc);
     'tokens: while let Some(token) = reader.next() {
         match token {
-            Token::BeginObject => open.push(Open::Brace)?,
-            Token::BeginArray => open.push(Open::Other)?,
-            Token::EndObject | Token::EndArray => drop(open.pop()),
+            Token::BeginObject => open_containers.push(OpenContainer::Brace)?,
+            Token::BeginArray => open_containers.push(OpenContainer::Other)?,
+            Token::EndObject | Token::EndArray => drop(open_containers.pop()),
             Token::Key(key) => {
-                let before = open.pop().unwrap_or(Open::Other);
-                open.push(after_key(before, key, reader.offset()))?;
+                let container = open_containers.pop().unwrap_or(OpenContainer::Other);
+                open_containers.push(container_after_key(container, key, reader.offset()))?;
             }
             Token::String(text) => {
-                if let Some(Open::Code(offset)) = open.last() {
+                if let Some(OpenContainer::Code(offset)) = open_containers.last() {
                     drop(codes.insert(*offset, String::from_str(alloc, text)?)?);
                 }
             }
@@ -95,10 +97,10 @@ fn codes_of(alloc: Global, text: &str) -> Result<BTreeMap<usize, String>, AllocE
 }
 
 // Returns what is open after this key of it was read. The value of the key begins at the offset.
-fn after_key(open: Open, key: &str, offset: usize) -> Open {
-    match open {
-        Open::Brace if is_scope(key) => Open::Scope(offset),
-        Open::Scope(scope) if key == "$code" => Open::Code(scope),
-        _ => Open::Other,
+fn container_after_key(container: OpenContainer, key: &str, offset: usize) -> OpenContainer {
+    match container {
+        OpenContainer::Brace if is_scope(key) => OpenContainer::Scope(offset),
+        OpenContainer::Scope(scope) if key == "$code" => OpenContainer::Code(scope),
+        _ => OpenContainer::Other,
     }
 }

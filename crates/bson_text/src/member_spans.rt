@@ -6,11 +6,11 @@ ghost use Rattle.std.specs.Cmp.Lexicographic.{slice_cmp};
 ghost use Rattle.std.specs.List.{All, range_with_len};
 ghost use Rattle.std.specs.List.Sorted.{IsPermutation};
 ghost use Rattle.std.specs.Ordering.{nat_cmp};
-ghost use Rattle.bson_text.specs.KeyBytes.{bytes_as_number, prefix_end};
-ghost use Rattle.bson_text.specs.MemberSpans.{end_before_next, spans_from, span_or, key_or, spans_at, first_has_key};
-ghost use Rattle.bson_text.specs.MemberSpans.{AreIndexesByKey, IsSortedObject, EndsWithBrace, IsObjectWritten, IsJoinedText, IsOpenObject, IsSpanWithin};
-ghost use Rattle.bson_tokens.specs.PutMembers.{KeysAscendFrom, KeyFollows};
-ghost use Rattle.bson_text.specs.TraversalErrors.{MayFailAtDocumentEnd};
+ghost use Rattle.bson_text.specs.KeyBytes.{bytes_as_number, common_prefix_end};
+ghost use Rattle.bson_text.specs.MemberSpans.{end_before_next, spans_from, span_at_or_empty, key_at_or_empty, spans_at, first_index_has_key};
+ghost use Rattle.bson_text.specs.MemberSpans.{AreIndexesByKey, IsSortedObject, EndsWithBrace, IsObjectWritten, IsTextOfSpans, IsUnfinishedObject, IsSpanWithin};
+ghost use Rattle.bson_tokens.specs.PutMembers.{KeysAscendFrom, KeyIsGreater};
+ghost use Rattle.bson_text.specs.TraversalErrors.{IsDocumentEndError};
 ghost use Rattle.bson_model.specs.StableOrder.{IsStableByKey};
 ghost use Rattle.serde_json.specs.Written.{comma_if};
 
@@ -43,70 +43,73 @@ pub(crate) fn end_object(
     alloc: Global,
     keys: &[&str],
     member_starts: &[usize],
-    start: usize,
-    limit: usize,
+    object_start: usize,
+    sort_memory_limit: usize,
     text: &mut Vec<u8>,
 ) -> Result<(), TraversalError>
     requires paired { length keys.now ≡ length member_starts.now }
-    requires within { All (IsSpanWithin text.old.items) (spans_from keys.now member_starts.now (length text.old.items)) }
-    requires began_document { IsOpenObject (take start text.old.items) text.old.items
+    requires within { All (IsSpanWithin text.old.items)
+        (spans_from keys.now member_starts.now (length text.old.items)) }
+    requires began_document { IsUnfinishedObject (take object_start text.old.items) text.old.items
         (spans_from keys.now member_starts.now (length text.old.items)) }
     requires utf8 { is_utf8 text.old.items ≡ true }
     ensures ended { OnOk result (IsObjectWritten (spans_from keys.now member_starts.now (length text.old.items))
-        (take start text.old.items) text.old.items text.new.items) }
+        (take object_start text.old.items) text.old.items text.new.items) }
     ensures braced { OnOk result (EndsWithBrace text.new.items) }
     ensures utf8 { is_utf8 text.new.items ≡ true }
-    ensures stops { IfErr result (MayFailAtDocumentEnd (λ doubles. ⊥) ⊤ (map (λ k. k.now) keys.now)) }
+    ensures stops { IfErr result (IsDocumentEndError (λ doubles. ⊥) ⊤ (map (λ member_key. member_key.now) keys.now)) }
 {
-    if ascend(keys) {
+    if keys_ascend(keys) {
         text.extend_from_slice(b"}")?;
         return Ok(());
     }
-    if memory_to_sort(keys.len(), text.len()) > limit {
+    if needed_sort_memory(keys.len(), text.len()) > sort_memory_limit {
         return Err(TraversalError::GaveUp);
     }
-    let written = sorted_object(alloc, keys, member_starts, text)?.ok_or(TraversalError::GaveUp)?;
-    text.truncate(start);
-    text.extend_from_slice(&written)?;
+    let object_bytes = sorted_object(alloc, keys, member_starts, text)?.ok_or(
+        TraversalError::GaveUp,
+    )?;
+    text.truncate(object_start);
+    text.extend_from_slice(&object_bytes)?;
     Ok(())
 }
 
 /// Returns how many bytes may be allocated to sort the members of an input of this length. With
-/// everything else this is at limit twelve times the input.
-pub(crate) fn memory_allowed(length: usize) -> usize {
-    length.saturating_mul(9).saturating_add(8 << 20)
+/// everything else this is at most twelve times the input.
+pub(crate) fn allowed_sort_memory(input_length: usize) -> usize {
+    input_length.saturating_mul(9).saturating_add(8 << 20)
 }
 
 // The bytes of memory that sorting needs for this number of members and length of the output.
 // Sorting needs memory in addition to one copy of the output, and joining needs a second copy.
-fn memory_to_sort(members: usize, length: usize) -> usize {
-    let extra = length.max(members.saturating_mul(SORT_BYTES_PER_MEMBER));
-    members
+fn needed_sort_memory(member_count: usize, output_length: usize) -> usize {
+    let sort_memory = output_length.max(member_count.saturating_mul(SORT_BYTES_PER_MEMBER));
+    member_count
         .saturating_mul(JOIN_BYTES_PER_MEMBER)
-        .saturating_add(length)
-        .saturating_add(extra)
+        .saturating_add(output_length)
+        .saturating_add(sort_memory)
 }
 
-fn ascend(keys: &[&str]) -> bool
-    ensures { (result ≡ true) ↔ KeysAscendFrom None (map (λ k. k.now) keys.now) }
+fn keys_ascend(keys: &[&str]) -> bool
+    ensures { (result ≡ true) ↔ KeysAscendFrom None (map (λ member_key. member_key.now) keys.now) }
 {
-    let mut last: Option<&str> = None;
-    for at in 0..keys.len() {
-        let key = keys[at];
-        if !follows(last, key) {
+    let mut last_key: Option<&str> = None;
+    for position in 0..keys.len() {
+        let key = keys[position];
+        if !key_follows(last_key, key) {
             return false;
         }
-        last = Some(key);
+        last_key = Some(key);
     }
     true
 }
 
 // The key is greater than the last one, by bytes.
-fn follows(last: Option<&str>, key: &str) -> bool
-    ensures { (result ≡ true) ↔ KeyFollows (option_map (λ s. s.now) last.entry) key.now }
+fn key_follows(last_key: Option<&str>, key: &str) -> bool
+    ensures { (result ≡ true) ↔ KeyIsGreater (option_map (λ last_key. last_key.now) last_key.entry) key.now }
 {
-    match last {
-        Some(last) => last.cmp(key).is_lt(),
+    match last_key {
+        Some(last_key) => last_key.cmp(key).is_lt(),
         None => true,
     }
 }
@@ -119,9 +122,12 @@ fn sorted_object(
     buffer: &Vec<u8>,
 ) -> Result<Option<Vec<u8>>, AllocError>
     requires paired { length keys.now ≡ length member_starts.now }
-    requires within { All (IsSpanWithin buffer.now.items) (spans_from keys.now member_starts.now (length buffer.now.items)) }
-    ensures { IfOk result (λ s. IfSome s (λ written. IsSortedObject (spans_from keys.now member_starts.now (length buffer.now.items))
-        buffer.now.items written.items)) }
+    requires within { All (IsSpanWithin buffer.now.items)
+        (spans_from keys.now member_starts.now (length buffer.now.items)) }
+    ensures { IfOk result
+        (λ object_or_none. IfSome object_or_none
+        (λ object_bytes. IsSortedObject (spans_from keys.now member_starts.now (length buffer.now.items))
+        buffer.now.items object_bytes.items)) }
 {
     let indexes = indexes_up_to(alloc, keys.len())?;
     if indexes.len() > MAX_MEMBERS_SORTED_BY_KEY {
@@ -140,14 +146,17 @@ fn sorted_object_of_many(
     buffer: &Vec<u8>,
 ) -> Result<Option<Vec<u8>>, AllocError>
     requires paired { length keys.now ≡ length member_starts.now }
-    requires within { All (IsSpanWithin buffer.now.items) (spans_from keys.now member_starts.now (length buffer.now.items)) }
+    requires within { All (IsSpanWithin buffer.now.items)
+        (spans_from keys.now member_starts.now (length buffer.now.items)) }
     requires indexes_by_key { AreIndexesByKey keys.now indexes.items }
-    ensures { IfOk result (λ s. IfSome s (λ written. IsSortedObject (spans_from keys.now member_starts.now (length buffer.now.items))
-        buffer.now.items written.items)) }
+    ensures { IfOk result
+        (λ object_or_none. IfSome object_or_none
+        (λ object_bytes. IsSortedObject (spans_from keys.now member_starts.now (length buffer.now.items))
+        buffer.now.items object_bytes.items)) }
 {
     sort_by_next_bytes(keys, &mut indexes)?;
-    if let Some(written) = join_spans(alloc, keys, member_starts, &indexes, buffer)? {
-        return Ok(Some(written));
+    if let Some(object_bytes) = join_spans(alloc, keys, member_starts, &indexes, buffer)? {
+        return Ok(Some(object_bytes));
     }
     sorted_object_of_few(alloc, keys, member_starts, indexes, buffer)
 }
@@ -160,10 +169,13 @@ fn sorted_object_of_few(
     buffer: &Vec<u8>,
 ) -> Result<Option<Vec<u8>>, AllocError>
     requires paired { length keys.now ≡ length member_starts.now }
-    requires within { All (IsSpanWithin buffer.now.items) (spans_from keys.now member_starts.now (length buffer.now.items)) }
+    requires within { All (IsSpanWithin buffer.now.items)
+        (spans_from keys.now member_starts.now (length buffer.now.items)) }
     requires indexes_by_key { AreIndexesByKey keys.now indexes.items }
-    ensures { IfOk result (λ s. IfSome s (λ written. IsSortedObject (spans_from keys.now member_starts.now (length buffer.now.items))
-        buffer.now.items written.items)) }
+    ensures { IfOk result
+        (λ object_or_none. IfSome object_or_none
+        (λ object_bytes. IsSortedObject (spans_from keys.now member_starts.now (length buffer.now.items))
+        buffer.now.items object_bytes.items)) }
 {
     sort_by_key(keys, &mut indexes)?;
     join_spans(alloc, keys, member_starts, &indexes, buffer)
@@ -181,8 +193,8 @@ fn indexes_up_to(alloc: Global, count: usize) -> Result<Vec<usize>, AllocError>
 }
 
 fn sort_by_next_bytes(keys: &[&str], indexes: &mut Vec<usize>) -> Result<(), AllocError>
-    ensures stable { OnOk result (IsStableByKey (key_or keys.now) indexes.old.items indexes.new.items) }
-    ensures same { IsPermutation indexes.old.items indexes.new.items }
+    ensures stable { OnOk result (IsStableByKey (key_at_or_empty keys.now) indexes.old.items indexes.new.items) }
+    ensures permuted { IsPermutation indexes.old.items indexes.new.items }
 {
     let prefix_length = common_prefix_length(keys);
     indexes.sort_by_cached_key(|index| next_eight_bytes(key_at(keys, *index), prefix_length))?;
@@ -190,24 +202,24 @@ fn sort_by_next_bytes(keys: &[&str], indexes: &mut Vec<usize>) -> Result<(), All
 }
 
 fn sort_by_key(keys: &[&str], indexes: &mut Vec<usize>) -> Result<(), AllocError>
-    ensures stable { OnOk result (IsStableByKey (key_or keys.now) indexes.old.items indexes.new.items) }
-    ensures same { IsPermutation indexes.old.items indexes.new.items }
+    ensures stable { OnOk result (IsStableByKey (key_at_or_empty keys.now) indexes.old.items indexes.new.items) }
+    ensures permuted { IsPermutation indexes.old.items indexes.new.items }
 {
-    indexes.sort_by(|one, other| by_key(keys, *one, *other))?;
+    indexes.sort_by(|left_index, right_index| compare_keys_at(keys, *left_index, *right_index))?;
     Ok(())
 }
 
-fn by_key(keys: &[&str], one: usize, other: usize) -> Ordering
-    ensures { result ≡ slice_cmp nat_cmp (key_or keys.now one) (key_or keys.now other) }
+fn compare_keys_at(keys: &[&str], left_index: usize, right_index: usize) -> Ordering
+    ensures { result ≡ slice_cmp nat_cmp (key_at_or_empty keys.now left_index) (key_at_or_empty keys.now right_index) }
 {
-    key_at(keys, one).cmp(key_at(keys, other))
+    key_at(keys, left_index).cmp(key_at(keys, right_index))
 }
 
 // Returns the key at the position, or the empty key after the last one.
-fn key_at<'a>(keys: &[&'a str], at: usize) -> &'a str
-    ensures { result.now ≡ key_or keys.now at }
+fn key_at<'a>(keys: &[&'a str], position: usize) -> &'a str
+    ensures { result.now ≡ key_at_or_empty keys.now position }
 {
-    match keys.get(at) {
+    match keys.get(position) {
         Some(key) => key,
         None => "",
     }
@@ -215,33 +227,33 @@ fn key_at<'a>(keys: &[&'a str], at: usize) -> &'a str
 
 // Returns the number of bytes that all keys begin with.
 fn common_prefix_length(keys: &[&str]) -> usize {
-    let first = key_at(keys, 0).as_bytes();
-    let mut prefix_length = first.len();
-    for at in 1..keys.len() {
-        prefix_length = common_bytes(first, keys[at].as_bytes(), prefix_length);
+    let first_key = key_at(keys, 0).as_bytes();
+    let mut prefix_length = first_key.len();
+    for position in 1..keys.len() {
+        prefix_length = common_bytes(first_key, keys[position].as_bytes(), prefix_length);
     }
     prefix_length
 }
 
 // Returns the number of bytes that both keys begin with, up to a maximum.
-fn common_bytes(one: &[u8], other: &[u8], limit: usize) -> usize {
-    for at in 0..limit {
-        if one.get(at).copied() != other.get(at).copied() {
-            return at;
+fn common_bytes(left_key: &[u8], right_key: &[u8], max_length: usize) -> usize {
+    for position in 0..max_length {
+        if left_key.get(position).copied() != right_key.get(position).copied() {
+            return position;
         }
     }
-    limit
+    max_length
 }
 
 // Returns the eight bytes of the key after its prefix as one number. Missing bytes are zeros.
 fn next_eight_bytes(key: &str, prefix_length: usize) -> u64
-    ensures { result ≡ bytes_as_number key.now (prefix_end prefix_length key.now) 8 }
+    ensures { result ≡ bytes_as_number key.now (common_prefix_end prefix_length key.now) 8 }
 {
     let bytes = key.as_bytes();
     let start = prefix_length.min(bytes.len());
     let mut bytes_as_number: u64 = 0;
-    'bytes: for at in 0..8 {
-        let byte = bytes.get(start + at).copied().unwrap_or(0);
+    'bytes: for position in 0..8 {
+        let byte = bytes.get(start + position).copied().unwrap_or(0);
         bytes_as_number = bytes_as_number << 8 | byte as u64;
     }
     bytes_as_number
@@ -257,75 +269,81 @@ fn join_spans(
     buffer: &Vec<u8>,
 ) -> Result<Option<Vec<u8>>, AllocError>
     requires paired { length keys.now ≡ length member_starts.now }
-    requires within { All (IsSpanWithin buffer.now.items) (spans_from keys.now member_starts.now (length buffer.now.items)) }
-    requires indexes { All (λ n. n < length keys.now) indexes.now.items }
-    ensures { IfOk result (λ s. IfSome s (λ written. IsJoinedText
+    requires within { All (IsSpanWithin buffer.now.items)
+        (spans_from keys.now member_starts.now (length buffer.now.items)) }
+    requires indexes { All (λ member_index. member_index < length keys.now) indexes.now.items }
+    ensures { IfOk result (λ object_or_none. IfSome object_or_none (λ object_bytes. IsTextOfSpans
         (spans_at (spans_from keys.now member_starts.now (length buffer.now.items)) indexes.now.items)
-        buffer.now.items written.items)) }
+        buffer.now.items object_bytes.items)) }
 {
     let capacity = buffer
         .len()
-        .saturating_sub(first_start(member_starts))
+        .saturating_sub(first_member_start(member_starts))
         .saturating_add(2);
-    let mut out = Vec::with_capacity(alloc, capacity)?;
-    out.push(b'{')?;
-    let mut last: Option<&str> = None;
-    for at in 0..indexes.len() {
+    let mut joined_bytes = Vec::with_capacity(alloc, capacity)?;
+    joined_bytes.push(b'{')?;
+    let mut last_key: Option<&str> = None;
+    for position in 0..indexes.len() {
         let MemberSpan { key, start, end } = span_at(
             keys,
             member_starts,
             buffer.len(),
-            indexes[at],
+            indexes[position],
         );
-        if has_equal_next(keys, indexes, at, key) {
+        if next_index_has_key(keys, indexes, position, key) {
             continue;
         }
-        if !follows(last, key) {
+        if !key_follows(last_key, key) {
             return Ok(None);
         }
-        put_comma(last.is_some(), &mut out)?;
-        out.extend_from_slice(&buffer[start..end])?;
-        last = Some(key);
+        put_comma(last_key.is_some(), &mut joined_bytes)?;
+        joined_bytes.extend_from_slice(&buffer[start..end])?;
+        last_key = Some(key);
     }
-    out.push(b'}')?;
-    Ok(Some(out))
+    joined_bytes.push(b'}')?;
+    Ok(Some(joined_bytes))
 }
 
 // Returns the offset at which the first member begins, a byte after the start of the object.
-fn first_start(member_starts: &[usize]) -> usize {
+fn first_member_start(member_starts: &[usize]) -> usize {
     member_starts.first().copied().unwrap_or(0)
 }
 
-fn span_at<'a>(keys: &[&'a str], member_starts: &[usize], end: usize, at: usize) -> MemberSpan<'a>
+fn span_at<'a>(
+    keys: &[&'a str],
+    member_starts: &[usize],
+    output_end: usize,
+    position: usize,
+) -> MemberSpan<'a>
     requires paired { length keys.now ≡ length member_starts.now }
-    requires within { at < length keys.now }
-    ensures { result ≡ span_or (spans_from keys.now member_starts.now end) at }
+    requires within { position < length keys.now }
+    ensures { result ≡ span_at_or_empty (spans_from keys.now member_starts.now output_end) position }
 {
     MemberSpan {
-        key: keys[at],
-        start: member_starts[at],
-        end: span_end(member_starts, at, end),
+        key: keys[position],
+        start: member_starts[position],
+        end: member_end(member_starts, position, output_end),
     }
 }
 
 // A member ends before the comma that precedes the next one, and the last one ends with the output.
-fn span_end(member_starts: &[usize], at: usize, end: usize) -> usize
-    requires { at < length member_starts.now }
-    ensures { result ≡ end_before_next (drop (suc at) member_starts.now) end }
+fn member_end(member_starts: &[usize], position: usize, output_end: usize) -> usize
+    requires { position < length member_starts.now }
+    ensures { result ≡ end_before_next (drop (suc position) member_starts.now) output_end }
 {
-    match member_starts.get(at + 1) {
-        Some(next) => next.saturating_sub(1),
-        None => end,
+    match member_starts.get(position + 1) {
+        Some(next_start) => next_start.saturating_sub(1),
+        None => output_end,
     }
 }
 
 // Returns whether the next member in the order of the indices has the same key.
-fn has_equal_next(keys: &[&str], indexes: &Vec<usize>, at: usize, key: &str) -> bool
-    requires { at < length indexes.now.items }
-    ensures { result ≡ first_has_key keys.now key.now (drop (suc at) indexes.now.items) }
+fn next_index_has_key(keys: &[&str], indexes: &Vec<usize>, position: usize, key: &str) -> bool
+    requires { position < length indexes.now.items }
+    ensures { result ≡ first_index_has_key keys.now key.now (drop (suc position) indexes.now.items) }
 {
-    match indexes.get(at + 1) {
-        Some(next) => key_at(keys, *next) == key,
+    match indexes.get(position + 1) {
+        Some(next_index) => key_at(keys, *next_index) == key,
         None => false,
     }
 }

@@ -24,22 +24,22 @@ pub(crate) struct SortedWriter {
     pub(crate) doubles: Doubles,
     pub(crate) form: Form,
     pub(crate) text: Vec<u8>,
-    // Memory for the writer of a part: a writer of the long text would reserve much more.
-    pub(crate) part: Vec<u8>,
+    // Memory for the writer of a fragment: a writer of the long text would reserve much more.
+    pub(crate) fragment: Vec<u8>,
     // The offsets of the members of all open documents, the outermost document before the others.
     pub(crate) member_starts: Vec<usize>,
     // Whether a value precedes the next value.
     pub(crate) needs_comma: bool,
     // How many bytes may be allocated to sort members.
-    pub(crate) limit: usize,
+    pub(crate) sort_memory_limit: usize,
     ghost utf8: { is_utf8 text.items ≡ true },
 }
 
 /// The offset at which an open array or object begins, and the number of open members before it.
 #[derive(Clone, Copy, Drop)]
-pub(crate) struct Mark {
+pub(crate) struct ContainerStart {
     pub(crate) start: usize,
-    pub(crate) start_count: usize,
+    pub(crate) outer_member_count: usize,
 }
 
 impl SortedWriter {
@@ -62,41 +62,42 @@ impl SortedWriter {
         Ok(())
     }
 
-    // Adds the comma that is due, and begins the part after it.
-    fn begin_part(&mut self) -> Result<Writer, AllocError>
-        ensures empty { IfOk result (λ part. (part.before ≡ []) × (part.tokens ≡ [])) }
-        ensures comma { OnOk result (HasOutputAdded self.old (comma_if self.old.needs_comma) self.old.needs_comma self.new) }
+    // Adds the comma that is due, and begins the fragment after it.
+    fn begin_fragment(&mut self) -> Result<Writer, AllocError>
+        ensures empty { IfOk result (λ fragment. (fragment.before ≡ []) × (fragment.tokens ≡ [])) }
+        ensures comma { OnOk result
+            (HasOutputAdded self.old (comma_if self.old.needs_comma) self.old.needs_comma self.new) }
     {
         self.add_comma()?;
-        let mut part = replace(&mut self.part, Vec::new(self.alloc));
-        part.clear();
-        Ok(Writer::new(part))
+        let mut fragment = replace(&mut self.fragment, Vec::new(self.alloc));
+        fragment.clear();
+        Ok(Writer::new(fragment))
     }
 
-    // Adds the part that was begun, after which a comma is needed or not.
-    fn add_part(&mut self, part: Writer, needs_comma: bool) -> Result<(), AllocError>
-        requires { part.before ≡ [] }
-        ensures { OnOk result (HasOutputAdded self.old (print part.tokens) needs_comma self.new) }
+    // Adds the fragment that was begun, after which a comma is needed or not.
+    fn add_fragment(&mut self, fragment: Writer, needs_comma: bool) -> Result<(), AllocError>
+        requires { fragment.before ≡ [] }
+        ensures { OnOk result (HasOutputAdded self.old (print fragment.tokens) needs_comma self.new) }
     {
-        self.part = part.into_inner();
-        self.text.extend_from_slice(&self.part)?;
+        self.fragment = fragment.into_inner();
+        self.text.extend_from_slice(&self.fragment)?;
         self.needs_comma = needs_comma;
         Ok(())
     }
 
-    fn position(&self) -> Mark
+    fn container_start(&self) -> ContainerStart
         ensures start { result.start ≡ length self.now.text.items }
-        ensures start_count { result.start_count ≡ length self.now.member_starts.items }
+        ensures outer_member_count { result.outer_member_count ≡ length self.now.member_starts.items }
     {
-        Mark {
+        ContainerStart {
             start: self.text.len(),
-            start_count: self.member_starts.len(),
+            outer_member_count: self.member_starts.len(),
         }
     }
 }
 
 impl ValueWriter for SortedWriter {
-    type Open = Mark;
+    type OpenContainer = ContainerStart;
 
     ghost use Rattle.bson_scalar.specs.Tokens.{code_tokens};
     ghost use Rattle.bson_scalar.specs.declared.form.Doubles.TheVariants.{Finite};
@@ -106,105 +107,110 @@ impl ValueWriter for SortedWriter {
 
     ghost sorts_keys = { ⊤ };
 
-    ghost item_name_of = { λ n. [] };
+    ghost item_name_of = { λ item_index. [] };
 
-    ghost wrote_value = { λ old k v new. HasSortedValue old v new };
+    ghost wrote_value = { λ old key_name written_value new. HasSortedValue old written_value new };
 
-    ghost wrote_document = { λ old ps new. HasSortedPairs old ps new };
+    ghost wrote_document = { λ old document_pairs new. HasSortedPairs old document_pairs new };
 
-    ghost began_array = { λ old k mark new. HasOutputAfterComma old (91 ∷ []) false new };
+    ghost began_array = { λ old key_name open_container new. HasOutputAfterComma old (91 ∷ []) false new };
 
-    ghost began_document = { λ old mark new. HasBegunObject old mark new };
+    ghost began_document = { λ old open_container new. HasBegunObject old open_container new };
 
-    ghost wrote_key = { λ old k new. HasKeyAdded old k new };
+    ghost wrote_key = { λ old key_name new. HasKeyAdded old key_name new };
 
-    ghost began_code = { λ old k s mark new. HasOutputAfterComma old (print (code_tokens s)) false new };
+    ghost began_code = { λ old key_name code_bytes open_container new. HasOutputAfterComma old (print (code_tokens code_bytes)) false new };
 
     fn string(&mut self, _name: &str, text: &str) -> Result<(), TraversalError> {
-        let mut part = self.begin_part()?;
-        part.string(text)?;
-        Ok(self.add_part(part, true)?)
+        let mut fragment = self.begin_fragment()?;
+        fragment.string(text)?;
+        Ok(self.add_fragment(fragment, true)?)
     }
 
     fn boolean(&mut self, _name: &str, truth: bool) -> Result<(), TraversalError> {
-        let mut part = self.begin_part()?;
-        part.boolean(truth)?;
-        Ok(self.add_part(part, true)?)
+        let mut fragment = self.begin_fragment()?;
+        fragment.boolean(truth)?;
+        Ok(self.add_fragment(fragment, true)?)
     }
 
     fn null(&mut self, _name: &str) -> Result<(), TraversalError> {
-        let mut part = self.begin_part()?;
-        part.null()?;
-        Ok(self.add_part(part, true)?)
+        let mut fragment = self.begin_fragment()?;
+        fragment.null()?;
+        Ok(self.add_fragment(fragment, true)?)
     }
 
     fn scalar(&mut self, _name: &str, value: Scalar) -> Result<(), TraversalError> {
-        let mut part = self.begin_part()?;
-        print_scalar_in(self.alloc, self.doubles, self.form, value, &mut part).map_err(
+        let mut fragment = self.begin_fragment()?;
+        print_scalar_in(self.alloc, self.doubles, self.form, value, &mut fragment).map_err(
             write_error,
         )?;
-        Ok(self.add_part(part, true)?)
+        Ok(self.add_fragment(fragment, true)?)
     }
 
     fn item_name<'b>(_buffer: &'b mut Buffer, _index: usize) -> &'b str {
         ""
     }
 
-    fn begin_array(&mut self, _name: &str) -> Result<Mark, TraversalError> {
+    fn begin_array(&mut self, _name: &str) -> Result<ContainerStart, TraversalError> {
         self.add_comma()?;
-        let mark = self.position();
+        let open_container = self.container_start();
         self.add_byte(b'[', false)?;
-        Ok(mark)
+        Ok(open_container)
     }
 
-    fn end_array(&mut self, _mark: Mark) -> Result<(), TraversalError> {
+    fn end_array(&mut self, _open_container: ContainerStart) -> Result<(), TraversalError> {
         Ok(self.add_byte(b']', true)?)
     }
 
-    fn embed(&mut self, _name: &str) -> Result<(), TraversalError> {
+    fn embed_document(&mut self, _name: &str) -> Result<(), TraversalError> {
         Ok(())
     }
 
-    fn begin(&mut self) -> Result<Mark, TraversalError> {
+    fn begin_document(&mut self) -> Result<ContainerStart, TraversalError> {
         self.add_comma()?;
-        let mark = self.position();
+        let open_container = self.container_start();
         self.add_byte(b'{', false)?;
-        Ok(mark)
+        Ok(open_container)
     }
 
     fn key(&mut self, name: &str) -> Result<(), TraversalError> {
-        let mut part = self.begin_part()?;
+        let mut fragment = self.begin_fragment()?;
         let Ok(()) = self.member_starts.push(self.text.len()) else {
             return Err(TraversalError::OutOfMemory);
         };
-        part.key(name)?;
-        Ok(self.add_part(part, false)?)
+        fragment.key(name)?;
+        Ok(self.add_fragment(fragment, false)?)
     }
 
-    fn end(&mut self, mark: Mark, keys: &mut [&str]) -> Result<(), TraversalError> {
-        let member_starts = &self.member_starts[mark.start_count..];
+    fn end_document(
+        &mut self,
+        open_container: ContainerStart,
+        keys: &mut [&str],
+    ) -> Result<(), TraversalError> {
+        let member_starts = &self.member_starts[open_container.outer_member_count..];
         end_object(
             self.alloc,
             keys,
             member_starts,
-            mark.start,
-            self.limit,
+            open_container.start,
+            self.sort_memory_limit,
             &mut self.text,
         )?;
-        self.member_starts.truncate(mark.start_count);
+        self.member_starts
+            .truncate(open_container.outer_member_count);
         self.needs_comma = true;
         Ok(())
     }
 
-    fn begin_code(&mut self, _name: &str, code: &str) -> Result<Mark, TraversalError> {
-        let mut part = self.begin_part()?;
-        let mark = self.position();
-        put_code(code, &mut part)?;
-        self.add_part(part, false)?;
-        Ok(mark)
+    fn begin_code(&mut self, _name: &str, code: &str) -> Result<ContainerStart, TraversalError> {
+        let mut fragment = self.begin_fragment()?;
+        let open_container = self.container_start();
+        put_code(code, &mut fragment)?;
+        self.add_fragment(fragment, false)?;
+        Ok(open_container)
     }
 
-    fn end_code(&mut self, _mark: Mark) -> Result<(), TraversalError> {
+    fn end_code(&mut self, _open_container: ContainerStart) -> Result<(), TraversalError> {
         Ok(self.add_byte(b'}', true)?)
     }
 }

@@ -18,11 +18,11 @@ pub(crate) struct TextWriter {
     pub(crate) alloc: Global,
     pub(crate) doubles: Doubles,
     pub(crate) form: Form,
-    pub(crate) out: Writer,
+    pub(crate) json_writer: Writer,
 }
 
 impl ValueWriter for TextWriter {
-    type Open = ();
+    type OpenContainer = ();
 
     ghost use Rattle.std.specs.Prelude.{[], ◌∷◌};
     ghost use Rattle.bson_scalar.specs.declared.form.Doubles.TheVariants.{Finite};
@@ -34,36 +34,41 @@ impl ValueWriter for TextWriter {
 
     ghost sorts_keys = { ⊥ };
 
-    ghost item_name_of = { λ n. [] };
+    ghost item_name_of = { λ item_index. [] };
 
-    ghost wrote_value = { λ old k v new. HasValueTokens old v new };
+    ghost wrote_value = { λ old key_name written_value new. HasValueTokens old written_value new };
 
-    ghost wrote_document = { λ old ps new. HasPairTokens old ps new };
+    ghost wrote_document = { λ old document_pairs new. HasPairTokens old document_pairs new };
 
-    ghost began_array = { λ old k mark new. HasTokensAdded old (token.begin_array ∷ []) new };
+    ghost began_array = { λ old key_name open_container new. HasTokensAdded old (token.begin_array ∷ []) new };
 
-    ghost began_document = { λ old mark new. HasTokensAdded old (token.begin_object ∷ []) new };
+    ghost began_document = { λ old open_container new. HasTokensAdded old (token.begin_object ∷ []) new };
 
-    ghost wrote_key = { λ old k new. HasTokensAdded old (token.key k ∷ []) new };
+    ghost wrote_key = { λ old key_name new. HasTokensAdded old (token.key key_name ∷ []) new };
 
-    ghost began_code = { λ old k s mark new. HasTokensAdded old (code_tokens s) new };
+    ghost began_code = { λ old key_name code_bytes open_container new. HasTokensAdded old (code_tokens code_bytes) new };
 
     fn string(&mut self, _name: &str, text: &str) -> Result<(), TraversalError> {
-        Ok(self.out.string(text)?)
+        Ok(self.json_writer.string(text)?)
     }
 
     fn boolean(&mut self, _name: &str, truth: bool) -> Result<(), TraversalError> {
-        Ok(self.out.boolean(truth)?)
+        Ok(self.json_writer.boolean(truth)?)
     }
 
     fn null(&mut self, _name: &str) -> Result<(), TraversalError> {
-        Ok(self.out.null()?)
+        Ok(self.json_writer.null()?)
     }
 
     fn scalar(&mut self, _name: &str, value: Scalar) -> Result<(), TraversalError> {
-        print_scalar_in(self.alloc, self.doubles, self.form, value, &mut self.out).map_err(
-            write_error,
+        print_scalar_in(
+            self.alloc,
+            self.doubles,
+            self.form,
+            value,
+            &mut self.json_writer,
         )
+        .map_err(write_error)
     }
 
     fn item_name<'b>(_buffer: &'b mut Buffer, _index: usize) -> &'b str {
@@ -71,37 +76,41 @@ impl ValueWriter for TextWriter {
     }
 
     fn begin_array(&mut self, _name: &str) -> Result<(), TraversalError> {
-        Ok(self.out.begin_array()?)
+        Ok(self.json_writer.begin_array()?)
     }
 
-    fn end_array(&mut self, _open: ()) -> Result<(), TraversalError> {
-        Ok(self.out.end_array()?)
+    fn end_array(&mut self, _open_container: ()) -> Result<(), TraversalError> {
+        Ok(self.json_writer.end_array()?)
     }
 
-    fn embed(&mut self, _name: &str) -> Result<(), TraversalError> {
+    fn embed_document(&mut self, _name: &str) -> Result<(), TraversalError> {
         Ok(())
     }
 
-    fn begin(&mut self) -> Result<(), TraversalError> {
-        Ok(self.out.begin_object()?)
+    fn begin_document(&mut self) -> Result<(), TraversalError> {
+        Ok(self.json_writer.begin_object()?)
     }
 
     fn key(&mut self, name: &str) -> Result<(), TraversalError> {
-        Ok(self.out.key(name)?)
+        Ok(self.json_writer.key(name)?)
     }
 
-    fn end(&mut self, _open: (), keys: &mut [&str]) -> Result<(), TraversalError> {
+    fn end_document(
+        &mut self,
+        _open_container: (),
+        keys: &mut [&str],
+    ) -> Result<(), TraversalError> {
         if !are_distinct(self.alloc, keys) {
             return Err(TraversalError::DuplicateKey);
         }
-        Ok(self.out.end_object()?)
+        Ok(self.json_writer.end_object()?)
     }
 
     fn begin_code(&mut self, _name: &str, code: &str) -> Result<(), TraversalError> {
-        Ok(put_code(code, &mut self.out)?)
+        Ok(put_code(code, &mut self.json_writer)?)
     }
 
-    fn end_code(&mut self, _open: ()) -> Result<(), TraversalError> {
-        Ok(self.out.end_object()?)
+    fn end_code(&mut self, _open_container: ()) -> Result<(), TraversalError> {
+        Ok(self.json_writer.end_object()?)
     }
 }

@@ -2,7 +2,7 @@
 ghost use Rattle.std.specs.Prelude.{[], IfErr, IfOk};
 ghost use Rattle.bson_model.specs.Value.{Value as Meaning, Pairs, document};
 ghost use Rattle.bson_model.specs.OrderedTexts.{HasMeaningInOrder};
-ghost use Rattle.bson_text.specs.ErrorDenials.{RulesOutText};
+ghost use Rattle.bson_text.specs.ErrorDenials.{ErrorRulesOutText};
 ghost use Rattle.bson_text.specs.ErrorPaths.{LocatesTextError};
 
 use crate::error_paths::{
@@ -12,7 +12,9 @@ use crate::level::Level;
 use crate::lookahead::Lookahead;
 use crate::traversal_error::TraversalError;
 use crate::value_writer::ValueWriter;
-use crate::wrapper_parts::{Scope, end_object, misplaced_wrapper, read_scope, read_token, text_of};
+use crate::wrapper_parts::{
+    Scope, end_object, misplaced_wrapper, parse_number, read_scope, text_of,
+};
 use bson_scalar::code::is_code_with_scope;
 use bson_scalar::form::Doubles;
 use bson_scalar::scalar::Scalar;
@@ -27,8 +29,7 @@ use std::alloc::Global;
 // A longer text is read with memory of its own, which is freed with its reader.
 const LONG_TEXT_BYTES: usize = 1 << 16;
 
-/// Writes the value of the whole text, under no name, and returns the writer. One scratch serves one
-/// text after another; a text of more than 64 KiB is read with a scratch of its own.
+/// Writes the value of the whole text, under no name. A text above 64 KiB has a scratch of its own.
 ///
 /// # Errors
 ///
@@ -42,16 +43,16 @@ pub fn write_text<W: ValueWriter + Drop>(
     doubles: Doubles,
     text: &str,
     scratch: &mut Scratch,
-    out: W,
+    writer: W,
 ) -> Result<W, TraversalError>
-    ensures ok { IfOk result (λ new. (v : Meaning) × HasMeaningInOrder doubles text.now v × W.wrote_value out [] v new) }
-    ensures stops { IfErr result (λ e. RulesOutText doubles (W.may_give_up doubles) W.sorts_keys e text.now) }
-    ensures located { IfErr result (λ e. LocatesTextError doubles e text.now) }
+    ensures ok { IfOk result (λ new. (written_value : Meaning) × HasMeaningInOrder doubles text.now written_value × W.wrote_value writer [] written_value new) }
+    ensures stops { IfErr result (λ reported_error. ErrorRulesOutText doubles (W.may_give_up doubles) W.sorts_keys reported_error text.now) }
+    ensures located { IfErr result (λ reported_error. LocatesTextError doubles reported_error text.now) }
 {
     if text.len() > LONG_TEXT_BYTES {
-        return write_with_scratch(alloc, doubles, text, &mut Scratch::new(alloc), out);
+        return write_with_scratch(alloc, doubles, text, &mut Scratch::new(alloc), writer);
     }
-    write_with_scratch(alloc, doubles, text, scratch, out)
+    write_with_scratch(alloc, doubles, text, scratch, writer)
 }
 
 // Writes the value of a text of any length, with this scratch.
@@ -60,18 +61,18 @@ fn write_with_scratch<W: ValueWriter + Drop>(
     doubles: Doubles,
     text: &str,
     scratch: &mut Scratch,
-    out: W,
+    writer: W,
 ) -> Result<W, TraversalError>
-    ensures ok { IfOk result (λ new. (v : Meaning) × HasMeaningInOrder doubles text.now v × W.wrote_value out [] v new) }
-    ensures stops { IfErr result (λ e. RulesOutText doubles (W.may_give_up doubles) W.sorts_keys e text.now) }
-    ensures located { IfErr result (λ e. LocatesTextError doubles e text.now) }
+    ensures ok { IfOk result (λ new. (written_value : Meaning) × HasMeaningInOrder doubles text.now written_value × W.wrote_value writer [] written_value new) }
+    ensures stops { IfErr result (λ reported_error. ErrorRulesOutText doubles (W.may_give_up doubles) W.sorts_keys reported_error text.now) }
+    ensures located { IfErr result (λ reported_error. LocatesTextError doubles reported_error text.now) }
 {
     let reader = Reader::new(text, scratch)?;
     let mut traversal = Traversal {
         reader,
         keys: Vec::new(alloc),
         lookahead: Lookahead::new(alloc, text),
-        out,
+        writer,
     };
     let level = Level {
         alloc,
@@ -92,9 +93,10 @@ pub fn write_document_text<W: ValueWriter + Drop>(
     doubles: Doubles,
     text: &str,
     scratch: &mut Scratch,
-    out: W,
+    writer: W,
 ) -> Result<W, TraversalError>
-    ensures ok { IfOk result (λ new. (ps : Pairs) × HasMeaningInOrder doubles text.now (document ps) × W.wrote_document out ps new) }
+    ensures ok { IfOk result (λ new. (document_pairs : Pairs)
+        × HasMeaningInOrder doubles text.now (document document_pairs) × W.wrote_document writer document_pairs new) }
 {
     let mut reader = Reader::new(text, scratch)?;
     let Some(Token::BeginObject) = reader.next() else {
@@ -105,7 +107,7 @@ pub fn write_document_text<W: ValueWriter + Drop>(
         reader,
         keys: Vec::new(alloc),
         lookahead: Lookahead::new(alloc, text),
-        out,
+        writer,
     };
     let level = Level {
         alloc,
@@ -123,7 +125,7 @@ pub(crate) struct Traversal<'a, W> {
     // The keys of the open objects, those of the outermost object before the others.
     keys: Vec<&'a str>,
     lookahead: Lookahead<'a>,
-    out: W,
+    writer: W,
 }
 
 impl<'a, W: Drop> Traversal<'a, W> {
@@ -132,18 +134,18 @@ impl<'a, W: Drop> Traversal<'a, W> {
 
     // Returns the writer if no token remains.
     fn finish(self) -> Result<W, TraversalError>
-        ensures ok { IfOk result (λ out. (self.entry.reader ≡ []) × (out ≡ self.entry.out)) }
-        ensures stops { IfErr result (λ e. (e ≡ Syntax) × (self.entry.reader ≡ [] → ⊥)) }
+        ensures ok { IfOk result (λ writer. (self.entry.reader ≡ []) × (writer ≡ self.entry.writer)) }
+        ensures stops { IfErr result (λ reported_error. (reported_error ≡ Syntax) × (self.entry.reader ≡ [] → ⊥)) }
     {
         let Traversal {
             mut reader,
-            out,
+            writer,
             ..
         } = self;
         if reader.next().is_some() {
             return Err(TraversalError::Syntax);
         }
-        Ok(out)
+        Ok(writer)
     }
 }
 
@@ -153,30 +155,30 @@ impl<'a, W: ValueWriter> Traversal<'a, W> {
     ghost use Rattle.serde_json.specs.Read.{converted};
     ghost use Rattle.bson_scalar.specs.Table.{wrapper_of};
     ghost use Rattle.bson_model.specs.Value.{array};
-    ghost use Rattle.bson_model.specs.OrderedTrees.{kept, kept_items};
+    ghost use Rattle.bson_model.specs.OrderedTrees.{tree_of_json, items_of_json};
     ghost use Rattle.bson_text.specs.TraversalResults.{ReadsTree, ReadsItems, ReadsObject, ReadsMembers, ReadsScope};
-    ghost use Rattle.bson_text.specs.TraversalResults.{ReadsCode, kept_object, members_inside, members_after_key};
+    ghost use Rattle.bson_text.specs.TraversalResults.{ReadsCode, tree_members_in_order, members_after_brace, members_after_key};
     ghost use Rattle.bson_text.specs.ErrorPaths.{IsValueError, IsItemsError, IsObjectError, IsMembersError, IsCodeError, IsScopeError};
 
     // Writes the next value under the name. It has at most as many levels as the level says.
     #[cycle(values)]
     fn write_value(&mut self, level: Level, name: &str) -> Result<(), TraversalError>
-        ensures ok { OnOk result (ReadsTree level.doubles (converted kept (value level.depth self.old.reader)) self.new.reader
-            (λ v. W.wrote_value self.old.out name.now v self.new.out)) }
+        ensures ok { OnOk result (ReadsTree level.doubles (converted tree_of_json (value level.depth self.old.reader)) self.new.reader
+            (λ written_value. W.wrote_value self.old.writer name.now written_value self.new.writer)) }
         ensures keys { OnOk result (self.new.keys.items ≡ self.old.keys.items) }
         ensures shorter { OnOk result (length self.new.reader < length self.old.reader) }
-        ensures fails { IfErr result (λ e. IsValueError level.doubles (W.may_give_up level.doubles) W.sorts_keys e
+        ensures fails { IfErr result (λ reported_error. IsValueError level.doubles (W.may_give_up level.doubles) W.sorts_keys reported_error
             (value level.depth self.old.reader) self.new.reader) }
     {
         let token = self.reader.next().ok_or(TraversalError::Syntax)?;
         match token {
-            Token::String(text) => self.out.string(name, text),
+            Token::String(text) => self.writer.string(name, text),
             Token::Number(text) => {
-                self.out
-                    .scalar(name, read_token(level.alloc, level.doubles, text)?)
+                self.writer
+                    .scalar(name, parse_number(level.alloc, level.doubles, text)?)
             }
-            Token::Bool(truth) => self.out.boolean(name, truth),
-            Token::Null => self.out.null(name),
+            Token::Bool(truth) => self.writer.boolean(name, truth),
+            Token::Null => self.writer.null(name),
             Token::EndObject | Token::EndArray | Token::Key(_) | Token::Bad => Err(
                 TraversalError::Syntax,
             ),
@@ -201,14 +203,14 @@ impl<'a, W: ValueWriter> Traversal<'a, W> {
     #[cycle(values)]
     fn write_array(&mut self, level: Level, name: &str) -> Result<(), TraversalError>
         ensures ok { OnOk result (ReadsItems level.doubles
-            (converted kept_items (items (value level.depth) (length self.old.reader) self.old.reader)) self.new.reader
-            (λ vs. W.wrote_value self.old.out name.now (array vs) self.new.out)) }
+            (converted items_of_json (items (value level.depth) (length self.old.reader) self.old.reader)) self.new.reader
+            (λ item_values. W.wrote_value self.old.writer name.now (array item_values) self.new.writer)) }
         ensures keys { OnOk result (self.new.keys.items ≡ self.old.keys.items) }
         ensures shorter { OnOk result (length self.new.reader < length self.old.reader) }
-        ensures fails { IfErr result (λ e. IsItemsError level.doubles (W.may_give_up level.doubles) W.sorts_keys e
+        ensures fails { IfErr result (λ reported_error. IsItemsError level.doubles (W.may_give_up level.doubles) W.sorts_keys reported_error
             (items (value level.depth) (length self.old.reader) self.old.reader) self.new.reader) }
     {
-        let mark = self.out.begin_array(name)?;
+        let open_container = self.writer.begin_array(name)?;
         let mut index: usize = 0;
         'items: while !self.reader.take_end_array() {
             let mut buffer = Buffer::new();
@@ -224,26 +226,26 @@ impl<'a, W: ValueWriter> Traversal<'a, W> {
             }
             index = index.checked_add(1).ok_or(TraversalError::OutOfMemory)?;
         }
-        self.out.end_array(mark)
+        self.writer.end_array(open_container)
     }
 
     // Writes the object whose brace was read.
     #[cycle(values)]
     fn write_object(&mut self, level: Level, name: &str) -> Result<(), TraversalError>
-        ensures ok { OnOk result (ReadsObject level.doubles (kept_object (members_inside level.depth self.old.reader)) self.new.reader
-            (λ v. W.wrote_value self.old.out name.now v self.new.out)) }
+        ensures ok { OnOk result (ReadsObject level.doubles (tree_members_in_order (members_after_brace level.depth self.old.reader)) self.new.reader
+            (λ written_value. W.wrote_value self.old.writer name.now written_value self.new.writer)) }
         ensures keys { OnOk result (self.new.keys.items ≡ self.old.keys.items) }
         ensures shorter { OnOk result (length self.new.reader < length self.old.reader) }
-        ensures fails { IfErr result (λ e. IsObjectError level.doubles (W.may_give_up level.doubles) W.sorts_keys e
-            (members_inside level.depth self.old.reader) self.new.reader) }
+        ensures fails { IfErr result (λ reported_error. IsObjectError level.doubles (W.may_give_up level.doubles) W.sorts_keys reported_error
+            (members_after_brace level.depth self.old.reader) self.new.reader) }
     {
         let first_key = self.reader.next_key()?;
         if let Some(code) = self
             .lookahead
             .code_after_scope(first_key, self.reader.offset())?
         {
-            let written = self.write_code(level, &code, true, name);
-            return match written {
+            let code_result = self.write_code(level, &code, true, name);
+            return match code_result {
                 Ok(()) => Ok(()),
                 Err(failure) => Err(give_up(failure)),
             };
@@ -253,7 +255,7 @@ impl<'a, W: ValueWriter> Traversal<'a, W> {
                 return self.write_wrapper(level, wrapper, key, name);
             }
         }
-        self.out.embed(name)?;
+        self.writer.embed_document(name)?;
         self.write_document(level, first_key, true)
     }
 
@@ -267,17 +269,17 @@ impl<'a, W: ValueWriter> Traversal<'a, W> {
         is_document: bool,
     ) -> Result<(), TraversalError>
         ensures ok { OnOk result (ReadsMembers level.doubles is_document
-            (kept_object (members_after_key level.depth (option_map (λ k. k.now) first_key.entry) self.old.reader)) self.new.reader
-            (λ ps. W.wrote_document self.old.out ps self.new.out)) }
+            (tree_members_in_order (members_after_key level.depth (option_map (λ key_name. key_name.now) first_key.entry) self.old.reader)) self.new.reader
+            (λ document_pairs. W.wrote_document self.old.writer document_pairs self.new.writer)) }
         ensures keys { OnOk result (self.new.keys.items ≡ self.old.keys.items) }
         ensures shorter { OnOk result (length self.new.reader ≤ length self.old.reader) }
-        ensures fails { IfErr result (λ e. IsMembersError level.doubles (W.may_give_up level.doubles) W.sorts_keys e is_document
-            (members_after_key level.depth (option_map (λ k. k.now) first_key.entry) self.old.reader) self.new.reader) }
+        ensures fails { IfErr result (λ reported_error. IsMembersError level.doubles (W.may_give_up level.doubles) W.sorts_keys reported_error is_document
+            (members_after_key level.depth (option_map (λ key_name. key_name.now) first_key.entry) self.old.reader) self.new.reader) }
     {
-        let held = self.keys.len();
-        let mark = self.out.begin()?;
-        let mut next = first_key;
-        'members: while let Some(key) = next {
+        let outer_len = self.keys.len();
+        let open_container = self.writer.begin_document()?;
+        let mut pending_key = first_key;
+        'members: while let Some(key) = pending_key {
             if let Some(wrapper) = misplaced_wrapper(is_document, key) {
                 return Err(wrong_shape_at_value(
                     level,
@@ -288,17 +290,18 @@ impl<'a, W: ValueWriter> Traversal<'a, W> {
             let Ok(()) = self.keys.push(key) else {
                 return Err(TraversalError::OutOfMemory);
             };
-            self.out.key(key)?;
+            self.writer.key(key)?;
             match self.write_value(level, key) {
                 Ok(()) => {}
                 Err(failure) => {
                     return Err(error_in_member(level, &mut self.reader, is_document, key, failure));
                 }
             }
-            next = self.reader.next_key()?;
+            pending_key = self.reader.next_key()?;
         }
-        self.out.end(mark, &mut self.keys.as_mut_slice()[held..])?;
-        self.keys.truncate(held);
+        self.writer
+            .end_document(open_container, &mut self.keys.as_mut_slice()[outer_len..])?;
+        self.keys.truncate(outer_len);
         Ok(())
     }
 
@@ -313,60 +316,59 @@ impl<'a, W: ValueWriter> Traversal<'a, W> {
         name: &str,
     ) -> Result<(), TraversalError>
         requires { wrapper_of key.now ≡ Some wrapper }
-        ensures ok { OnOk result (ReadsObject level.doubles (kept_object (members_after_key level.depth (Some key.now) self.old.reader))
-            self.new.reader (λ v. W.wrote_value self.old.out name.now v self.new.out)) }
+        ensures ok { OnOk result (ReadsObject level.doubles (tree_members_in_order (members_after_key level.depth (Some key.now) self.old.reader))
+            self.new.reader (λ written_value. W.wrote_value self.old.writer name.now written_value self.new.writer)) }
         ensures keys { OnOk result (self.new.keys.items ≡ self.old.keys.items) }
         ensures shorter { OnOk result (length self.new.reader < length self.old.reader) }
-        ensures fails { IfErr result (λ e. IsObjectError level.doubles (W.may_give_up level.doubles) W.sorts_keys e
+        ensures fails { IfErr result (λ reported_error. IsObjectError level.doubles (W.may_give_up level.doubles) W.sorts_keys reported_error
             (members_after_key level.depth (Some key.now) self.old.reader) self.new.reader) }
     {
-        let held = read_wrapper_content(level.alloc, &mut self.reader, level.depth)?;
-        let Some(other) = self.reader.next_key()? else {
-            let value = read_scalar(level, wrapper, held, key)?;
-            return self.out.scalar(name, value);
+        let content = read_wrapper_content(level.alloc, &mut self.reader, level.depth)?;
+        let Some(second_key) = self.reader.next_key()? else {
+            let value = read_scalar(level, wrapper, content, key)?;
+            return self.writer.scalar(name, value);
         };
-        if !is_code_with_scope(key, other) {
+        if !is_code_with_scope(key, second_key) {
             return Err(wrong_shape_at_value(level, &mut self.reader, other_keys_reason(wrapper)));
         }
-        let Ok(code) = text_of(held) else {
+        let Ok(code) = text_of(content) else {
             return Err(wrong_shape_at_value(level, &mut self.reader, CODE_MESSAGE));
         };
         self.write_code(level, &code, false, name)
     }
 
-    // Writes code from its scope's value on, to the end of their object. Code after its scope must be
-    // this.
+    // Writes code from its scope's value to the end of their object. Code after its scope must be this.
     #[cycle(values)]
     #[inline(never)]
     fn write_code(
         &mut self,
         level: Level,
         code: &str,
-        is_reversed: bool,
+        code_follows_scope: bool,
         name: &str,
     ) -> Result<(), TraversalError>
-        ensures ok { OnOk result (ReadsCode level.doubles level.depth code.now is_reversed self.old.reader self.new.reader
-            (λ v. W.wrote_value self.old.out name.now v self.new.out)) }
+        ensures ok { OnOk result (ReadsCode level.doubles level.depth code.now code_follows_scope self.old.reader self.new.reader
+            (λ written_value. W.wrote_value self.old.writer name.now written_value self.new.writer)) }
         ensures keys { OnOk result (self.new.keys.items ≡ self.old.keys.items) }
         ensures shorter { OnOk result (length self.new.reader < length self.old.reader) }
-        ensures fails { IfErr result (λ e. IsCodeError level.doubles (W.may_give_up level.doubles) W.sorts_keys e is_reversed
+        ensures fails { IfErr result (λ reported_error. IsCodeError level.doubles (W.may_give_up level.doubles) W.sorts_keys reported_error code_follows_scope
             level.depth self.old.reader self.new.reader) }
     {
         let scope = read_scope(level, &mut self.reader)?;
         match scope {
             Scope::Null => {
-                end_object(level, &mut self.reader, code, is_reversed)?;
+                end_object(level, &mut self.reader, code, code_follows_scope)?;
                 let code = String::from_str(level.alloc, code)?;
-                self.out.scalar(name, Scalar::JavaScriptCode(code))
+                self.writer.scalar(name, Scalar::JavaScriptCode(code))
             }
             Scope::Object => {
-                let mark = self.out.begin_code(name, code)?;
+                let open_container = self.writer.begin_code(name, code)?;
                 match self.write_scope(level) {
                     Ok(()) => {}
                     Err(failure) => return Err(error_in_scope(level, &mut self.reader, failure)),
                 }
-                end_object(level, &mut self.reader, code, is_reversed)?;
-                self.out.end_code(mark)
+                end_object(level, &mut self.reader, code, code_follows_scope)?;
+                self.writer.end_code(open_container)
             }
         }
     }
@@ -375,20 +377,20 @@ impl<'a, W: ValueWriter> Traversal<'a, W> {
     #[cycle(values)]
     fn write_scope(&mut self, level: Level) -> Result<(), TraversalError>
         ensures ok { OnOk result (ReadsScope level.doubles level.depth self.old.reader self.new.reader
-            (λ ps. W.wrote_document self.old.out ps self.new.out)) }
+            (λ document_pairs. W.wrote_document self.old.writer document_pairs self.new.writer)) }
         ensures keys { OnOk result (self.new.keys.items ≡ self.old.keys.items) }
         ensures shorter { OnOk result (length self.new.reader < length self.old.reader) }
-        ensures fails { IfErr result (λ e. IsScopeError level.doubles (W.may_give_up level.doubles) W.sorts_keys e level.depth
+        ensures fails { IfErr result (λ reported_error. IsScopeError level.doubles (W.may_give_up level.doubles) W.sorts_keys reported_error level.depth
             self.old.reader self.new.reader) }
     {
         if level.depth == 0 {
             return Err(TraversalError::Syntax);
         }
         let first_key = self.reader.next_key()?;
-        let inner = level.depth - 1;
+        let inner_depth = level.depth - 1;
         self.write_document(
             Level {
-                depth: inner,
+                depth: inner_depth,
                 ..level
             },
             first_key,

@@ -28,9 +28,9 @@ impl From<AllocError> for TraversalError {
     ghost use Rattle.std.specs.Prelude.{◌≡◌};
     ghost use Rattle.bson_text.specs.declared.traversal_error.TraversalError.TheVariants.{OutOfMemory};
 
-    ghost from_gives = { λ _ e. e ≡ OutOfMemory };
+    ghost from_gives = { λ _ converted_error. converted_error ≡ OutOfMemory };
 
-    fn from(_refused: AllocError) -> TraversalError {
+    fn from(_alloc_error: AllocError) -> TraversalError {
         TraversalError::OutOfMemory
     }
 }
@@ -39,7 +39,7 @@ impl From<Invalid> for TraversalError {
     ghost use Rattle.std.specs.Prelude.{◌≡◌};
     ghost use Rattle.bson_text.specs.declared.traversal_error.TraversalError.TheVariants.{Syntax};
 
-    ghost from_gives = { λ _ e. e ≡ Syntax };
+    ghost from_gives = { λ _ converted_error. converted_error ≡ Syntax };
 
     fn from(_invalid: Invalid) -> TraversalError {
         TraversalError::Syntax
@@ -50,7 +50,7 @@ impl From<Error> for TraversalError {
     ghost use Rattle.std.specs.Prelude.{◌≡◌};
     ghost use Rattle.bson_text.specs.TraversalErrors.{error_of_json};
 
-    ghost from_gives = { λ a e. e ≡ error_of_json a };
+    ghost from_gives = { λ json_error converted_error. converted_error ≡ error_of_json json_error };
 
     fn from(error: Error) -> TraversalError {
         match error {

@@ -10,10 +10,10 @@ ghost use Rattle.serde_json.specs.Data.{Num, string};
 ghost use Rattle.serde_json.specs.Find.{as_str};
 ghost use Rattle.serde_json.specs.Read.{number_of};
 ghost use Rattle.serde_json.specs.View.{view};
-ghost use Rattle.bson_text.specs.ErrorDenials.{EndRuledOut, NumberRuledOut};
+ghost use Rattle.bson_text.specs.ErrorDenials.{ErrorRulesOutEnd, ErrorRulesOutNumber};
 ghost use Rattle.bson_text.specs.ScopeTokens.{scope_token, IsNotScopeStart};
 ghost use Rattle.bson_text.specs.ErrorPaths.{IsScopeTypeError, IsExtraKeyError, IsScalarFault};
-ghost use Rattle.bson_text.specs.TraversalErrors.{IsSameKindOrMemory};
+ghost use Rattle.bson_text.specs.TraversalErrors.{IsSameKindOrOutOfMemory};
 ghost use Rattle.bson_text.specs.TraversalResults.{IsEndOfCode};
 ghost use Rattle.bson_text.specs.declared.traversal_error.TraversalError.TheVariants.{Syntax};
 
@@ -41,8 +41,10 @@ pub(crate) enum Scope {
 // skipped.
 pub(crate) fn read_scope(level: Level, reader: &mut Reader<'_>) -> Result<Scope, TraversalError>
     ensures ok { IfOk result (λ scope. reader.old ≡ scope_token scope ∷ reader.new) }
-    ensures located { IfErr result (λ e. IsScopeTypeError level.depth reader.old e reader.new) }
-    ensures kind { IfErr result (λ e. IsSameKindOrMemory Syntax e × IsNotScopeStart reader.old) }
+    ensures located { IfErr result
+        (λ reported_error. IsScopeTypeError level.depth reader.old reported_error reader.new) }
+    ensures kind { IfErr result (λ reported_error. IsSameKindOrOutOfMemory Syntax reported_error
+        × IsNotScopeStart reader.old) }
 {
     let token = reader.next().ok_or(TraversalError::Syntax)?;
     match token {
@@ -69,7 +71,7 @@ pub(crate) fn read_scope(level: Level, reader: &mut Reader<'_>) -> Result<Scope,
 // Returns the string of the tree, if it is a string. The caller knows the path of the error.
 pub(crate) fn text_of(tree: Value) -> Result<String, TraversalError>
     ensures ok { IfOk result (λ text. view tree ≡ string (string_bytes text)) }
-    ensures textless { OnErr result (as_str (view tree) ≡ None) }
+    ensures not_a_string { OnErr result (as_str (view tree) ≡ None) }
 {
     match tree {
         Value::String(text) => Ok(text),
@@ -80,19 +82,19 @@ pub(crate) fn text_of(tree: Value) -> Result<String, TraversalError>
 }
 
 // Returns the number of a token.
-pub(crate) fn read_token(
+pub(crate) fn parse_number(
     alloc: Global,
     doubles: Doubles,
     text: &str,
 ) -> Result<Scalar, TraversalError>
-    ensures ok { IfOk result (λ x. (n : Num) × (number_of text.now ≡ Some n)
-        × (number_read_in doubles n ≡ Ok (scalar_view x))) }
-    ensures stops { IfErr result (λ e. NumberRuledOut doubles e text.now) }
-    ensures located { IfErr result (λ e. (n : Num) → number_of text.now ≡ Some n
-        → IsScalarFault (number_read_in doubles n) e) }
+    ensures ok { IfOk result (λ scalar_value. (parsed_number : Num) × (number_of text.now ≡ Some parsed_number)
+        × (number_read_in doubles parsed_number ≡ Ok (scalar_view scalar_value))) }
+    ensures stops { IfErr result (λ reported_error. ErrorRulesOutNumber doubles reported_error text.now) }
+    ensures located { IfErr result (λ reported_error. (parsed_number : Num) → number_of text.now ≡ Some parsed_number
+        → IsScalarFault (number_read_in doubles parsed_number) reported_error) }
 {
-    let n = number(text).ok_or(TraversalError::Syntax)?;
-    match read_number(doubles, &n) {
+    let parsed_number = number(text).ok_or(TraversalError::Syntax)?;
+    match read_number(doubles, &parsed_number) {
         Ok(scalar) => Ok(scalar),
         Err(cause) => Err(scalar_error(alloc, cause)),
     }
@@ -114,27 +116,28 @@ pub(crate) fn end_object(
     level: Level,
     reader: &mut Reader<'_>,
     code: &str,
-    is_reversed: bool,
+    code_follows_scope: bool,
 ) -> Result<(), TraversalError>
-    ensures ok { OnOk result (IsEndOfCode code.now is_reversed reader.old reader.new) }
+    ensures ok { OnOk result (IsEndOfCode code.now code_follows_scope reader.old reader.new) }
     ensures shorter { OnOk result (length reader.new < length reader.old) }
-    ensures stops { IfErr result (λ e. EndRuledOut e is_reversed reader.old) }
-    ensures located { IfErr result (λ e. is_reversed ≡ false → IsExtraKeyError level.depth reader.old e reader.new) }
+    ensures stops { IfErr result (λ reported_error. ErrorRulesOutEnd reported_error code_follows_scope reader.old) }
+    ensures located { IfErr result (λ reported_error. code_follows_scope ≡ false
+        → IsExtraKeyError level.depth reader.old reported_error reader.new) }
 {
-    if is_reversed {
-        skip_code(reader, code)?;
+    if code_follows_scope {
+        skip_code_after_scope(reader, code)?;
     }
-    let other = reader.next_key()?;
-    match other {
+    let extra_key = reader.next_key()?;
+    match extra_key {
         None => Ok(()),
         Some(_) => Err(wrong_shape_at_value(level, reader, other_keys_reason(Wrapper::Code))),
     }
 }
 
 // Reads the key of code, and then this string.
-fn skip_code(reader: &mut Reader<'_>, code: &str) -> Result<(), TraversalError>
+fn skip_code_after_scope(reader: &mut Reader<'_>, code: &str) -> Result<(), TraversalError>
     ensures ok { OnOk result (read_key reader.old ≡ Some (Some (codes "$code"), token.string code.now ∷ reader.new)) }
-    ensures kind { IfErr result (λ e. e ≡ Syntax) }
+    ensures kind { IfErr result (λ reported_error. reported_error ≡ Syntax) }
 {
     let Some(key) = reader.next_key()? else {
         return Err(TraversalError::Syntax);

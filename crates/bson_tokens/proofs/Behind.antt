@@ -1,4 +1,4 @@
--- The text behind a front.
+-- The text after a front.
 use Rattle.std.proofs.Common.{◌≡◌, ℕ, ◌-◌, List, [], ◌++◌, append-nil, drop, length, take, sym, ap, ◌∙◌, refl, arith, subst}
 use Rattle.std.proofs.Common.{Option, Some, None, Vec, Global}
 use Rattle.std.specs.Prelude.{MatchOption}

@@ -5,13 +5,13 @@ use Rattle.json.specs.Json.{read_key, value}
 use Rattle.json.proofs.Grammar.{read_key-shorter}
 use Rattle.serde_json.specs.Data.{Data, Members, put}
 use Rattle.serde_json.specs.Read.{of_json, converted}
-use Rattle.bson_tokens.specs.ReadOutcomes.{MembersAre, ReadsNoMembers}
+use Rattle.bson_tokens.specs.ReadOutcomes.{MembersAreReadInto, ReadsNoMembers}
 use Rattle.bson_tokens.proofs.HeldRounds.{more_members, no_more_members, no_members_behind}
 
 -- from the start of the members, beside old ones, up to here
 pub record Collects (depth : ℕ) (old : Members) (start here : List Token) (so_far : Members) : Type 0 where
-  pub all : (ms : Members) (rest : List Token) → MembersAre depth so_far here ms rest
-      → MembersAre depth old start ms rest
+  pub all : (ms : Members) (rest : List Token) → MembersAreReadInto depth so_far here ms rest
+      → MembersAreReadInto depth old start ms rest
   pub none : ReadsNoMembers depth here → ReadsNoMembers depth start
   pub shorter : length here ≤ length start
 
@@ -31,6 +31,6 @@ one_collected depth old k start here s r so_far d g named read less =
     }
 
 pub all_collected : (depth : ℕ) (old : Members) (start here rest : List Token) (so_far : Members)
-    → Collects depth old start here so_far → read_key here ≡ Some (None, rest) → MembersAre depth old start so_far rest
+    → Collects depth old start here so_far → read_key here ≡ Some (None, rest) → MembersAreReadInto depth old start so_far rest
 all_collected depth old start here rest so_far g ended =
     g.all so_far rest (no_more_members depth here rest so_far ended)

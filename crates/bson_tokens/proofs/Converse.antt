@@ -35,7 +35,7 @@ differ a b false is other = refl
 either_false : (a b : Bool) → a ≡ false → b ≡ false → (a || b) ≡ false
 either_false a b x y = ap (λ c. c || b) x ∙ y
 
--- the keys behind the first are none of those before, nor the first
+-- the keys after the first are none of those before, nor the first
 others : (before : List (List ℕ)) (k : List ℕ) (ks : List (List ℕ))
     → All (λ l. is_among before l ≡ false) (k ∷ ks) → AreDistinct (k ∷ ks)
     → All (λ l. is_among (k ∷ before) l ≡ false) ks
@@ -74,19 +74,19 @@ mutual
   found j path (place.object ms m) = found_within [] ms path m
 
   found_among : (n : ℕ) (js : Items) (path : List PathSegment) → DuplicateInItems n js path → first_duplicate_in_items n js ≡ Some path
-  found_among n js path (place.here {path = w} m j rest d) =
+  found_among n js path (place.in_this_item {path = w} m j rest d) =
       ap (λ v. first_path (append_segment (element m) v) (first_duplicate_in_items (m + 1) rest)) (found j w d)
-  found_among n js path (place.later m j rest h d) =
+  found_among n js path (place.in_later_item m j rest h d) =
       ap (λ v. first_path (append_segment (element m) v) (first_duplicate_in_items (m + 1) rest)) (none j h) ∙ found_among (m + 1) rest path d
 
   found_within : (before : List (List ℕ)) (ms : Members) (path : List PathSegment) → DuplicateInMembers before ms path
       → first_duplicate_in_members before ms ≡ Some path
-  found_within before ms path (place.again b k j rest has) =
+  found_within before ms path (place.duplicate_key b k j rest has) =
       ap (λ s. first_path (member_path (not s) k (first_duplicate j)) (first_duplicate_in_members (k ∷ b) rest)) (stood b k has)
-  found_within before ms path (place.inside {path = w} b k j rest absent d) =
+  found_within before ms path (place.in_member_value {path = w} b k j rest absent d) =
       ap (λ s. first_path (member_path (not s) k (first_duplicate j)) (first_duplicate_in_members (k ∷ b) rest)) (new b k absent)
       ∙ ap (λ v. first_path (append_segment (key k) v) (first_duplicate_in_members (k ∷ b) rest)) (found j w d)
-  found_within before ms path (place.later_member b k j rest absent h d) =
+  found_within before ms path (place.in_later_member b k j rest absent h d) =
       ap (λ s. first_path (member_path (not s) k (first_duplicate j)) (first_duplicate_in_members (k ∷ b) rest)) (new b k absent)
       ∙ ap (λ v. first_path (append_segment (key k) v) (first_duplicate_in_members (k ∷ b) rest)) (none j h)
       ∙ found_within (k ∷ b) rest path d

@@ -10,7 +10,7 @@ use Rattle.bson_tokens.proofs.HeldRounds.{NoItems, one_item, last_item, no_more_
 abbrev pub ItemsAre : ℕ → List Token → Items → List Token → Type 0
 ItemsAre depth ts ds rest = (n : ℕ) → length ts ≤ n → converted of_items (items (value depth) n ts) ≡ Some (ds, rest)
 
--- from the start of the array up to here, where `front` puts what was read before what is left
+-- from the start of the array up to here, where `front` joins what was read to what is left
 pub record Lists (depth : ℕ) (start here : List Token) (front : Items → Items) : Type 0 where
   pub all : (ds : Items) (rest : List Token) → ItemsAre depth here ds rest → ItemsAre depth start (front ds) rest
   pub none : NoItems depth here → NoItems depth start

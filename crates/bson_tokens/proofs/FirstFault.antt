@@ -17,12 +17,12 @@ use Rattle.bson_model.proofs.Offered.{means_to_in}
 use Rattle.bson_model.specs.Value as model
 use Rattle.bson_tree.specs.Place.{PathSegment, key, element, FaultAtIn, ItemFaultAtIn, MemberFaultAtIn, HasValueIn}
 use Rattle.bson_tree.specs.Place.{array, document}
-use Rattle.bson_tree.specs.Place.{here as at_element, later, at_key, behind}
+use Rattle.bson_tree.specs.Place.{at_this_element as at_element, after_valid_element, at_key, after_valid_member}
 use Rattle.bson_tree.proofs.Offered.{HasScopeIn, IsScopeFaultIn, in_scope, no_scope}
 use Rattle.bson_tree.proofs.Offered.{HasItems, HasPairs, Coded, number_value, no_number, array_value, document_value}
 use Rattle.bson_tree.proofs.Offered.{lone_fault, lone_value, not_code, not_text, value_of_code, scope_path}
 use Rattle.bson_tree.proofs.Offered.{scope_of_map, never, shape_fault, value_of}
-use Rattle.bson_tokens.specs.FirstFault.{FaultAndPath, fault_in_tree, first_item_fault, first_member_fault, wrapper_fault, scope_fault, or, add_segment}
+use Rattle.bson_tokens.specs.FirstFault.{FaultAndPath, fault_in_tree, first_item_fault, first_member_fault, wrapper_fault, scope_fault, or_fault, add_segment}
 use Rattle.bson_tokens.specs.FirstFault.{wrong_shape_here, scalar_fault, code_fault}
 
 -- there is none, or it has this place
@@ -43,17 +43,17 @@ module _ (D : Doubles) where
 
   items_are : (n : ℕ) (d : Data) (ds : Items) (v w : FaultAndPath) → Is (HasValueIn D d) (λ f path. FaultAtIn D f d path) v
       → Is (HasItems D ds) (λ f path. ItemFaultAtIn D f (n + 1) ds path) w
-      → Is (HasItems D (item d ds)) (λ f path. ItemFaultAtIn D f n (item d ds) path) (or (add_segment (element n) v) w)
+      → Is (HasItems D (item d ds)) (λ f path. ItemFaultAtIn D f n (item d ds) path) (or_fault (add_segment (element n) v) w)
   items_are n d ds None None a b = (model.value a.0 b.0, rw (means_to_in D a.1, b.1) refl)
-  items_are n d ds None (Some f) a b = later n d a.0 ds a.1 b
+  items_are n d ds None (Some f) a b = after_valid_element n d a.0 ds a.1 b
   items_are n d ds (Some f) w a b = at_element n d ds a
 
   members_are : (k : List ℕ) (d : Data) (ms : Members) (v w : FaultAndPath)
       → Is (HasValueIn D d) (λ f path. FaultAtIn D f d path) v
       → Is (HasPairs D ms) (λ f path. MemberFaultAtIn D f ms path) w
-      → Is (HasPairs D (member k d ms)) (λ f path. MemberFaultAtIn D f (member k d ms) path) (or (add_segment (key k) v) w)
+      → Is (HasPairs D (member k d ms)) (λ f path. MemberFaultAtIn D f (member k d ms) path) (or_fault (add_segment (key k) v) w)
   members_are k d ms None None a b = (model.pair k a.0 b.0, rw (means_to_in D a.1, b.1) refl)
-  members_are k d ms None (Some f) a b = behind k d a.0 ms a.1 b
+  members_are k d ms None (Some f) a b = after_valid_member k d a.0 ms a.1 b
   members_are k d ms (Some f) w a b = at_key k d ms a
 
   document_is : (ms : Members) (v : FaultAndPath) → has_wrapper ms ≡ false
@@ -77,7 +77,7 @@ module _ (D : Doubles) where
   lone_is k d (Ok x) w h = lone_value D k d x w h
   lone_is k d (Err f) w h = lone_fault D k d f w h
 
-  -- what stands as a scope at this key
+  -- what is a scope at this key
   abbrev ScopeIs : Data → FaultAndPath → Type 0
   ScopeIs e v = Is (HasScopeIn D e) (IsScopeFaultIn D e) v
 

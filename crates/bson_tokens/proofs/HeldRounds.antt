@@ -9,7 +9,7 @@ use Rattle.json.proofs.Grammar.{items_end, items_more, members_end, members_more
 use Rattle.json.proofs.Grammar.{read_key-shorter, items_fail, members_no_key, members_fail}
 use Rattle.serde_json.specs.Data.{Data, no_items, item, Members, put}
 use Rattle.serde_json.specs.Read.{of_json, of_items, of_members, converted}
-use Rattle.bson_tokens.specs.ReadOutcomes.{MembersAre, ReadsNoMembers}
+use Rattle.bson_tokens.specs.ReadOutcomes.{MembersAreReadInto, ReadsNoMembers}
 
 -- what holds of a value that was read has what follows from it
 pub if_ok : {X E : Type 0} {P Q : X → Type 0} (r : Result X E) → IfOk r P → ((x : X) → P x → Q x) → IfOk r Q
@@ -78,14 +78,14 @@ module _ (p : Parse json.Json) (n : ℕ) where
 -- to the end of the object: one more member, and no more
 pub more_members : (depth : ℕ) (k : List ℕ) (ts s r rest : List Token) (d : Data) (old new : Members)
     → read_key ts ≡ Some (Some k, s) → converted of_json (value depth s) ≡ Some (d, r) → length r < length s
-    → MembersAre depth (put k d old) r new rest → MembersAre depth old ts new rest
+    → MembersAreReadInto depth (put k d old) r new rest → MembersAreReadInto depth old ts new rest
 more_members depth k ts s r rest d old new named held less more =
     let first = read_key-shorter ts (Some k) s named in
     λ n enough. one_member (value depth) n old k ts s r d (omega (arith, enough, first)) named held
     ∙ more (n - 1) (omega (arith, enough, first, less))
 
 pub no_more_members : (depth : ℕ) (ts rest : List Token) (old : Members) → read_key ts ≡ Some (None, rest)
-    → MembersAre depth old ts old rest
+    → MembersAreReadInto depth old ts old rest
 no_more_members depth ts rest old ended = λ n enough. last_member (value depth) n old ts rest enough ended
 
 -- ---- where the text breaks
@@ -129,7 +129,7 @@ module _ (p : Parse json.Json) where
       ap (converted (λ ms. of_members ms old)) (members_more p (suc n) k ts s r j (omega arith) named is)
       ∙ none_at k j old _ (was_none (λ d. (d, r)) (of_json j) h)
 
--- an element breaks, or one behind it
+-- an element breaks, or one after it
 pub no_item : (depth : ℕ) (ts : List Token) → after_end_array ts ≡ None → converted of_json (value depth ts) ≡ None
     → NoItems depth ts
 no_item depth ts going h n = item_breaks (value depth) n ts (value depth ts) going refl h
@@ -141,7 +141,7 @@ no_more_items depth ts r d going read h zero = refl
 no_more_items depth ts r d going read h (suc n) =
     one_item (value depth) (suc n) ts r d (omega arith) going read ∙ ap (parse_map (item d)) (h (suc n - 1))
 
--- no key stands there; the value at the key breaks, or what is behind it
+-- no key is there; the value at the key breaks, or what is after it
 pub no_key : (depth : ℕ) (ts : List Token) → read_key ts ≡ None → ReadsNoMembers depth ts
 no_key depth ts none old n = ap (converted (λ ms. of_members ms old)) (members_no_key (value depth) n ts none)
 

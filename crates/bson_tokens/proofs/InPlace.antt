@@ -1,4 +1,4 @@
--- A sort by key, and then by place, is a stable sort by key of what stands in the order of its places.
+-- A sort by key, and then by place, is a stable sort by key of what is in the order of its places.
 use Rattle.std.proofs.Common.{◌≡◌, ◌<◌, ◌≤◌, ◌+◌, ℕ, List, [], ◌∷◌, Bool, true, false, cond, ◌||◌, Option, Some, None}
 use Rattle.std.proofs.Common.{Ordering, Less, Equal, Greater, nat_cmp, get_or, All, IsPermutation, filter, refl}
 use Rattle.std.proofs.Common.{sym, ap, ap₂, ◌∙◌, subst, arith}

@@ -1,4 +1,4 @@
--- Pieces joined one behind the other, and pieces of one key made one.
+-- Pieces joined one after the other, and pieces of one key made one.
 use Rattle.std.proofs.Common.{◌≡◌, ℕ, suc, ◌+◌, ◌<◌, true, false, nat_lt, List, [], ◌∷◌, ◌++◌, drop, get_or, length, map, take}
 use Rattle.std.proofs.Common.{bytes_eq, refl, sym, ap, ◌∙◌, subst, arith, add-one, append_assoc}
 use Rattle.std.proofs.Math.ListN.{set}
@@ -6,8 +6,8 @@ use Rattle.std.proofs.Math.Seq.{drop-cons, take-suc, take-length}
 use Rattle.std.proofs.lemmas.List.{map-append, take_more_set}
 use Rattle.std.specs.List.{All}
 use Rattle.serde_json.specs.Written.{comma_if}
-use Rattle.bson_tokens.specs.NormalizerStates.{IsSpan, IsMemberSpanWithin, SpansMatch, MemberSpanValues, entry_at, member_text, merge}
-use Rattle.bson_tokens.specs.NormalizerStates.{member_span_key, member_span_text, is_nonempty}
+use Rattle.bson_tokens.specs.NormalizerStates.{IsMemberSpanOf, IsMemberSpanWithin, SpansMatch, MemberSpanValues, entry_at, member_text, merge}
+use Rattle.bson_tokens.specs.NormalizerStates.{member_span_key, member_span_text, has_entries}
 use Rattle.bson_tokens.specs.PutMembers.{merged, merged_from}
 use Rattle.bson_tokens.specs.declared.member_order.MemberSpan.{MemberSpan}
 use Rattle.bson_tokens.proofs.Ordered.{some_taken}
@@ -16,7 +16,7 @@ use Rattle.bson_tokens.proofs.Standing.{stand_more}
 heads : (p q : MemberSpan) (ps qs : List MemberSpan) → p ∷ ps ≡ q ∷ qs → (p ≡ q) × (ps ≡ qs)
 heads p q ps qs e = (cc, cc)
 
--- of those that are left the next, and those behind it
+-- of those that are left the next, and those after it
 pub next_left : (all now : List MemberSpan) (at : ℕ) (p : MemberSpan) → at < length all → drop at now ≡ drop at all
     → drop at now ≡ p ∷ drop (suc at) now → (drop at all ≡ p ∷ drop (at + 1) all) × (drop (at + 1) now ≡ drop (at + 1) all)
 next_left all now at p less left is =
@@ -44,24 +44,24 @@ one_taken values all at p less is =
 
 -- one more is joined
 pub span_joined : (body : List ℕ) (all now : List MemberSpan) (at : ℕ) (p q : MemberSpan) (values : MemberSpanValues) (old mid later : List ℕ)
-    → at < length all → drop at all ≡ p ∷ drop (at + 1) all → All (IsSpan body values) all
+    → at < length all → drop at all ≡ p ∷ drop (at + 1) all → All (IsMemberSpanOf body values) all
     → SpansMatch old (take at now) (map (entry_at values) (take at all)) → mid ≡ old ++ comma_if (nat_lt 0 at)
-    → later ≡ mid ++ member_span_text body p → member_span_key q ≡ member_span_key p → q.place ≡ q.start → q.start ≡ length mid
+    → later ≡ mid ++ member_span_text body p → member_span_key q ≡ member_span_key p → q.offset_in_object ≡ q.start → q.start ≡ length mid
     → q.end ≡ length later → length now ≡ length all
     → SpansMatch later (take (at + 1) (set now at q)) (map (entry_at values) (take (at + 1) all))
-span_joined body all now at p q values old mid later less is spans stand comma text key place start end long =
+span_joined body all now at p q values old mid later less is spans stand comma text key offset_in_object start end long =
     let es = map (entry_at values) (take at all) in
     let j = values p.start in
-    let here : IsSpan body values p = subst (IsSpan body values) (at_left all at p less is) (spans at p less) in
-    let some : nat_lt 0 at ≡ is_nonempty es = some_taken values at all (omega (arith, less)) in
-    let begun : mid ≡ old ++ comma_if (is_nonempty es) = comma ∙ ap (λ b. old ++ comma_if b) some in
+    let here : IsMemberSpanOf body values p = subst (IsMemberSpanOf body values) (at_left all at p less is) (spans at p less) in
+    let some : nat_lt 0 at ≡ has_entries es = some_taken values at all (omega (arith, less)) in
+    let begun : mid ≡ old ++ comma_if (has_entries es) = comma ∙ ap (λ b. old ++ comma_if b) some in
     let own : member_span_text body p ≡ member_text (member_span_key q, j) = here.1 ∙ ap (λ k. member_text (k, j)) (sym key) in
-    let whole : later ≡ old ++ (comma_if (is_nonempty es) ++ member_text (member_span_key q, j)) =
-    text ∙ ap (λ l. l ++ member_span_text body p) begun ∙ ap (λ l. (old ++ comma_if (is_nonempty es)) ++ l) own
-    ∙ append_assoc old (comma_if (is_nonempty es)) (member_text (member_span_key q, j)) in
-    let more = stand_more old (take at now) es q j stand (start ∙ ap length begun) place (end ∙ ap length whole) in
+    let whole : later ≡ old ++ (comma_if (has_entries es) ++ member_text (member_span_key q, j)) =
+    text ∙ ap (λ l. l ++ member_span_text body p) begun ∙ ap (λ l. (old ++ comma_if (has_entries es)) ++ l) own
+    ∙ append_assoc old (comma_if (has_entries es)) (member_text (member_span_key q, j)) in
+    let more = stand_more old (take at now) es q j stand (start ∙ ap length begun) offset_in_object (end ∙ ap length whole) in
     let inside : at < length now = omega (arith, less, long) in
-    let all_text = old ++ (comma_if (is_nonempty es) ++ member_text (member_span_key q, j)) in
+    let all_text = old ++ (comma_if (has_entries es) ++ member_text (member_span_key q, j)) in
     subst (λ t. SpansMatch t (take (at + 1) (set now at q)) (map (entry_at values) (take (at + 1) all))) (sym whole)
     (subst (λ ps. SpansMatch all_text ps (map (entry_at values) (take (at + 1) all))) (sym (take_more_set now at q inside))
     (subst (λ fs. SpansMatch all_text (take at now ++ q ∷ []) fs)

@@ -35,7 +35,7 @@ module _ {M : Type 0} (key_of : M → List ℕ) (place_of : M → ℕ) (value_of
   after (Some e) None = Some e
   after (Some e) (Some f) = Some (e.0, f.1)
 
-  -- what stands at the key, if it does
+  -- what is at the key, if anything is
   abbrev pub member_path : List ℕ → M → Option JsonMember
   member_path q m = cond (bytes_eq q (key_of m)) (Some (entry m)) None
 
@@ -128,7 +128,7 @@ module _ {M : Type 0} (key_of : M → List ℕ) (place_of : M → ℕ) (value_of
     seen_merged q [] = refl
     seen_merged q (m ∷ ms) = seen_merged_from q m ms
 
-  -- ---- where each key stands once
+  -- ---- each key occurs once
 
   abbrev pub DifferByKey : List M → Type 0
   DifferByKey ms = IsNormalized FirstPositions (members_of key_of value_of ms)
@@ -169,12 +169,12 @@ module _ {M : Type 0} (key_of : M → List ℕ) (place_of : M → ℕ) (value_of
   Rising [] = Unit {0}
   Rising (m ∷ ms) = AllAbove (place_of m) ms × Rising ms
 
-  -- ---- put one after another at their first places
+  -- ---- inserted one after another at their first places
 
   module _ (merge : M → M → M) (merge_key : (m n : M) → key_of (merge m n) ≡ key_of m)
       (merge_place : (m n : M) → place_of (merge m n) ≡ place_of m)
       (merge_value : (m n : M) → value_of (merge m n) ≡ value_of n) where
-    -- the list with m at its key: merged where the key stands, else last
+    -- the list with m at its key: merged where the key is, else last
     abbrev pub put_one : M → List M → List M
     put_one m [] = m ∷ []
     put_one m (n ∷ ns) = cond (bytes_eq (key_of m) (key_of n)) (merge n m ∷ ns) (n ∷ put_one m ns)
@@ -204,10 +204,10 @@ module _ {M : Type 0} (key_of : M → List ℕ) (place_of : M → ℕ) (value_of
     all_members (m ∷ ms) found =
         all_members ms (put_one m found) ∙ ap (put_all_members key_of value_of FirstPositions ms) (one_member m found)
 
-    same_at : (b : Bool) (q : List ℕ) (m n : M) (ns : List M) → bytes_eq q (key_of n) ≡ b → key_of m ≡ key_of n
+    same_at_key : (b : Bool) (q : List ℕ) (m n : M) (ns : List M) → bytes_eq q (key_of n) ≡ b → key_of m ≡ key_of n
         → first q (merge n m ∷ ns) ≡ after (first q (n ∷ ns)) (member_path q m)
-    same_at true q m n ns h same = rw (merge_key n m, same, h) (rw (merge_place n m, merge_value n m) refl)
-    same_at false q m n ns h same = rw (merge_key n m, same, h) (sym (after_none (first q ns)))
+    same_at_key true q m n ns h same = rw (merge_key n m, same, h) (rw (merge_place n m, merge_value n m) refl)
+    same_at_key false q m n ns h same = rw (merge_key n m, same, h) (sym (after_none (first q ns)))
 
     apart_at : (b : Bool) (q m n : List ℕ) → bytes_eq q m ≡ b → q ≡ n → bytes_eq m n ≡ false → b ≡ false
     apart_at false q m n h is differ = refl
@@ -226,7 +226,7 @@ module _ {M : Type 0} (key_of : M → List ℕ) (place_of : M → ℕ) (value_of
     first_put_at : (b : Bool) (q : List ℕ) (m n : M) (ns : List M) → bytes_eq (key_of m) (key_of n) ≡ b
         → first q (put_one m ns) ≡ after (first q ns) (member_path q m)
         → first q (cond b (merge n m ∷ ns) (n ∷ put_one m ns)) ≡ after (first q (n ∷ ns)) (member_path q m)
-    first_put_at true q m n ns h is = same_at _ q m n ns refl (same_key (key_of m) (key_of n) h)
+    first_put_at true q m n ns h is = same_at_key _ q m n ns refl (same_key (key_of m) (key_of n) h)
     first_put_at false q m n ns h is = other_at _ q m n ns refl h is
 
     first_put : (q : List ℕ) (m : M) (ns : List M) → first q (put_one m ns) ≡ after (first q ns) (member_path q m)

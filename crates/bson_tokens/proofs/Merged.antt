@@ -1,4 +1,4 @@
--- What a stable sort by key gives, merged, has the members that the list is put as.
+-- What a stable sort by key gives, merged, has the members that the list is inserted as.
 use Rattle.std.proofs.Common.{◌≡◌, ℕ, List, [], ◌∷◌, Bool, true, false, cond, Option, Some, None, option_map}
 use Rattle.std.proofs.Common.{Ordering, Less, Equal, Greater, nat_cmp, IsPermutation, refl, sym, ap, ap₂, ◌∙◌, subst}
 use Rattle.std.proofs.lemmas.Cmp.{nat_list_cmp_total, nat_cmp_total, tied_itself}
@@ -34,7 +34,7 @@ other_value : (q k : List ℕ) (j : Json) (ms : Members) → bytes_eq q k ≡ fa
     → value_at q (member k j ms) ≡ value_at q ms
 other_value q k j ms h = rw h refl
 
--- of two keys the one behind is another
+-- of two keys the one after is another
 apart_at : (b : Bool) (k l : List ℕ) → bytes_eq k l ≡ b → cmp l k ≡ Greater → b ≡ false
 apart_at false k l h behind = refl
 apart_at true k l h behind =
@@ -51,7 +51,7 @@ later_at : (b : Bool) (k q l : List ℕ) (j v : Json) (ms : Members) → bytes_e
 later_at true k q l j v ms h behind is later = subst (λ x. cmp x k ≡ Greater) (sym (same_key q l h)) behind
 later_at false k q l j v ms h behind is later = later is
 
--- what stands among those behind a key is behind it
+-- what is among those after a key is after it
 later : (k q : List ℕ) (v : Json) (ms : Members) → AreBehind Ascending k ms → value_at q ms ≡ Some v
     → cmp q k ≡ Greater
 later k q v no_members are is = absurd cc
@@ -93,7 +93,7 @@ same_members (member k j ms) no_members mine other same = let h = sym (own_value
 same_members (member k j ms) (member l i ns) mine other same =
     heads_at _ k l j i ms ns refl mine.0 other.0 same (same_members ms ns mine.1 other.1)
 
--- ---- what is put
+-- ---- what is inserted
 
 pub again : {A : Type 0} (b : Bool) (x y z : A) → cond b x z ≡ cond b x (cond b y z)
 again true x y z = refl
@@ -205,7 +205,7 @@ module _ {M : Type 0} (key_of : M → List ℕ) (place_of : M → ℕ) (value_of
     behind_at true k m n ns less one other = one
     behind_at false k m n ns less one other = (flipped k (key_of m) Less less, other)
 
-    -- what a sorted list is merged as stands behind each key that is lower than its first
+    -- what a sorted list is merged as follows each key that is lower than its first
     behind_joined : (k : List ℕ) (m : M) (ns : List M) → cmp k (key_of m) ≡ Less → NoneLower by_key m ns
         → Sorted by_key ns → AreBehind Ascending k (members (joined m ns))
     behind_joined k m [] less none up = (flipped k (key_of m) Less less, tt)

@@ -5,9 +5,9 @@ use Rattle.std.specs.Ordering.{match_ordering, nat_cmp}
 use Rattle.std.specs.Str.{bytes_eq}
 use Rattle.json.specs.Json.{Json, Members, no_members, member}
 use Rattle.bson_tokens.specs.Normalized.{put_member}
-use Rattle.bson_tokens.specs.NormalizerStates.{is_nonempty, AreInOrder, MemberSpanValues}
-use Rattle.bson_tokens.specs.NormalizerStates.{AreOrdered, JsonMember, SpansMatch, entry_at, json_entry_key, entry_members}
-use Rattle.bson_tokens.specs.NormalizerStates.{json_entry_value, merge, member_span_key, span_place, span_value, put_json_members}
+use Rattle.bson_tokens.specs.NormalizerStates.{has_entries, AreKeysInOrder, MemberSpanValues}
+use Rattle.bson_tokens.specs.NormalizerStates.{AreSpansOrdered, JsonMember, SpansMatch, entry_at, json_entry_key, entry_members}
+use Rattle.bson_tokens.specs.NormalizerStates.{json_entry_value, merge, member_span_key, span_offset, span_value, put_json_members}
 use Rattle.bson_tokens.specs.PutMembers.{members_of, put_all_members}
 use Rattle.bson_tokens.specs.declared.arrangement.Arrangement.{Arrangement}
 use Rattle.bson_tokens.specs.declared.arrangement.Arrangement.TheVariants.{FirstPositions, Ascending}
@@ -19,15 +19,15 @@ use Rattle.bson_tokens.proofs.Merged.{settled_by_key, settled_by_place}
 use Rattle.bson_tokens.proofs.Ordered.{as_entries, put_as_entries}
 use Rattle.bson_tokens.proofs.Putting.{put_ascending_keys, put_distinct, put_put}
 
--- entries are put as their pieces are
+-- entries are inserted as their pieces are
 put_stand : (a : Arrangement) (body : List ℕ) (ps : List MemberSpan) (es : List JsonMember) (stand : SpansMatch body ps es)
     → put_json_members a es ≡ put_all_members member_span_key (span_value stand.values) a ps no_members
 put_stand a body ps es stand =
     ap (λ fs. put_all_members json_entry_key json_entry_value a fs no_members) (sym stand.entries)
     ∙ put_as_entries stand.values a ps no_members
 
--- those that stand in their order stay
-put_stands : (a : Arrangement) (values : MemberSpanValues) (ps : List MemberSpan) → AreInOrder a (map member_span_key ps)
+-- those that are in their order stay
+put_stands : (a : Arrangement) (values : MemberSpanValues) (ps : List MemberSpan) → AreKeysInOrder a (map member_span_key ps)
     → put_all_members member_span_key (span_value values) a ps no_members ≡ members_of member_span_key (span_value values) ps
 put_stands a values ps (inl up) = put_ascending_keys member_span_key (span_value values) a ps up
 put_stands a values ps (inr (is, are)) =
@@ -35,31 +35,31 @@ put_stands a values ps (inr (is, are)) =
     ∙ put_distinct member_span_key (span_value values) ps are
 
 pub stays : (a : Arrangement) (body : List ℕ) (ps : List MemberSpan) (es : List JsonMember) → SpansMatch body ps es
-    → AreInOrder a (map member_span_key ps) → entry_members es ≡ put_json_members a es
+    → AreKeysInOrder a (map member_span_key ps) → entry_members es ≡ put_json_members a es
 stays a body ps es stand are =
     ap entry_members (sym stand.entries) ∙ as_entries stand.values ps ∙ sym (put_stands a stand.values ps are)
     ∙ sym (put_stand a body ps es stand)
 
--- in that order those of one key stand as they stood
+-- in that order those of one key are as they were
 keeps_turns : (a : Arrangement) (body : List ℕ) (xs zs : List MemberSpan) (es : List JsonMember) (stand : SpansMatch body xs es)
-    → (o : AreOrdered a xs zs) → IsStableByKey member_span_key xs o.ys × IsSortedByKey member_span_key (slice_cmp nat_cmp) o.ys
-keeps_turns a body xs zs es stand o = stable_by_place member_span_key span_place xs o.ys 0 stand.rise o.same o.sorted
+    → (o : AreSpansOrdered a xs zs) → IsStableByKey member_span_key xs o.sorted_spans × IsSortedByKey member_span_key (slice_cmp nat_cmp) o.sorted_spans
+keeps_turns a body xs zs es stand o = stable_by_place member_span_key span_offset xs o.sorted_spans 0 stand.rise o.same o.sorted
 
 ordered : (a : Arrangement) (body : List ℕ) (xs zs : List MemberSpan) (es : List JsonMember) (stand : SpansMatch body xs es)
-    → AreOrdered a xs zs
+    → AreSpansOrdered a xs zs
     → members_of member_span_key (span_value stand.values) zs ≡ put_all_members member_span_key (span_value stand.values) a xs no_members
 ordered FirstPositions body xs zs es stand o =
     let turns = keeps_turns FirstPositions body xs zs es stand o in
-    settled_by_place member_span_key span_place (span_value stand.values) merge (λ p q. refl) (λ p q. refl) (λ p q. refl)
-    xs o.ys turns.0 turns.1 zs 0 stand.rise o.placed.0 o.placed.1
+    settled_by_place member_span_key span_offset (span_value stand.values) merge (λ p q. refl) (λ p q. refl) (λ p q. refl)
+    xs o.sorted_spans turns.0 turns.1 zs 0 stand.rise o.placed.0 o.placed.1
 ordered Ascending body xs zs es stand o =
     let turns = keeps_turns Ascending body xs zs es stand o in
     ap (members_of member_span_key (span_value stand.values)) o.placed
-    ∙ settled_by_key member_span_key span_place (span_value stand.values) merge (λ p q. refl) (λ p q. refl) (λ p q. refl)
-    xs o.ys turns.0 turns.1
+    ∙ settled_by_key member_span_key span_offset (span_value stand.values) merge (λ p q. refl) (λ p q. refl) (λ p q. refl)
+    xs o.sorted_spans turns.0 turns.1
 
 pub settled : (a : Arrangement) (body : List ℕ) (xs zs : List MemberSpan) (es : List JsonMember) (stand : SpansMatch body xs es)
-    → AreOrdered a xs zs → entry_members (map (entry_at stand.values) zs) ≡ put_json_members a es
+    → AreSpansOrdered a xs zs → entry_members (map (entry_at stand.values) zs) ≡ put_json_members a es
 settled a body xs zs es stand o =
     as_entries stand.values zs ∙ ordered a body xs zs es stand o ∙ sym (put_stand a body xs es stand)
 
@@ -90,17 +90,17 @@ filled_each : (a : Arrangement) (es : List JsonMember) (found : Members) → fil
 filled_each a [] found h = h
 filled_each a (e ∷ es) found h = filled_each a es (put_member a e.0 e.1 found) (filled_put a e.0 e.1 found)
 
-filled_entries : (a : Arrangement) (es : List JsonMember) → filled (put_json_members a es) ≡ is_nonempty es
+filled_entries : (a : Arrangement) (es : List JsonMember) → filled (put_json_members a es) ≡ has_entries es
 filled_entries a [] = refl
 filled_entries a (e ∷ es) = filled_each a es (put_member a e.0 e.1 no_members) (filled_put a e.0 e.1 no_members)
 
-filled_members : (es : List JsonMember) → filled (entry_members es) ≡ is_nonempty es
+filled_members : (es : List JsonMember) → filled (entry_members es) ≡ has_entries es
 filled_members [] = refl
 filled_members (e ∷ es) = refl
 
--- what they are put as is put again as it stands
+-- what they are inserted as is inserted again unchanged
 pub settled_alike : (a : Arrangement) (es fs : List JsonMember) → entry_members fs ≡ put_json_members a es
-    → (put_json_members a fs ≡ put_json_members a es) × (is_nonempty fs ≡ is_nonempty es)
+    → (put_json_members a fs ≡ put_json_members a es) × (has_entries fs ≡ has_entries es)
 settled_alike a es fs put = (
   put_put json_entry_key json_entry_value a es fs put ∙ put,
   sym (filled_members fs) ∙ ap filled put ∙ filled_entries a es,

@@ -1,4 +1,4 @@
--- Members that are normalized: each key once, and where it stands.
+-- Members that are normalized: each key once, and where it is.
 use Rattle.std.proofs.Common.{◌≡◌, ℕ, List, Bool, true, false, cond, Ordering, Less, Equal, Greater, nat_cmp}
 use Rattle.std.proofs.Common.{refl, ap, ◌∙◌}
 use Rattle.std.proofs.lemmas.Cmp.{nat_list_cmp_total}
@@ -15,30 +15,30 @@ use Rattle.bson_tokens.specs.declared.arrangement.Arrangement.TheVariants.{First
 abbrev pub cmp : List ℕ → List ℕ → Ordering
 cmp = slice_cmp nat_cmp
 
--- ---- how keys stand
+-- ---- how keys are ordered
 
--- a member of the key l is put behind one of the key k
+-- a member of the key l is inserted after one of the key k
 abbrev pub IsBehind : Arrangement → List ℕ → List ℕ → Type 0
 IsBehind FirstPositions k l = bytes_eq l k ≡ false
 IsBehind Ascending k l = cmp l k ≡ Greater
 
--- each member stands behind k
+-- each member follows k
 abbrev pub AreBehind : Arrangement → List ℕ → Members → Type 0
 AreBehind a k no_members = Unit {0}
 AreBehind a k (member l j ms) = IsBehind a k l × AreBehind a k ms
 
--- each key stands once, and in its place
+-- each key occurs once, and in its place
 abbrev pub IsNormalized : Arrangement → Members → Type 0
 IsNormalized a no_members = Unit {0}
 IsNormalized a (member k j ms) = AreBehind a k ms × IsNormalized a ms
 
--- what is put behind a member leaves it where it is
+-- what is inserted after a member leaves it where it is
 pub put_behind : (a : Arrangement) (k l : List ℕ) (i j : Json) (ms : Members) → IsBehind a k l
     → put_member a l j (member k i ms) ≡ member k i (put_member a l j ms)
 put_behind FirstPositions k l i j ms h = rw h refl
 put_behind Ascending k l i j ms h = rw h refl
 
--- ---- what is put stays normalized
+-- ---- what is inserted stays normalized
 
 same_key : (k l : List ℕ) → bytes_eq k l ≡ true → k ≡ l
 same_key k l h = (bytes_eq-Decides k l).0 h
@@ -84,7 +84,7 @@ put_first_stays k j (member c i ms) were =
 pub flipped : (k l : List ℕ) (o : Ordering) → cmp k l ≡ o → cmp l k ≡ ordering_reverse o
 flipped k l o h = nat_list_cmp_total.antisymm l k ∙ ap ordering_reverse h
 
--- what stands behind a key stands behind each lower one
+-- what follows a key follows each lower one
 lower : (k c : List ℕ) (ms : Members) → cmp k c ≡ Less → AreBehind Ascending c ms → AreBehind Ascending k ms
 lower k c no_members h are = tt
 lower k c (member l j ms) h are =
@@ -109,14 +109,14 @@ pub put_stays : (a : Arrangement) (k : List ℕ) (j : Json) (ms : Members) → I
 put_stays FirstPositions = put_first_stays
 put_stays Ascending = put_ascending_stays
 
--- members are normalized behind those that are
+-- members are normalized after those that are
 pub all_normalized : (a : Arrangement) (ms found : Members) → IsNormalized a found
     → IsNormalized a (normalized_members a ms found)
 all_normalized a no_members found were = were
 all_normalized a (member k j ms) found were =
     all_normalized a ms (put_member a k (normalized a j) found) (put_stays a k (normalized a j) found were)
 
--- ---- what holds of each value that is put and of those that are there holds of all
+-- ---- what holds of each value that is inserted and of those that are there holds of all
 
 module _ (P : Json → Type 0) where
   -- of each value

@@ -69,7 +69,7 @@ pub put_none : (a : Arrangement) (k : List ℕ) (j : Json) → put_member a k j 
 put_none FirstPositions k j = refl
 put_none Ascending k j = refl
 
--- members that stand behind k are normalized behind it
+-- members that follow k are normalized after it
 pub normalized_behind : (a : Arrangement) (k : List ℕ) (i : Json) (ms found : Members) → AreBehind a k ms
     → normalized_members a ms (member k i found) ≡ member k i (normalized_members a ms found)
 normalized_behind a k i no_members found are = refl
@@ -77,7 +77,7 @@ normalized_behind a k i (member l j ms) found are =
     ap (normalized_members a ms) (put_behind a k l i (normalized a j) found are.0)
     ∙ normalized_behind a k i ms (put_member a l (normalized a j) found) are.1
 
--- what is normalized is normalized as it stands
+-- what is normalized is normalized unchanged
 pub settled : (a : Arrangement) (ms : Members) → IsNormalized a ms → Each (IsObjectNormalized a) ms
     → normalized_members a ms no_members ≡ ms
 settled a no_members are each = refl

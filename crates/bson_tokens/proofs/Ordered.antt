@@ -9,9 +9,9 @@ use Rattle.std.proofs.lemmas.Slice.Eq.{bytes_eq-Decides}
 use Rattle.std.specs.List.{All}
 use Rattle.json.specs.Json.{Members, member}
 use Rattle.bson_tokens.specs.Normalized.{put_member}
-use Rattle.bson_tokens.specs.NormalizerStates.{AreOrdered, AreArranged, JsonMember, IsSpan, IsMemberSpanWithin, MemberSpanValues, entry_at, merge}
+use Rattle.bson_tokens.specs.NormalizerStates.{AreSpansOrdered, AreSpansArranged, JsonMember, IsMemberSpanOf, IsMemberSpanWithin, MemberSpanValues, entry_at, merge}
 use Rattle.bson_tokens.specs.NormalizerStates.{json_entry_key, entry_members, json_entry_value, member_text, member_span_key, span_value}
-use Rattle.bson_tokens.specs.NormalizerStates.{is_nonempty}
+use Rattle.bson_tokens.specs.NormalizerStates.{has_entries}
 use Rattle.bson_tokens.specs.PutMembers.{members_of, merged, merged_from, put_all_members}
 use Rattle.bson_tokens.specs.declared.arrangement.Arrangement.{Arrangement}
 use Rattle.bson_tokens.specs.declared.arrangement.Arrangement.TheVariants.{FirstPositions, Ascending}
@@ -36,24 +36,24 @@ module _ (P : MemberSpan → Type 0) (joins : (p q : MemberSpan) → member_span
   all_merged [] all = all
   all_merged (p ∷ ps) all = all_from p ps (All-head P p ps all) (All-tail P p ps all)
 
-  all_placed : (a : Arrangement) (ms zs : List MemberSpan) → AreArranged a ms zs → All P ms → All P zs
+  all_placed : (a : Arrangement) (ms zs : List MemberSpan) → AreSpansArranged a ms zs → All P ms → All P zs
   all_placed FirstPositions ms zs placed all = All-permutation P ms zs placed.0 all
   all_placed Ascending ms zs placed all = subst (All P) (sym placed) all
 
   -- what holds of each and of what is merged of two holds of each in order
-  pub all_ordered : (a : Arrangement) (xs zs : List MemberSpan) → AreOrdered a xs zs → All P xs → All P zs
+  pub all_ordered : (a : Arrangement) (xs zs : List MemberSpan) → AreSpansOrdered a xs zs → All P xs → All P zs
   all_ordered a xs zs o all =
-      all_placed a (merged member_span_key merge o.ys) zs o.placed
-      (all_merged o.ys (All-permutation P xs o.ys o.same all))
+      all_placed a (merged member_span_key merge o.sorted_spans) zs o.placed
+      (all_merged o.sorted_spans (All-permutation P xs o.sorted_spans o.same all))
 
-pub all_within : (body : List ℕ) (a : Arrangement) (xs zs : List MemberSpan) → AreOrdered a xs zs → All (IsMemberSpanWithin body) xs
+pub all_within : (body : List ℕ) (a : Arrangement) (xs zs : List MemberSpan) → AreSpansOrdered a xs zs → All (IsMemberSpanWithin body) xs
     → All (IsMemberSpanWithin body) zs
 all_within body a xs zs o all = all_ordered (IsMemberSpanWithin body) (λ p q same within. within) a xs zs o all
 
-pub all_spans : (body : List ℕ) (values : MemberSpanValues) (a : Arrangement) (xs zs : List MemberSpan) → AreOrdered a xs zs
-    → All (IsSpan body values) xs → All (IsSpan body values) zs
+pub all_spans : (body : List ℕ) (values : MemberSpanValues) (a : Arrangement) (xs zs : List MemberSpan) → AreSpansOrdered a xs zs
+    → All (IsMemberSpanOf body values) xs → All (IsMemberSpanOf body values) zs
 all_spans body values a xs zs o all =
-    all_ordered (IsSpan body values)
+    all_ordered (IsMemberSpanOf body values)
     (λ p q same span. (span.0, span.1 ∙ ap (λ k. member_text (k, values q.start)) same)) a xs zs o all
 
 -- ---- pieces as entries
@@ -69,16 +69,16 @@ pub put_as_entries : (values : MemberSpanValues) (a : Arrangement) (ps : List Me
 put_as_entries values a [] found = refl
 put_as_entries values a (p ∷ ps) found = put_as_entries values a ps (put_member a (member_span_key p) (values p.start) found)
 
--- some were taken
+-- some were removed
 above_none : (n : ℕ) → 0 < n → nat_lt 0 n ≡ true
 above_none n more = grind (arith, nat_tests)
 
-some_of : (es : List JsonMember) → nat_lt 0 (length es) ≡ is_nonempty es
+some_of : (es : List JsonMember) → nat_lt 0 (length es) ≡ has_entries es
 some_of [] = refl
 some_of (e ∷ es) = above_none (length (e ∷ es)) (omega arith)
 
 pub some_taken : (values : MemberSpanValues) (at : ℕ) (ps : List MemberSpan) → at ≤ length ps
-    → nat_lt 0 at ≡ is_nonempty (map (entry_at values) (take at ps))
+    → nat_lt 0 at ≡ has_entries (map (entry_at values) (take at ps))
 some_taken values at ps less =
     let es = map (entry_at values) (take at ps) in
     let long : length es ≡ at = length-map (take at ps) (entry_at values) ∙ length-take-le at ps less in

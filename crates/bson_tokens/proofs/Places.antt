@@ -1,4 +1,4 @@
--- Where the keys of an normalized object stand, and which values they have.
+-- The places of the keys of a normalized object, and their values.
 use Rattle.std.proofs.Common.{◌≡◌, ℕ, List, [], ◌∷◌, ◌++◌, Bool, true, false, cond, not, ◌&&◌, ◌||◌, Option, Some, None}
 use Rattle.std.proofs.Common.{Less, Greater, option_map, filter, refl, sym, ap, ◌∙◌, subst}
 use Rattle.std.proofs.Common.{append_assoc, append-nil}
@@ -13,7 +13,7 @@ use Rattle.std.specs.Str.{bytes_eq}
 use Rattle.json.specs.Find.{get_member, later_or}
 use Rattle.json.specs.Json.{Json, Members, no_members, member}
 use Rattle.json.specs.Strict.{keys}
-use Rattle.bson_model.specs.DuplicateKeys.{without, first_places}
+use Rattle.bson_model.specs.DuplicateKeys.{without_key, first_occurrences}
 use Rattle.bson_tokens.specs.Normalized.{put_at_first_position, put_member, normalized, normalized_members}
 use Rattle.bson_tokens.specs.declared.arrangement.Arrangement.{Arrangement}
 use Rattle.bson_tokens.specs.declared.arrangement.Arrangement.TheVariants.{FirstPositions, Ascending}
@@ -107,7 +107,7 @@ filter_twice : (p q : List ℕ → Bool) (ks : List (List ℕ)) → filter p (fi
 filter_twice p q [] = refl
 filter_twice p q (l ∷ ks) = twice_at (q l) (p l) l (filter q ks) _ p refl (filter_twice p q ks)
 
-new_put : (k : List ℕ) (found ks : List (List ℕ)) → new (put_key k found) ks ≡ new found (without k ks)
+new_put : (k : List ℕ) (found ks : List (List ℕ)) → new (put_key k found) ks ≡ new found (without_key k ks)
 new_put k found ks =
     filter_agree (λ l. not (stands l (put_key k found))) (λ l. not (bytes_eq k l) && not (stands l found))
     (λ l. ap not (stands_put k l found) ∙ neither (bytes_eq k l) (stands l found)) ks
@@ -119,18 +119,18 @@ places_at true k found ks h = ap (λ xs. xs ++ new found ks) (put_there k found 
 places_at false k found ks h =
     ap (λ xs. xs ++ new found ks) (put_new k found h) ∙ append_assoc found (k ∷ []) (new found ks)
 
-put_places : (ks found : List (List ℕ)) → put_keys ks found ≡ found ++ new found (first_places ks)
+put_places : (ks found : List (List ℕ)) → put_keys ks found ≡ found ++ new found (first_occurrences ks)
 put_places [] found = sym (append-nil found)
 put_places (k ∷ ks) found =
-    put_places ks (put_key k found) ∙ ap (λ xs. put_key k found ++ xs) (new_put k found (first_places ks))
-    ∙ places_at (stands k found) k found (without k (first_places ks)) refl
+    put_places ks (put_key k found) ∙ ap (λ xs. put_key k found ++ xs) (new_put k found (first_occurrences ks))
+    ∙ places_at (stands k found) k found (without_key k (first_occurrences ks)) refl
 
 all_new : (ks : List (List ℕ)) → new [] ks ≡ ks
 all_new [] = refl
 all_new (k ∷ ks) = ap (λ x. k ∷ x) (all_new ks)
 
-pub at_first_places : (ms : Members) → keys (normalized_members FirstPositions ms no_members) ≡ first_places (keys ms)
-at_first_places ms = keys_normalized ms no_members ∙ put_places (keys ms) [] ∙ all_new (first_places (keys ms))
+pub at_first_places : (ms : Members) → keys (normalized_members FirstPositions ms no_members) ≡ first_occurrences (keys ms)
+at_first_places ms = keys_normalized ms no_members ∙ put_places (keys ms) [] ∙ all_new (first_occurrences (keys ms))
 
 -- ---- by ascending key
 

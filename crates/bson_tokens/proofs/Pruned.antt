@@ -12,10 +12,10 @@ use Rattle.serde_json.specs.declared.value.Value.{Value}
 use Rattle.serde_json.specs.Find.{as_i64, as_str, as_number}
 use Rattle.bson_scalar.specs.Faults.{Fault, wrong_shape, ◌>>=◌, or_wrong_shape}
 use Rattle.bson_scalar.specs.Reading.{wrapper_read_in, optional_wrapper_read_in, single_key_member, two_members, on_text, on_single_key, on_two_keys}
-use Rattle.bson_scalar.specs.Reading.{millis_of, is_one}
+use Rattle.bson_scalar.specs.Reading.{date_millis_of, is_number_one}
 use Rattle.bson_scalar.specs.Reading.{number_one_read, undefined_read}
 use Rattle.bson_scalar.specs.Scalar.{Scalar, date, min_key, max_key}
-use Rattle.bson_scalar.specs.TreeParts.{i64_at, u32_at, small_number}
+use Rattle.bson_scalar.specs.TreeParts.{i64_at, u32_at, number_as_u32}
 use Rattle.bson_scalar.specs.declared.wrapper.Wrapper.{Wrapper}
 use Rattle.bson_scalar.specs.declared.wrapper.Wrapper.TheVariants.{Oid, Symbol, RegularExpression, NumberInt}
 use Rattle.bson_scalar.specs.declared.wrapper.Wrapper.TheVariants.{NumberLong, NumberDouble, NumberDecimal, Binary}
@@ -25,7 +25,7 @@ use Rattle.bson_scalar.specs.declared.form.Doubles.{Doubles}
 use Rattle.bson_tokens.specs.ValueStart.{primitive_tree}
 use Rattle.bson_tokens.specs.declared.value_start.Primitive.{Primitive}
 use Rattle.bson_tokens.specs.declared.value_start.Primitive.TheVariants.{Null, Bool as Truth, Number, String as Text}
-use Rattle.bson_tokens.specs.WrapperContent.{ReadsLike, at_most_two, or_empty, pruned, pruned_members, kept_members_of, member_added}
+use Rattle.bson_tokens.specs.WrapperContent.{WrappersReadAlike, at_most_two_members, members_or_empty, pruned, pruned_members, pruned_members_or_none, member_added}
 
 -- ---- one more member
 
@@ -47,40 +47,40 @@ module _ (n : ℕ) (k : List ℕ) (d : Data) where
 -- three members stay three at least
 module _ (k : List ℕ) (d : Data) where
   behind_two : (a : List ℕ) (x : Data) (b : List ℕ) (y : Data) (ms : Members)
-      → at_most_two (member a x (member b y (put k d ms))) ≡ None
+      → at_most_two_members (member a x (member b y (put k d ms))) ≡ None
   behind_two a x b y no_members = refl
   behind_two a x b y (member c z ms) = at (slice_cmp nat_cmp k c)
     where
       at : (o : Ordering)
-          → at_most_two (member a x (member b y (match_ordering o (member k d (member c z ms)) (member c d ms)
+          → at_most_two_members (member a x (member b y (match_ordering o (member k d (member c z ms)) (member c d ms)
           (member c z (put k d ms))))) ≡ None
       at Less = refl
       at Equal = refl
       at Greater = refl
 
   behind_one : (a : List ℕ) (x : Data) (b : List ℕ) (y : Data) (c : List ℕ) (z : Data) (ms : Members)
-      → at_most_two (member a x (put k d (member b y (member c z ms)))) ≡ None
+      → at_most_two_members (member a x (put k d (member b y (member c z ms)))) ≡ None
   behind_one a x b y c z ms = at (slice_cmp nat_cmp k b)
     where
       at : (o : Ordering)
-          → at_most_two (member a x (match_ordering o (member k d (member b y (member c z ms))) (member b d (member c z ms))
+          → at_most_two_members (member a x (match_ordering o (member k d (member b y (member c z ms))) (member b d (member c z ms))
           (member b y (put k d (member c z ms))))) ≡ None
       at Less = refl
       at Equal = refl
       at Greater = behind_two a x b y (member c z ms)
 
   more_than_two : (a : List ℕ) (x : Data) (b : List ℕ) (y : Data) (c : List ℕ) (z : Data) (ms : Members)
-      → at_most_two (put k d (member a x (member b y (member c z ms)))) ≡ None
+      → at_most_two_members (put k d (member a x (member b y (member c z ms)))) ≡ None
   more_than_two a x b y c z ms = at (slice_cmp nat_cmp k a)
     where
       at : (o : Ordering)
-          → at_most_two (match_ordering o (member k d (member a x (member b y (member c z ms))))
+          → at_most_two_members (match_ordering o (member k d (member a x (member b y (member c z ms))))
           (member a d (member b y (member c z ms))) (member a x (put k d (member b y (member c z ms))))) ≡ None
       at Less = refl
       at Equal = refl
       at Greater = behind_one a x b y c z ms
 
-  few_put : (ms : Members) → at_most_two (put k d ms) ≡ member_added k d (at_most_two ms)
+  few_put : (ms : Members) → at_most_two_members (put k d ms) ≡ member_added k d (at_most_two_members ms)
   few_put no_members = refl
   few_put (member a x no_members) = refl
   few_put (member a x (member b y no_members)) = refl
@@ -90,26 +90,26 @@ less_one : (n : ℕ) → n ≡ suc n - 1
 less_one n = omega arith
 
 pub kept_put : (n : ℕ) (k : List ℕ) (d : Data) (ms : Members)
-    → kept_members_of n (put k d ms) ≡ member_added k (pruned (n - 1) d) (kept_members_of n ms)
+    → pruned_members_or_none n (put k d ms) ≡ member_added k (pruned (n - 1) d) (pruned_members_or_none n ms)
 kept_put zero k d ms = refl
-kept_put (suc n) k d ms = ap at_most_two (pruned_put n k d ms) ∙ few_put k (pruned n d) (pruned_members n ms)
-    ∙ ap (λ m. member_added k (pruned m d) (at_most_two (pruned_members n ms))) (less_one n)
+kept_put (suc n) k d ms = ap at_most_two_members (pruned_put n k d ms) ∙ few_put k (pruned n d) (pruned_members n ms)
+    ∙ ap (λ m. member_added k (pruned m d) (at_most_two_members (pruned_members n ms))) (less_one n)
 
 -- entries by their number
-pub few_long : (es : List (String Global × Value)) → 2 < length es → at_most_two (members_view es) ≡ None
+pub few_long : (es : List (String Global × Value)) → 2 < length es → at_most_two_members (members_view es) ≡ None
 few_long [] long = absurd (omega (arith, long))
 few_long (a ∷ []) long = absurd (omega (arith, long))
 few_long (a ∷ b ∷ []) long = absurd (omega (arith, long))
 few_long (a ∷ b ∷ c ∷ es) long = refl
 
-pub few_short : (es : List (String Global × Value)) → length es ≤ 2 → at_most_two (members_view es) ≡ Some (members_view es)
+pub few_short : (es : List (String Global × Value)) → length es ≤ 2 → at_most_two_members (members_view es) ≡ Some (members_view es)
 few_short [] short = refl
 few_short (a ∷ []) short = refl
 few_short (a ∷ b ∷ []) short = refl
 few_short (a ∷ b ∷ c ∷ es) short = absurd (omega (arith, short))
 
 -- an object of what is kept of its members
-pub pruned_object : (n : ℕ) (ms : Members) → pruned n (tree.object ms) ≡ tree.object (or_empty (kept_members_of n ms))
+pub pruned_object : (n : ℕ) (ms : Members) → pruned n (tree.object ms) ≡ tree.object (members_or_empty (pruned_members_or_none n ms))
 pruned_object zero ms = refl
 pruned_object (suc n) ms = refl
 
@@ -137,7 +137,7 @@ same_whole : (n : ℕ) (d : Data) → i64_at (pruned n d) ≡ i64_at d
 same_whole n d = ap (option_and_then as_i64) (same_number n d)
 
 same_small : (n : ℕ) (d : Data) → u32_at (pruned n d) ≡ u32_at d
-same_small n d = ap small_number (same_whole n d)
+same_small n d = ap number_as_u32 (same_whole n d)
 
 if_some : {A B : Type 0} (f : A → B) (b : Bool) (a : A)
     → cond b (Some (f a)) None ≡ option_map f (cond b (Some a) None)
@@ -199,7 +199,7 @@ two_then a b n d f same =
     ∙ map_then (λ (p : Data × Data). (pruned n p.0, pruned n p.1)) (λ (p : Data × Data). f p.0 p.1)
     (λ (p : Data × Data). f p.0 p.1) (two_members a b d) (λ p. same p.0 p.1)
 
-same_millis : (n : ℕ) (d : Data) → millis_of (pruned (suc n) d) ≡ millis_of d
+same_millis : (n : ℕ) (d : Data) → date_millis_of (pruned (suc n) d) ≡ date_millis_of d
 same_millis n tree.null = refl
 same_millis n (tree.boolean b) = refl
 same_millis n (tree.number m) = refl
@@ -208,7 +208,7 @@ same_millis n (tree.array ds) = refl
 same_millis n (tree.object ms) = lone_then (codes "$numberLong") n (tree.object ms) _
 
 same_one : (y : Scalar) (n : ℕ) (d : Data) → number_one_read y (pruned n d) ≡ number_one_read y d
-same_one y n d = ap (λ z. cond (is_one z) (Ok y) (Err wrong_shape)) (same_whole n d)
+same_one y n d = ap (λ z. cond (is_number_one z) (Ok y) (Err wrong_shape)) (same_whole n d)
 
 same_undefined : (n : ℕ) (d : Data) → undefined_read (pruned n d) ≡ undefined_read d
 same_undefined n tree.null = refl
@@ -240,12 +240,12 @@ same_single D DbPointer d =
     two_then (codes "$id") (codes "$ref") 1 d _ (λ i r. text_then 1 r _ _ (λ name. lone_then (codes "$oid") 0 i _))
 same_single D Undefined d = same_undefined 2 d
 
-same_at : (D : Doubles) (w : Option Wrapper) (d : Data) → optional_wrapper_read_in D w (pruned 2 d) ≡ optional_wrapper_read_in D w d
-same_at D (Some w) d = same_single D w d
-same_at D None d = refl
+same_at_key : (D : Doubles) (w : Option Wrapper) (d : Data) → optional_wrapper_read_in D w (pruned 2 d) ≡ optional_wrapper_read_in D w d
+same_at_key D (Some w) d = same_single D w d
+same_at_key D None d = refl
 
-pub pruned_stands : (t : Data) → ReadsLike t (pruned 2 t)
-pruned_stands t = (λ D w. same_at D w t, same_text 2 t)
+pub pruned_stands : (t : Data) → WrappersReadAlike t (pruned 2 t)
+pruned_stands t = (λ D w. same_at_key D w t, same_text 2 t)
 
 pub pruned_primitive : (n : ℕ) (p : Primitive) → pruned n (primitive_tree p) ≡ primitive_tree p
 pruned_primitive n Null = refl

@@ -1,4 +1,4 @@
--- Members that are put in turn, their values as they are.
+-- Members that are inserted in turn, their values as they are.
 use Rattle.std.proofs.Common.{◌≡◌, ◌≢◌, ℕ, zero, suc, List, [], ◌∷◌, map, Bool, true, false, Option, Some, None}
 use Rattle.std.proofs.Common.{Less, subst, refl, sym, ap, ◌∙◌, arith}
 use Rattle.std.proofs.lemmas.Cmp.{nat_list_cmp_total}
@@ -15,12 +15,12 @@ use Rattle.bson_tokens.specs.declared.arrangement.Arrangement.TheVariants.{First
 use Rattle.bson_tokens.proofs.Normalizing.{cmp, flipped, IsBehind, AreBehind, IsNormalized, put_behind, put_stays}
 use Rattle.bson_tokens.proofs.Once.{other_key, put_none}
 
--- the members after each of others is put to them
+-- the members after each of others is inserted into them
 abbrev pub put_members : Arrangement → Members → Members → Members
 put_members a no_members found = found
 put_members a (member k j ms) found = put_members a ms (put_member a k j found)
 
--- ---- what is put is normalized
+-- ---- what is inserted is normalized
 
 pub puts_normalize : (a : Arrangement) (ms found : Members) → IsNormalized a found → IsNormalized a (put_members a ms found)
 puts_normalize a no_members found are = are
@@ -32,7 +32,7 @@ puts_behind a k i no_members found are = refl
 puts_behind a k i (member l j ms) found are =
     ap (put_members a ms) (put_behind a k l i j found are.0) ∙ puts_behind a k i ms (put_member a l j found) are.1
 
--- what is normalized is put as it stands
+-- what is normalized is inserted unchanged
 pub put_as_it_stands : (a : Arrangement) (ms : Members) → IsNormalized a ms → put_members a ms no_members ≡ ms
 put_as_it_stands a no_members are = refl
 put_as_it_stands a (member k j ms) are =
@@ -71,37 +71,37 @@ normalized_either a no_members are = tt
 normalized_either a (member k j ms) are = (behind_either a k ms are.0, normalized_either a ms are.1)
 
 -- the first key is greater than the one before it, and so on
-abbrev pub Ascend : Option (List ℕ) → Members → Type 0
-Ascend last no_members = Unit {0}
-Ascend None (member k j ms) = Ascend (Some k) ms
-Ascend (Some l) (member k j ms) = (cmp l k ≡ Less) × Ascend (Some k) ms
+abbrev pub SpanKeysAscend : Option (List ℕ) → Members → Type 0
+SpanKeysAscend last no_members = Unit {0}
+SpanKeysAscend None (member k j ms) = SpanKeysAscend (Some k) ms
+SpanKeysAscend (Some l) (member k j ms) = (cmp l k ≡ Less) × SpanKeysAscend (Some k) ms
 
-above : (k l : List ℕ) (ms : Members) → cmp k l ≡ Less → Ascend (Some l) ms → AreBehind Ascending k ms
+above : (k l : List ℕ) (ms : Members) → cmp k l ≡ Less → SpanKeysAscend (Some l) ms → AreBehind Ascending k ms
 above k l no_members less up = tt
 above k l (member c j ms) less up =
     let first = nat_list_cmp_total.trans k l c less up.0 in (flipped k c Less first, above k c ms first up.1)
 
-above_first : (k : List ℕ) (ms : Members) → Ascend (Some k) ms → AreBehind Ascending k ms
+above_first : (k : List ℕ) (ms : Members) → SpanKeysAscend (Some k) ms → AreBehind Ascending k ms
 above_first k no_members up = tt
 above_first k (member l j ms) up = (flipped k l Less up.0, above k l ms up.0 up.1)
 
-behind_last : (l : List ℕ) (ms : Members) → Ascend (Some l) ms → IsNormalized Ascending ms
+behind_last : (l : List ℕ) (ms : Members) → SpanKeysAscend (Some l) ms → IsNormalized Ascending ms
 behind_last l no_members up = tt
 behind_last l (member k j ms) up = (above_first k ms up.1, behind_last k ms up.1)
 
-pub ascending_normalized : (ms : Members) → Ascend None ms → IsNormalized Ascending ms
+pub ascending_normalized : (ms : Members) → SpanKeysAscend None ms → IsNormalized Ascending ms
 ascending_normalized no_members up = tt
 ascending_normalized (member k j ms) up = (above_first k ms up, behind_last k ms up)
 
 -- members in ascending key order are normalized in either arrangement
-pub normalized_in : (a : Arrangement) (ms : Members) → Ascend None ms → IsNormalized a ms
+pub normalized_in : (a : Arrangement) (ms : Members) → SpanKeysAscend None ms → IsNormalized a ms
 normalized_in FirstPositions ms up = normalized_either Ascending ms (ascending_normalized ms up)
 normalized_in Ascending ms up = ascending_normalized ms up
 
--- ---- lists that are put
+-- ---- lists that are inserted
 
 keys_ascend : {M : Type 0} (key_of : M → List ℕ) (value_of : M → Json) (last : Option (List ℕ)) (xs : List M)
-    → KeysAscendFrom last (map key_of xs) → Ascend last (members_of key_of value_of xs)
+    → KeysAscendFrom last (map key_of xs) → SpanKeysAscend last (members_of key_of value_of xs)
 keys_ascend key_of value_of last [] up = tt
 keys_ascend key_of value_of None (x ∷ xs) up = keys_ascend key_of value_of (Some (key_of x)) xs up.1
 keys_ascend key_of value_of (Some l) (x ∷ xs) up = (up.0, keys_ascend key_of value_of (Some (key_of x)) xs up.1)
@@ -122,7 +122,7 @@ module _ {M : Type 0} (key_of : M → List ℕ) (value_of : M → Json) where
   puts_members a [] found = refl
   puts_members a (x ∷ xs) found = puts_members a xs (put_member a (key_of x) (value_of x) found)
 
-  -- ---- what is put as it stands
+  -- ---- what is inserted unchanged
 
   pub put_distinct : (xs : List M) → AreDistinct (map key_of xs) → put FirstPositions xs no_members ≡ members xs
   put_distinct xs are =
@@ -136,7 +136,7 @@ module _ {M : Type 0} (key_of : M → List ℕ) (value_of : M → Json) where
       puts_members a xs no_members
       ∙ put_as_it_stands a (members xs) (normalized_in a (members xs) (keys_ascend key_of value_of None xs up))
 
-  -- what some are put as is put again as it stands
+  -- what some are inserted as is inserted again unchanged
   pub put_put : (a : Arrangement) (xs zs : List M) → members zs ≡ put a xs no_members → put a zs no_members ≡ members zs
   put_put a xs zs are =
       puts_members a zs no_members

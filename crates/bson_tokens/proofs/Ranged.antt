@@ -12,7 +12,7 @@ use Rattle.serde_json.specs.Data as tree
 use Rattle.serde_json.specs.Data.{Num}
 use Rattle.serde_json.specs.Read.{read, number_of, of_json, of_items, of_members}
 use Rattle.bson_tokens.specs.Normalized.{HasNumbersInRange, ItemsHaveNumbersInRange, MembersHaveNumbersInRange}
-use Rattle.bson_tokens.specs.NormalizerStates.{numbers_in_range, item_numbers_in_range, member_numbers_in_range, if_valid}
+use Rattle.bson_tokens.specs.NormalizerStates.{all_numbers_in_range, item_numbers_in_range, member_numbers_in_range, if_valid}
 
 a_number : (o : Option Num) → is_some o ≡ true → (n : Num) × (o ≡ Some n)
 a_number None h = cc
@@ -23,7 +23,7 @@ no_number None h = refl
 no_number (Some n) h = cc
 
 mutual
-  pub has_numbers : (j : Json) → numbers_in_range j ≡ true → HasNumbersInRange j
+  pub has_numbers : (j : Json) → all_numbers_in_range j ≡ true → HasNumbersInRange j
   has_numbers null h = tt
   has_numbers (boolean b) h = tt
   has_numbers (number s) h = a_number (number_of s) h
@@ -34,12 +34,12 @@ mutual
   items_have_numbers : (js : Items) → item_numbers_in_range js ≡ true → ItemsHaveNumbersInRange js
   items_have_numbers no_items h = tt
   items_have_numbers (item j js) h =
-      let p = and_parts (numbers_in_range j) (item_numbers_in_range js) h in (has_numbers j p.0, items_have_numbers js p.1)
+      let p = and_parts (all_numbers_in_range j) (item_numbers_in_range js) h in (has_numbers j p.0, items_have_numbers js p.1)
 
   members_have_numbers : (ms : Members) → member_numbers_in_range ms ≡ true → MembersHaveNumbersInRange ms
   members_have_numbers no_members h = tt
   members_have_numbers (member k j ms) h =
-      let p = and_parts (numbers_in_range j) (member_numbers_in_range ms) h in (has_numbers j p.0, members_have_numbers ms p.1)
+      let p = and_parts (all_numbers_in_range j) (member_numbers_in_range ms) h in (has_numbers j p.0, members_have_numbers ms p.1)
 
 -- ---- a number out of range
 
@@ -60,7 +60,7 @@ behind_true true b h is = h
 behind_true false b h is = cc
 
 mutual
-  pub out_of_range : (j : Json) → numbers_in_range j ≡ false → of_json j ≡ None
+  pub out_of_range : (j : Json) → all_numbers_in_range j ≡ false → of_json j ≡ None
   out_of_range null h = cc
   out_of_range (boolean b) h = cc
   out_of_range (number s) h = rw (no_number (number_of s) h) refl
@@ -71,15 +71,15 @@ mutual
   items_out_of_range : (js : Items) → item_numbers_in_range js ≡ false → of_items js ≡ None
   items_out_of_range no_items h = cc
   items_out_of_range (item j js) h =
-      none_item (numbers_in_range j) (of_json j) (of_items js) (λ f. out_of_range j f)
-      (λ t. items_out_of_range js (behind_true (numbers_in_range j) (item_numbers_in_range js) h t))
+      none_item (all_numbers_in_range j) (of_json j) (of_items js) (λ f. out_of_range j f)
+      (λ t. items_out_of_range js (behind_true (all_numbers_in_range j) (item_numbers_in_range js) h t))
 
   members_out_of_range : (ms : Members) (found : tree.Members) → member_numbers_in_range ms ≡ false
       → of_members ms found ≡ None
   members_out_of_range no_members found h = cc
   members_out_of_range (member k j ms) found h =
-      none_member (numbers_in_range j) (of_json j) (λ d. of_members ms (tree.put k d found)) (λ f. out_of_range j f)
-      (λ t d. members_out_of_range ms (tree.put k d found) (behind_true (numbers_in_range j) (member_numbers_in_range ms) h t))
+      none_member (all_numbers_in_range j) (of_json j) (λ d. of_members ms (tree.put k d found)) (λ f. out_of_range j f)
+      (λ t d. members_out_of_range ms (tree.put k d found) (behind_true (all_numbers_in_range j) (member_numbers_in_range ms) h t))
 
 -- ---- what was read
 
@@ -124,20 +124,20 @@ sound_none g wrap (Some (a, r)) never = rw (never a) refl
 abbrev whole : Option (Json × List Token) → Option tree.Data
 whole o = option_and_then of_json (option_and_then (λ p. if_last p.0 p.1) o)
 
-pub none_read : (o : Option (Json × List Token)) → if_valid numbers_in_range o ≡ None → whole o ≡ None
+pub none_read : (o : Option (Json × List Token)) → if_valid all_numbers_in_range o ≡ None → whole o ≡ None
 none_read None e = refl
-none_read (Some (j, [])) e = none_at (numbers_in_range j) refl
+none_read (Some (j, [])) e = none_at (all_numbers_in_range j) refl
   where
-    none_at : (b : Bool) → numbers_in_range j ≡ b → of_json j ≡ None
-    none_at true h = let never : Some (j, []) ≡ None = sym (is_sound numbers_in_range (Some (j, [])) j [] refl h) ∙ e in cc
+    none_at : (b : Bool) → all_numbers_in_range j ≡ b → of_json j ≡ None
+    none_at true h = let never : Some (j, []) ≡ None = sym (is_sound all_numbers_in_range (Some (j, [])) j [] refl h) ∙ e in cc
     none_at false h = out_of_range j h
 none_read (Some (j, t ∷ ts)) e = refl
 
 pub more_left : (o : Option (Json × List Token)) (j : Json) (t : Token) (ts : List Token)
-    → if_valid numbers_in_range o ≡ Some (j, t ∷ ts) → whole o ≡ None
-more_left o j t ts e = ap whole (was_sound numbers_in_range o j (t ∷ ts) e).0
+    → if_valid all_numbers_in_range o ≡ Some (j, t ∷ ts) → whole o ≡ None
+more_left o j t ts e = ap whole (was_sound all_numbers_in_range o j (t ∷ ts) e).0
 
-pub text_none : (text : List ℕ) (ts : List Token) → ts ≡ tokens text → if_valid numbers_in_range (value 127 ts) ≡ None
+pub text_none : (text : List ℕ) (ts : List Token) → ts ≡ tokens text → if_valid all_numbers_in_range (value 127 ts) ≡ None
     → read text ≡ None
 text_none text ts start none =
-    none_read (value 127 (tokens text)) (ap (λ us. if_valid numbers_in_range (value 127 us)) (sym start) ∙ none)
+    none_read (value 127 (tokens text)) (ap (λ us. if_valid all_numbers_in_range (value 127 us)) (sym start) ∙ none)

@@ -12,7 +12,7 @@ use Rattle.bson_scalar.specs.declared.form.Doubles.{Doubles}
 use Rattle.bson_model.specs.Sorted.{sorted}
 use Rattle.bson_model.specs.Value.{Value}
 use Rattle.bson_model.specs.OrderedTexts.{HasMeaningInOrder, MeansByDefault}
-use Rattle.bson_model.specs.OrderedTrees.{put_in_place, kept, kept_items, kept_members, read_in_order, tree_sorted_by_key}
+use Rattle.bson_model.specs.OrderedTrees.{put_at_key_position, tree_of_json, items_of_json, members_of_json, read_in_order, tree_sorted_by_key}
 use Rattle.bson_model.proofs.OfferedInOrder.{read_forgotten}
 use Rattle.bson_tokens.specs.Normalized.{put_at_first_position, put_ascending, put_member, normalized, normalized_items, normalized_members}
 use Rattle.bson_tokens.specs.Normalized.{HasNumbersInRange, ItemsHaveNumbersInRange, MembersHaveNumbersInRange, IsNormalizedText}
@@ -23,7 +23,7 @@ use Rattle.bson_tokens.proofs.Normalizing.{cmp, IsBehind, AreBehind, IsNormalize
 -- ---- both ways to read a tree
 
 abbrev put_data : Arrangement → List ℕ → Data → Members → Members
-put_data FirstPositions = put_in_place
+put_data FirstPositions = put_at_key_position
 put_data Ascending = put
 
 abbrev mutual
@@ -68,7 +68,7 @@ mutual
       (later _ _ (of_json j) (λ d. members_by_key ms (put k d found)))
 
 mutual
-  by_place : (j : json.Json) → tree_by FirstPositions j ≡ kept j
+  by_place : (j : json.Json) → tree_by FirstPositions j ≡ tree_of_json j
   by_place json.null = refl
   by_place (json.boolean b) = refl
   by_place (json.number s) = refl
@@ -76,16 +76,16 @@ mutual
   by_place (json.array js) = ap (option_map array) (items_by_place js)
   by_place (json.object ms) = ap (option_map object) (members_by_place ms no_members)
 
-  items_by_place : (js : json.Items) → items_by FirstPositions js ≡ kept_items js
+  items_by_place : (js : json.Items) → items_by FirstPositions js ≡ items_of_json js
   items_by_place json.no_items = refl
   items_by_place (json.item j js) = rw (by_place j, items_by_place js) refl
 
-  members_by_place : (ms : json.Members) (found : Members) → members_by FirstPositions ms found ≡ kept_members ms found
+  members_by_place : (ms : json.Members) (found : Members) → members_by FirstPositions ms found ≡ members_of_json ms found
   members_by_place json.no_members found = refl
   members_by_place (json.member k j ms) found = rw (by_place j)
-      (later _ _ (kept j) (λ d. members_by_place ms (put_in_place k d found)))
+      (later _ _ (tree_of_json j) (λ d. members_by_place ms (put_at_key_position k d found)))
 
--- ---- members as they stand
+-- ---- members unchanged
 
 -- the data of each member
 abbrev each_by : Arrangement → json.Members → Option Members
@@ -108,12 +108,12 @@ after f Option.None y h = absurd cc
 
 put_first_at : (b : Bool) (k c : List ℕ) (j i : json.Json) (d e : Data) (ms : json.Members) (ds : Members)
     → tree_by FirstPositions j ≡ Some d → tree_by FirstPositions i ≡ Some e → each_by FirstPositions ms ≡ Some ds
-    → each_by FirstPositions (put_at_first_position k j ms) ≡ Some (put_in_place k d ds)
+    → each_by FirstPositions (put_at_first_position k j ms) ≡ Some (put_at_key_position k d ds)
     → each_by FirstPositions (cond b (json.member c j ms) (json.member c i (put_at_first_position k j ms)))
-    ≡ Some (cond b (member c d ds) (member c e (put_in_place k d ds)))
+    ≡ Some (cond b (member c d ds) (member c e (put_at_key_position k d ds)))
 put_first_at true k c j i d e ms ds new old are is = member_by FirstPositions c j d ms ds new are
 put_first_at false k c j i d e ms ds new old are is =
-    member_by FirstPositions c i e (put_at_first_position k j ms) (put_in_place k d ds) old is
+    member_by FirstPositions c i e (put_at_first_position k j ms) (put_at_key_position k d ds) old is
 
 put_ascending_at : (o : Ordering) (k c : List ℕ) (j i : json.Json) (d e : Data) (ms : json.Members) (ds : Members)
     → tree_by Ascending j ≡ Some d → tree_by Ascending i ≡ Some e → each_by Ascending ms ≡ Some ds
@@ -128,12 +128,12 @@ put_ascending_at Equal k c j i d e ms ds new old are is = member_by Ascending c 
 put_ascending_at Greater k c j i d e ms ds new old are is =
     member_by Ascending c i e (put_ascending k j ms) (put k d ds) old is
 
--- the data of what is put is put to the data
+-- the data of what is inserted is inserted into the data
 each_put : (a : Arrangement) (k : List ℕ) (j : json.Json) (d : Data) (ms : json.Members) (ds : Members)
     → tree_by a j ≡ Some d → each_by a ms ≡ Some ds → each_by a (put_member a k j ms) ≡ Some (put_data a k d ds)
 each_put FirstPositions k j d json.no_members ds new are =
     member_by FirstPositions k j d json.no_members no_members new refl
-    ∙ ap (λ l. Some (put_in_place k d l)) (same_Some no_members ds are)
+    ∙ ap (λ l. Some (put_at_key_position k d l)) (same_Some no_members ds are)
 each_put Ascending k j d json.no_members ds new are =
     member_by Ascending k j d json.no_members no_members new refl
     ∙ ap (λ l. Some (put k d l)) (same_Some no_members ds are)
@@ -141,14 +141,14 @@ each_put FirstPositions k j d (json.member c i ms) ds new are =
     let a = after (λ e. option_map (member c e) (each_by FirstPositions ms)) (tree_by FirstPositions i) ds are in
     let b = mapped (member c a.0) (each_by FirstPositions ms) ds a.2 in
     put_first_at (bytes_eq k c) k c j i d a.0 ms b.0 new a.1 b.1 (each_put FirstPositions k j d ms b.0 new b.1)
-    ∙ ap (λ l. Some (put_in_place k d l)) b.2
+    ∙ ap (λ l. Some (put_at_key_position k d l)) b.2
 each_put Ascending k j d (json.member c i ms) ds new are =
     let a = after (λ e. option_map (member c e) (each_by Ascending ms)) (tree_by Ascending i) ds are in
     let b = mapped (member c a.0) (each_by Ascending ms) ds a.2 in
     put_ascending_at (cmp k c) k c j i d a.0 ms b.0 new a.1 b.1 (each_put Ascending k j d ms b.0 new b.1)
     ∙ ap (λ l. Some (put k d l)) b.2
 
--- ---- what stands in its place is read as it stands
+-- ---- what is in its place is read unchanged
 
 data_behind : (a : Arrangement) (k l : List ℕ) (d e : Data) (ds : Members) → IsBehind a k l
     → put_data a l e (member k d ds) ≡ member k d (put_data a l e ds)
@@ -235,14 +235,14 @@ mutual
 pub read_alike : (j : json.Json) → HasNumbersInRange j → of_json (normalized Ascending j) ≡ of_json j
 read_alike j has = sym (by_key (normalized Ascending j)) ∙ tree_alike Ascending j has ∙ by_key j
 
-pub kept_alike : (j : json.Json) → HasNumbersInRange j → kept (normalized FirstPositions j) ≡ kept j
+pub kept_alike : (j : json.Json) → HasNumbersInRange j → tree_of_json (normalized FirstPositions j) ≡ tree_of_json j
 kept_alike j has = sym (by_place (normalized FirstPositions j)) ∙ tree_alike FirstPositions j has ∙ by_place j
 
 -- ---- texts
 
 pub text_kept : (text written : List ℕ) → IsNormalizedText FirstPositions text written → read_in_order written ≡ read_in_order text
-text_kept text written is = ap (option_and_then kept) is.read_again ∙ kept_alike is.tree is.numbers
-    ∙ sym (ap (option_and_then kept) is.is_tree)
+text_kept text written is = ap (option_and_then tree_of_json) is.read_again ∙ kept_alike is.tree is.numbers
+    ∙ sym (ap (option_and_then tree_of_json) is.is_tree)
 
 pub text_read : (a : Arrangement) (text written : List ℕ) → IsNormalizedText a text written → read written ≡ read text
 text_read FirstPositions text written is =
@@ -270,7 +270,7 @@ ordered_by D v text other same by_key has = record {
   means = has.means;
   one = has.one;
   read_form = has.read_form;
-  ranged = has.ranged;
+  within_type_range = has.within_type_range;
   distinct = has.distinct;
   by_default = meant_by D (sorted v) text other by_key has.by_default;
 }

@@ -22,7 +22,7 @@ twice : {A B C : Type 0} (f : B → C) (g : A → B) (o : Option (A × List Toke
 twice f g None = refl
 twice f g (Some p) = refl
 
--- the whole, from its start on, is what is left behind what was read
+-- the whole, from its start on, is what is left after what was read
 pub record ToGo {A : Type 0} (rest : ℕ → Parse A) (start : List Token) (front : A → A) (ts : List Token) : Type 0 where
   pub turns : ℕ
   pub enough : length ts ≤ turns
@@ -106,7 +106,7 @@ pub too_deep_object : (depth : ℕ) (ts r : List Token) → ts ≡ Token.begin_o
 unfolding value
 too_deep_object depth ts r is deep = rw (is, deep) refl
 
--- a token of its own is a value in which no key stands
+-- a token of its own is a value that has no key
 pub plain_begins : (depth : ℕ) (k : found.Token) (ts r : List Token) → ts ≡ token_of k ∷ r
     → ((s : Bor (List ℕ)) × (k ≡ String s)) ⊎ ((s : Bor (List ℕ)) × (k ≡ Number s)) ⊎ ((b : prelude.Bool) × (k ≡ Bool b))
     ⊎ (k ≡ Null)

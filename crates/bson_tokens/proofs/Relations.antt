@@ -40,7 +40,7 @@ both_false : (a b : Bool) → (a || b) ≡ false → (a ≡ false) × (b ≡ fal
 both_false false b e = (refl, e)
 both_false true b e = cc
 
--- no key is one of those before, and none stands twice
+-- no key is one of those before, and none occurs twice
 record AreApart (before : List (List ℕ)) (ms : Members) : Type 0 where
   pub others : All (λ l. is_among before l ≡ false) (keys ms)
   pub distinct : AreDistinct (keys ms)
@@ -86,15 +86,15 @@ mutual
       let new = new_key (is_among before k) k (first_duplicate j) h.0 in
       first_apart before k j ms new.0 (unique j new.1) (unique_members (k ∷ before) ms h.1)
 
--- ---- where a key stands twice
+-- ---- where a key occurs twice
 
 in_item : (n : ℕ) (j : Json) (js : Items) (v : DuplicatePath) (path : List PathSegment) → first_duplicate j ≡ v
     → first_path (append_segment (element n) v) (first_duplicate_in_items (n + 1) js) ≡ Some path
     → ((w : List PathSegment) → first_duplicate j ≡ Some w → DuplicateAt j w)
     → (first_duplicate_in_items (n + 1) js ≡ Some path → DuplicateInItems (n + 1) js path) → DuplicateInItems n (item j js) path
-in_item n j js None path is e first later = place.later n j js (unique j is) (later e)
+in_item n j js None path is e first later = place.in_later_item n j js (unique j is) (later e)
 in_item n j js (Some w) path is e first later =
-    subst (DuplicateInItems n (item j js)) (same_Some _ _ e) (place.here n j js (first w is))
+    subst (DuplicateInItems n (item j js)) (same_Some _ _ e) (place.in_this_item n j js (first w is))
 
 in_member : (before : List (List ℕ)) (k : List ℕ) (j : Json) (ms : Members) (stood : Bool) (v : DuplicatePath)
     (path : List PathSegment) → is_among before k ≡ stood → first_duplicate j ≡ v
@@ -103,12 +103,12 @@ in_member : (before : List (List ℕ)) (k : List ℕ) (j : Json) (ms : Members) 
     → (first_duplicate_in_members (k ∷ before) ms ≡ Some path → DuplicateInMembers (k ∷ before) ms path)
     → DuplicateInMembers before (member k j ms) path
 in_member before k j ms true v path stood is e first later =
-    subst (DuplicateInMembers before (member k j ms)) (same_Some _ _ e) (place.again before k j ms (stands before k stood))
+    subst (DuplicateInMembers before (member k j ms)) (same_Some _ _ e) (place.duplicate_key before k j ms (stands before k stood))
 in_member before k j ms false None path stood is e first later =
-    place.later_member before k j ms (stands_not before k stood) (unique j is) (later e)
+    place.in_later_member before k j ms (stands_not before k stood) (unique j is) (later e)
 in_member before k j ms false (Some w) path stood is e first later =
     subst (DuplicateInMembers before (member k j ms)) (same_Some _ _ e)
-    (place.inside before k j ms (stands_not before k stood) (first w is))
+    (place.in_member_value before k j ms (stands_not before k stood) (first w is))
 
 mutual
   pub at : (j : Json) (path : List PathSegment) → first_duplicate j ≡ Some path → DuplicateAt j path
@@ -131,7 +131,7 @@ mutual
       in_member before k j ms (is_among before k) (first_duplicate j) path refl refl e (λ w is. at j w is)
       (λ is. inside (k ∷ before) ms path is)
 
--- what an answer tells
+-- what an answer says
 pub answered : (j : Json) (text : List ℕ) (path : Option (Vec Segment Global)) → json_of text ≡ Some j
     → path_of_result path ≡ first_duplicate j → IsFirstDuplicate text path
 answered j text None is e = (j, is, unique j (sym e))

@@ -6,7 +6,7 @@ use Rattle.json.specs.Json.{Json, Items, no_items, item, Members, no_members, me
 use Rattle.json.specs.Json.{after_end_array, read_key, items_step, members_step, items, members, value}
 use Rattle.json.proofs.Grammar.{left, items_end, items_fail, items_more, members_end, members_fail, members_more}
 use Rattle.json.proofs.Grammar.{members_no_key, read_key-shorter, skip_value-shorter, value_is}
-use Rattle.bson_tokens.specs.NormalizerStates.{elements, inside}
+use Rattle.bson_tokens.specs.NormalizerStates.{array_rest, object_rest}
 
 -- ---- more rounds than there are tokens change nothing
 
@@ -60,22 +60,22 @@ module _ (depth : ℕ) where
   -- ---- one more element, the end of the array, and where it breaks
 
   pub one_item : (ts r : List Token) (j : Json) → after_end_array ts ≡ None → value depth ts ≡ Some (j, r)
-      → elements depth ts ≡ parse_map (item j) (elements depth r)
+      → array_rest depth ts ≡ parse_map (item j) (array_rest depth r)
   one_item ts r j going read =
       let less = skip_value-shorter depth ts r (ap left read) in
       items_more (value depth) (length ts) ts r j (omega (arith, less)) going read
       ∙ ap (parse_map (item j)) (same_items (length ts - 1) (length r) r (omega (arith, less)) (omega arith))
 
-  pub last_item : (ts r : List Token) → after_end_array ts ≡ Some r → elements depth ts ≡ Some (no_items, r)
+  pub last_item : (ts r : List Token) → after_end_array ts ≡ Some r → array_rest depth ts ≡ Some (no_items, r)
   last_item ts r ended = items_end (value depth) (length ts) ts r (omega arith) ended
 
-  pub no_item : (ts : List Token) → after_end_array ts ≡ None → value depth ts ≡ None → elements depth ts ≡ None
+  pub no_item : (ts : List Token) → after_end_array ts ≡ None → value depth ts ≡ None → array_rest depth ts ≡ None
   no_item ts going none = items_fail (value depth) (length ts) ts going none
 
   -- ---- one more member, the end of the object, and where it breaks
 
   pub one_member : (k : List ℕ) (ts s r : List Token) (j : Json) → read_key ts ≡ Some (Some k, s)
-      → value depth s ≡ Some (j, r) → inside depth ts ≡ parse_map (member k j) (inside depth r)
+      → value depth s ≡ Some (j, r) → object_rest depth ts ≡ parse_map (member k j) (object_rest depth r)
   one_member k ts s r j named read =
       let less = skip_value-shorter depth s r (ap left read) in
       let first = read_key-shorter ts (Some k) s named in
@@ -83,12 +83,12 @@ module _ (depth : ℕ) where
       ∙ ap (parse_map (member k j))
       (same_members (length ts - 1) (length r) r (omega (arith, less, first)) (omega arith))
 
-  pub last_member : (ts r : List Token) → read_key ts ≡ Some (None, r) → inside depth ts ≡ Some (no_members, r)
+  pub last_member : (ts r : List Token) → read_key ts ≡ Some (None, r) → object_rest depth ts ≡ Some (no_members, r)
   last_member ts r ended = members_end (value depth) (length ts) ts r (omega arith) ended
 
-  pub no_key : (ts : List Token) → read_key ts ≡ None → inside depth ts ≡ None
+  pub no_key : (ts : List Token) → read_key ts ≡ None → object_rest depth ts ≡ None
   no_key ts none = members_no_key (value depth) (length ts) ts none
 
   pub no_member : (k : List ℕ) (ts s : List Token) → read_key ts ≡ Some (Some k, s) → value depth s ≡ None
-      → inside depth ts ≡ None
+      → object_rest depth ts ≡ None
   no_member k ts s named none = members_fail (value depth) (length ts) k ts s named none

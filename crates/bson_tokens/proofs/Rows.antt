@@ -6,7 +6,7 @@ use Rattle.serde_json.specs.Data.{unsigned}
 use Rattle.bson_tokens.specs.Normalized.{IsNormalizedText}
 use Rattle.bson_tokens.specs.declared.arrangement.Arrangement.TheVariants.{FirstPositions, Ascending}
 
--- keys that stand twice, at two levels
+-- keys that occur twice, at two levels
 abbrev doubled : Json
 doubled = object
     (member (codes "b") (number (codes "1"))
@@ -17,13 +17,13 @@ doubled = object
 abbrev doubled_text : List ℕ
 doubled_text = codes "{\"b\":1, \"a\":{\"d\":true,\"c\":null,\"d\":false}, \"b\":[2]}"
 
-first_places : IsNormalizedText FirstPositions doubled_text (codes "{\"b\":[2],\"a\":{\"d\":false,\"c\":null}}")
+first_occurrences : IsNormalizedText FirstPositions doubled_text (codes "{\"b\":[2],\"a\":{\"d\":false,\"c\":null}}")
 unfolding Rattle.json.specs.Json.value
     Rattle.json.specs.Lex.punctuate Rattle.json.specs.Lex.lex Rattle.json.specs.Text.content
     Rattle.json.specs.Word.word Rattle.json.specs.Print.print_from Rattle.json.specs.Print.escape_byte
     Rattle.json.specs.Word.after_number Rattle.serde_json.specs.Read.number_of
     Rattle.std.specs.Float.Numeral.scan_numeral
-first_places = record {
+first_occurrences = record {
   tree = doubled;
   is_tree = refl;
   numbers = ((unsigned 1, refl), ((tt, (tt, (tt, tt))), (((unsigned 2, refl), tt), tt)));

@@ -9,9 +9,9 @@ use Rattle.json.specs.Token.{Token, key}
 use Rattle.json.specs.Tree.{json_tokens, items_tokens, members_tokens}
 use Rattle.json.proofs.Printed.Tokens.{print_from-append}
 use Rattle.serde_json.specs.Written.{comma_if}
-use Rattle.bson_tokens.specs.NormalizerStates.{JsonMember, entry_members, member_text, member_texts}
+use Rattle.bson_tokens.specs.NormalizerStates.{JsonMember, entry_members, member_text, comma_if_then_member_texts}
 
--- what stands behind a tree is printed as behind a value
+-- what follows a tree is printed as after a value
 mutual
   ends_json : (j : Json) (c : Bool) → fold (λ _ u. ends u) c (json_tokens j) ≡ true
   ends_json null c = refl
@@ -102,11 +102,11 @@ one_more_member needs_comma k j ms =
     ∙ key_printed needs_comma k (json_tokens j ++ rest)
 
 entries_printed : (needs_comma : Bool) (es : List JsonMember)
-    → member_texts needs_comma es ++ 125 ∷ [] ≡ printed_members needs_comma (entry_members es)
+    → comma_if_then_member_texts needs_comma es ++ 125 ∷ [] ≡ printed_members needs_comma (entry_members es)
 entries_printed needs_comma [] = no_more_members needs_comma
 entries_printed needs_comma (e ∷ es) =
-    append_assoc (comma_if needs_comma) (member_text e ++ member_texts true es) (125 ∷ [])
-    ∙ ap (λ l. comma_if needs_comma ++ l) (append_assoc (member_text e) (member_texts true es) (125 ∷ [])
+    append_assoc (comma_if needs_comma) (member_text e ++ comma_if_then_member_texts true es) (125 ∷ [])
+    ∙ ap (λ l. comma_if needs_comma ++ l) (append_assoc (member_text e) (comma_if_then_member_texts true es) (125 ∷ [])
     ∙ ap (λ l. member_text e ++ l) (entries_printed true es))
     ∙ one_more_member needs_comma e.0 e.1 (entry_members es)
 
@@ -115,5 +115,5 @@ unfolding print_from
 brace_printed ms = refl
 
 pub object_printed : (es : List JsonMember)
-    → 123 ∷ (member_texts false es ++ 125 ∷ []) ≡ print (json_tokens (object (entry_members es)))
+    → 123 ∷ (comma_if_then_member_texts false es ++ 125 ∷ []) ≡ print (json_tokens (object (entry_members es)))
 object_printed es = ap (λ l. 123 ∷ l) (entries_printed false es) ∙ brace_printed (entry_members es)

@@ -10,8 +10,8 @@ use Rattle.json.specs.declared.token.Token as found
 use Rattle.json.specs.declared.token.Token.TheVariants.{EndObject, EndArray, Key, String, Bool, Null, Bad}
 use Rattle.json.proofs.Grammar.{value_is, value-begin_array, value-begin_object}
 use Rattle.bson_tokens.specs.Normalized.{normalized}
-use Rattle.bson_tokens.specs.NormalizerStates.{AppendedAfterComma, NormalizesRead, ValueAppended, elements, inside, in_range, if_valid}
-use Rattle.bson_tokens.specs.NormalizerStates.{numbers_in_range, item_numbers_in_range, member_numbers_in_range}
+use Rattle.bson_tokens.specs.NormalizerStates.{AppendedAfterComma, ReadAndNormalized, ValueAppended, array_rest, object_rest, is_number_in_range, if_valid}
+use Rattle.bson_tokens.specs.NormalizerStates.{all_numbers_in_range, item_numbers_in_range, member_numbers_in_range}
 use Rattle.bson_tokens.specs.declared.normalizer.Normalizer.{Normalizer}
 use Rattle.bson_tokens.proofs.Ranged.{is_sound, none_sound, sound_under}
 
@@ -19,15 +19,15 @@ module _ (depth : ℕ) (all ts : List Token) where
   -- ---- a value of one token
 
   alone : (t : Token) (j : Json) (old new : Normalizer) → all ≡ t ∷ ts → value depth (t ∷ ts) ≡ Some (j, ts)
-      → numbers_in_range j ≡ true → ValueAppended old (normalized old.arrangement j) new
-      → NormalizesRead (if_valid numbers_in_range (value depth all)) (normalized old.arrangement) ts old new
+      → all_numbers_in_range j ≡ true → ValueAppended old (normalized old.arrangement j) new
+      → ReadAndNormalized (if_valid all_numbers_in_range (value depth all)) (normalized old.arrangement) ts old new
   alone t j old new is read fits added =
-      (j, is_sound numbers_in_range (value depth all) j ts (ap (value depth) is ∙ read) fits, added)
+      (j, is_sound all_numbers_in_range (value depth all) j ts (ap (value depth) is ∙ read) fits, added)
 
   pub plain_passes : (t : found.Token) (old new : Normalizer) → all ≡ token_of t ∷ ts
       → ((s : Bor (List ℕ)) × (t ≡ String s)) ⊎ ((b : prelude.Bool) × (t ≡ Bool b)) ⊎ (t ≡ Null)
       → AppendedAfterComma old (print (token_of t ∷ [])) true new
-      → NormalizesRead (if_valid numbers_in_range (value depth all)) (normalized old.arrangement) ts old new
+      → ReadAndNormalized (if_valid all_numbers_in_range (value depth all)) (normalized old.arrangement) ts old new
   plain_passes t old new is (inl (s, e)) added =
       alone (token.string s.now) (string s.now) old new (is ∙ ap (λ k. token_of k ∷ ts) e)
       (value_is depth (token.string s.now ∷ ts)) refl (subst (λ k. AppendedAfterComma old (print (token_of k ∷ [])) true new) e added)
@@ -38,24 +38,24 @@ module _ (depth : ℕ) (all ts : List Token) where
       alone token.null null old new (is ∙ ap (λ k. token_of k ∷ ts) e)
       (value_is depth (token.null ∷ ts)) refl (subst (λ k. AppendedAfterComma old (print (token_of k ∷ [])) true new) e added)
 
-  pub number_passes : (s : List ℕ) (old new : Normalizer) → all ≡ token.number s ∷ ts → in_range s ≡ true
-      → ValueAppended old (number s) new → NormalizesRead (if_valid numbers_in_range (value depth all)) (normalized old.arrangement) ts old new
+  pub number_passes : (s : List ℕ) (old new : Normalizer) → all ≡ token.number s ∷ ts → is_number_in_range s ≡ true
+      → ValueAppended old (number s) new → ReadAndNormalized (if_valid all_numbers_in_range (value depth all)) (normalized old.arrangement) ts old new
   number_passes s old new is fits added =
       alone (token.number s) (number s) old new is (value_is depth (token.number s ∷ ts)) fits added
 
-  pub number_fails : (s : List ℕ) → all ≡ token.number s ∷ ts → in_range s ≡ prelude.false
-      → if_valid numbers_in_range (value depth all) ≡ None
+  pub number_fails : (s : List ℕ) → all ≡ token.number s ∷ ts → is_number_in_range s ≡ prelude.false
+      → if_valid all_numbers_in_range (value depth all) ≡ None
   number_fails s is fits =
-      ap (λ us. if_valid numbers_in_range (value depth us)) is ∙ ap (if_valid numbers_in_range) (value_is depth (token.number s ∷ ts)) ∙ rw fits refl
+      ap (λ us. if_valid all_numbers_in_range (value depth us)) is ∙ ap (if_valid all_numbers_in_range) (value_is depth (token.number s ∷ ts)) ∙ rw fits refl
 
   -- ---- no value
 
-  no_value : (t : Token) → all ≡ t ∷ ts → value depth (t ∷ ts) ≡ None → if_valid numbers_in_range (value depth all) ≡ None
-  no_value t is none = none_sound numbers_in_range (value depth all) (ap (value depth) is ∙ none)
+  no_value : (t : Token) → all ≡ t ∷ ts → value depth (t ∷ ts) ≡ None → if_valid all_numbers_in_range (value depth all) ≡ None
+  no_value t is none = none_sound all_numbers_in_range (value depth all) (ap (value depth) is ∙ none)
 
   pub none_begins : (t : found.Token) → all ≡ token_of t ∷ ts
       → (t ≡ EndObject) ⊎ (t ≡ EndArray) ⊎ ((s : Bor (List ℕ)) × (t ≡ Key s)) ⊎ (t ≡ Bad)
-      → if_valid numbers_in_range (value depth all) ≡ None
+      → if_valid all_numbers_in_range (value depth all) ≡ None
   none_begins t is (inl e) =
       no_value token.end_object (is ∙ ap (λ k. token_of k ∷ ts) e) (value_is depth (token.end_object ∷ ts))
   none_begins t is (inr (inl e)) =
@@ -68,36 +68,36 @@ module _ (depth : ℕ) (all ts : List Token) where
   -- ---- arrays and objects
 
   pub array_opened : all ≡ token.begin_array ∷ ts → 0 < depth
-      → if_valid numbers_in_range (value depth all) ≡ parse_map array (if_valid item_numbers_in_range (elements (depth - 1) ts))
+      → if_valid all_numbers_in_range (value depth all) ≡ parse_map array (if_valid item_numbers_in_range (array_rest (depth - 1) ts))
   array_opened is left =
-      ap (λ us. if_valid numbers_in_range (value depth us)) is ∙ ap (if_valid numbers_in_range) (value-begin_array depth ts left)
-      ∙ sound_under item_numbers_in_range numbers_in_range array (elements (depth - 1) ts) (λ js. refl)
+      ap (λ us. if_valid all_numbers_in_range (value depth us)) is ∙ ap (if_valid all_numbers_in_range) (value-begin_array depth ts left)
+      ∙ sound_under item_numbers_in_range all_numbers_in_range array (array_rest (depth - 1) ts) (λ js. refl)
 
   pub object_opened : all ≡ token.begin_object ∷ ts → 0 < depth
-      → if_valid numbers_in_range (value depth all) ≡ parse_map object (if_valid member_numbers_in_range (inside (depth - 1) ts))
+      → if_valid all_numbers_in_range (value depth all) ≡ parse_map object (if_valid member_numbers_in_range (object_rest (depth - 1) ts))
   object_opened is left =
-      ap (λ us. if_valid numbers_in_range (value depth us)) is ∙ ap (if_valid numbers_in_range) (value-begin_object depth ts left)
-      ∙ sound_under member_numbers_in_range numbers_in_range object (inside (depth - 1) ts) (λ ms. refl)
+      ap (λ us. if_valid all_numbers_in_range (value depth us)) is ∙ ap (if_valid all_numbers_in_range) (value-begin_object depth ts left)
+      ∙ sound_under member_numbers_in_range all_numbers_in_range object (object_rest (depth - 1) ts) (λ ms. refl)
 
   -- what was read of it is the value
   pub opened_passes : {A : Type 0} (wrap : A → Json) (part : Option (A × List Token)) (rest : List Token)
-      (old new : Normalizer) → if_valid numbers_in_range (value depth all) ≡ parse_map wrap part
-      → NormalizesRead part (λ a. normalized old.arrangement (wrap a)) rest old new
-      → NormalizesRead (if_valid numbers_in_range (value depth all)) (normalized old.arrangement) rest old new
+      (old new : Normalizer) → if_valid all_numbers_in_range (value depth all) ≡ parse_map wrap part
+      → ReadAndNormalized part (λ a. normalized old.arrangement (wrap a)) rest old new
+      → ReadAndNormalized (if_valid all_numbers_in_range (value depth all)) (normalized old.arrangement) rest old new
   opened_passes wrap part rest old new opened (a, read, added) =
       (wrap a, opened ∙ ap (parse_map wrap) read, added)
 
   pub opened_breaks : {A : Type 0} (wrap : A → Json) (part : Option (A × List Token))
-      → if_valid numbers_in_range (value depth all) ≡ parse_map wrap part → part ≡ None → if_valid numbers_in_range (value depth all) ≡ None
+      → if_valid all_numbers_in_range (value depth all) ≡ parse_map wrap part → part ≡ None → if_valid all_numbers_in_range (value depth all) ≡ None
   opened_breaks wrap part opened none = opened ∙ ap (parse_map wrap) none
 
-  pub array_too_deep : all ≡ token.begin_array ∷ ts → depth ≡ 0 → if_valid numbers_in_range (value depth all) ≡ None
+  pub array_too_deep : all ≡ token.begin_array ∷ ts → depth ≡ 0 → if_valid all_numbers_in_range (value depth all) ≡ None
   array_too_deep is deep =
       no_value token.begin_array is (ap (λ d. value d (token.begin_array ∷ ts)) deep ∙ value_is 0 (token.begin_array ∷ ts))
 
-  pub object_too_deep : all ≡ token.begin_object ∷ ts → depth ≡ 0 → if_valid numbers_in_range (value depth all) ≡ None
+  pub object_too_deep : all ≡ token.begin_object ∷ ts → depth ≡ 0 → if_valid all_numbers_in_range (value depth all) ≡ None
   object_too_deep is deep =
       no_value token.begin_object is (ap (λ d. value d (token.begin_object ∷ ts)) deep ∙ value_is 0 (token.begin_object ∷ ts))
 
-pub empty_fails : (depth : ℕ) (ts : List Token) → ts ≡ [] → if_valid numbers_in_range (value depth ts) ≡ None
-empty_fails depth ts none = none_sound numbers_in_range (value depth ts) (ap (value depth) none ∙ value_is depth [])
+pub empty_fails : (depth : ℕ) (ts : List Token) → ts ≡ [] → if_valid all_numbers_in_range (value depth ts) ≡ None
+empty_fails depth ts none = none_sound all_numbers_in_range (value depth ts) (ap (value depth) none ∙ value_is depth [])

@@ -9,7 +9,7 @@ use Rattle.serde_json.specs.Written.{comma_if}
 use Rattle.json.specs.declared.error.Error.{Error}
 use Rattle.json.specs.declared.error.Error.TheVariants.{Invalid, OutOfMemory}
 use Rattle.bson_tokens.specs.Normalized.{IsNormalizedText, normalized}
-use Rattle.bson_tokens.specs.NormalizerStates.{NormalizesRead, numbers_in_range, if_valid}
+use Rattle.bson_tokens.specs.NormalizerStates.{ReadAndNormalized, all_numbers_in_range, if_valid}
 use Rattle.bson_tokens.specs.DuplicateKeys.{json_of}
 use Rattle.bson_tokens.specs.declared.normalizer.Normalizer.{Normalizer}
 use Rattle.bson_tokens.specs.declared.arrangement.Arrangement.{Arrangement}
@@ -18,10 +18,10 @@ use Rattle.bson_tokens.proofs.Ranged.{has_numbers, was_sound}
 
 pub text_normalized : (a : Arrangement) (text out : List ℕ) (ts rest : List Token) (old new : Normalizer)
     → ts ≡ tokens text → rest ≡ [] → old.arrangement ≡ a → old.needs_comma ≡ false → old.text.items ≡ []
-    → NormalizesRead (if_valid numbers_in_range (value 127 ts)) (normalized old.arrangement) rest old new → out ≡ new.text.items
+    → ReadAndNormalized (if_valid all_numbers_in_range (value 127 ts)) (normalized old.arrangement) rest old new → out ≡ new.text.items
     → IsNormalizedText a text out
 text_normalized a text out ts rest old new start end mode first none (j, read, added) is =
-    let was = was_sound numbers_in_range (value 127 ts) j rest read in
+    let was = was_sound all_numbers_in_range (value 127 ts) j rest read in
     let whole : json_of text ≡ Some j =
     ap (λ us. option_and_then (λ p. if_last p.0 p.1) (value 127 us)) (sym start)
     ∙ ap (option_and_then (λ p. if_last p.0 p.1)) (was.0 ∙ ap (λ r. Some (j, r)) end) in

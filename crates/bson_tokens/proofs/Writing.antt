@@ -10,12 +10,12 @@ use Rattle.json.specs.Token.{Token}
 use Rattle.json.specs.Tree.{json_tokens}
 use Rattle.json.proofs.Grammar.{left, skip_value-shorter}
 use Rattle.serde_json.specs.Written.{comma_if}
-use Rattle.bson_tokens.specs.ReadOutcomes.{InvalidIfNotRead}
+use Rattle.bson_tokens.specs.ReadOutcomes.{NothingReadIfInvalid}
 use Rattle.json.specs.declared.error.Error.{Error}
 use Rattle.bson_tokens.specs.Normalized.{normalized, normalized_items, normalized_members, put_member}
-use Rattle.bson_tokens.specs.NormalizerStates.{AppendedAfterComma, Appended, JsonMember, NormalizesRead, elements, inside, if_valid}
-use Rattle.bson_tokens.specs.NormalizerStates.{json_entry_key, entry_members, json_entry_value, put_json_members, member_texts}
-use Rattle.bson_tokens.specs.NormalizerStates.{numbers_in_range, item_numbers_in_range, member_numbers_in_range}
+use Rattle.bson_tokens.specs.NormalizerStates.{AppendedAfterComma, TextAppended, JsonMember, ReadAndNormalized, array_rest, object_rest, if_valid}
+use Rattle.bson_tokens.specs.NormalizerStates.{json_entry_key, entry_members, json_entry_value, put_json_members, comma_if_then_member_texts}
+use Rattle.bson_tokens.specs.NormalizerStates.{all_numbers_in_range, item_numbers_in_range, member_numbers_in_range}
 use Rattle.bson_tokens.specs.PutMembers.{put_all_members}
 use Rattle.bson_tokens.specs.declared.normalizer.Normalizer.{Normalizer}
 use Rattle.bson_tokens.specs.declared.arrangement.Arrangement.{Arrangement}
@@ -29,24 +29,24 @@ pub all_breaks : {A B X : Type 0} (f : A → X) (g : B → X) (all : Option A) (
 all_breaks f g None left e none = refl
 all_breaks f g (Some p) left e none = let never = e ∙ ap (option_map g) none in cc
 
--- an answer tells that the one breaks, and so the other does
+-- an answer says that the one breaks, and so the other does
 pub breaks : {A B X : Type 0} (r : Result X Error) (a : Option A) (b : Option B) → (a ≡ None → b ≡ None)
-    → IfErr r (InvalidIfNotRead a) → IfErr r (InvalidIfNotRead b)
-breaks r a b so h = IfErr-weaker r (InvalidIfNotRead a) (InvalidIfNotRead b) (λ e none broken. so (none broken)) h
+    → IfErr r (NothingReadIfInvalid a) → IfErr r (NothingReadIfInvalid b)
+breaks r a b so h = IfErr-weaker r (NothingReadIfInvalid a) (NothingReadIfInvalid b) (λ e none broken. so (none broken)) h
 
 came_from : {A X : Type 0} (f : A → X) (o : Option A) (x : X) → option_map f o ≡ Some x
     → (a : A) × (o ≡ Some a) × (f a ≡ x)
 came_from f None x e = cc
 came_from f (Some a) x e = (a, refl, same_Some (f a) x e)
 
--- what is read takes a token
-pub shorter : (depth : ℕ) (ts r : List Token) (j : Json) → if_valid numbers_in_range (value depth ts) ≡ Some (j, r)
+-- what is read consumes a token
+pub shorter : (depth : ℕ) (ts r : List Token) (j : Json) → if_valid all_numbers_in_range (value depth ts) ≡ Some (j, r)
     → length r < length ts
-shorter depth ts r j read = skip_value-shorter depth ts r (ap left (was_sound numbers_in_range (value depth ts) j r read).0)
+shorter depth ts r j read = skip_value-shorter depth ts r (ap left (was_sound all_numbers_in_range (value depth ts) j r read).0)
 
 -- ---- arrays
 
--- the text with what is left, beside the tokens behind it
+-- the text with what is left, beside the tokens after it
 abbrev pub whole_at : Normalizer → Items × List Token → List ℕ × List Token
 whole_at w p = (w.text.items ++ printed_items w.needs_comma (normalized_items w.arrangement p.0), p.1)
 
@@ -71,26 +71,26 @@ item_behind j now later (Some (js, r)) added =
     ∙ ap (λ x. later.text.items ++ printed_items later.needs_comma (normalized_items x js)) (sym added.arrangement))
 
 pub item_passed : (depth : ℕ) (all : Option (List ℕ × List Token)) (ts r : List Token) (now later : Normalizer)
-    → all ≡ whole now (if_valid item_numbers_in_range (elements depth ts)) → after_end_array ts ≡ None
-    → NormalizesRead (if_valid numbers_in_range (value depth ts)) (normalized now.arrangement) r now later
-    → all ≡ whole later (if_valid item_numbers_in_range (elements depth r))
+    → all ≡ whole now (if_valid item_numbers_in_range (array_rest depth ts)) → after_end_array ts ≡ None
+    → ReadAndNormalized (if_valid all_numbers_in_range (value depth ts)) (normalized now.arrangement) r now later
+    → all ≡ whole later (if_valid item_numbers_in_range (array_rest depth r))
 item_passed depth all ts r now later so_far going (j, read, added) =
-    let was = was_sound numbers_in_range (value depth ts) j r read in
+    let was = was_sound all_numbers_in_range (value depth ts) j r read in
     so_far ∙ ap (λ o. whole now (if_valid item_numbers_in_range o)) (one_item depth ts r j going was.0)
-    ∙ ap (whole now) (sound_under item_numbers_in_range item_numbers_in_range (item j) (elements depth r) (λ js. rw was.1 refl))
-    ∙ item_behind j now later (if_valid item_numbers_in_range (elements depth r)) added
+    ∙ ap (whole now) (sound_under item_numbers_in_range item_numbers_in_range (item j) (array_rest depth r) (λ js. rw was.1 refl))
+    ∙ item_behind j now later (if_valid item_numbers_in_range (array_rest depth r)) added
 
 pub items_passed : (depth : ℕ) (start ts r : List Token) (old begun now later : Normalizer)
     → AppendedAfterComma old (91 ∷ []) false begun
-    → whole begun (if_valid item_numbers_in_range (elements depth start)) ≡ whole now (if_valid item_numbers_in_range (elements depth ts))
-    → now.arrangement ≡ begun.arrangement → after_end_array ts ≡ Some r → Appended now (93 ∷ []) true later
-    → NormalizesRead (if_valid item_numbers_in_range (elements depth start)) (λ js. normalized old.arrangement (array js)) r old later
+    → whole begun (if_valid item_numbers_in_range (array_rest depth start)) ≡ whole now (if_valid item_numbers_in_range (array_rest depth ts))
+    → now.arrangement ≡ begun.arrangement → after_end_array ts ≡ Some r → TextAppended now (93 ∷ []) true later
+    → ReadAndNormalized (if_valid item_numbers_in_range (array_rest depth start)) (λ js. normalized old.arrangement (array js)) r old later
 items_passed depth start ts r old begun now later begin so_far same ended close =
-    let last = is_sound item_numbers_in_range (elements depth ts) no_items r (last_item depth ts r ended) refl in
-    let end : whole begun (if_valid item_numbers_in_range (elements depth start)) ≡ Some (later.text.items, r) =
+    let last = is_sound item_numbers_in_range (array_rest depth ts) no_items r (last_item depth ts r ended) refl in
+    let end : whole begun (if_valid item_numbers_in_range (array_rest depth start)) ≡ Some (later.text.items, r) =
     so_far ∙ ap (whole now) last
     ∙ ap (λ l. Some (now.text.items ++ l, r)) (no_more_items now.needs_comma) ∙ ap (λ l. Some (l, r)) (sym close.text) in
-    let (p, read, text) = came_from (whole_at begun) (if_valid item_numbers_in_range (elements depth start)) (later.text.items, r) end in
+    let (p, read, text) = came_from (whole_at begun) (if_valid item_numbers_in_range (array_rest depth start)) (later.text.items, r) end in
     let js = normalized_items old.arrangement p.0 in
     let comma = comma_if old.needs_comma in (
       p.0,
@@ -108,19 +108,19 @@ items_passed depth start ts r old begun now later begin so_far same ended close 
       },
     )
 
-pub item_fails : (depth : ℕ) (ts : List Token) → after_end_array ts ≡ None → if_valid numbers_in_range (value depth ts) ≡ None
-    → if_valid item_numbers_in_range (elements depth ts) ≡ None
+pub item_fails : (depth : ℕ) (ts : List Token) → after_end_array ts ≡ None → if_valid all_numbers_in_range (value depth ts) ≡ None
+    → if_valid item_numbers_in_range (array_rest depth ts) ≡ None
 item_fails depth ts going none = fails_at (value depth ts) refl
   where
-    fails_at : (o : Option (Json × List Token)) → value depth ts ≡ o → if_valid item_numbers_in_range (elements depth ts) ≡ None
-    fails_at None is = none_sound item_numbers_in_range (elements depth ts) (no_item depth ts going is)
+    fails_at : (o : Option (Json × List Token)) → value depth ts ≡ o → if_valid item_numbers_in_range (array_rest depth ts) ≡ None
+    fails_at None is = none_sound item_numbers_in_range (array_rest depth ts) (no_item depth ts going is)
     fails_at (Some (j, r)) is =
         ap (if_valid item_numbers_in_range) (one_item depth ts r j going is)
-        ∙ sound_none item_numbers_in_range (item j) (elements depth r) (λ js. out_at _ refl js)
+        ∙ sound_none item_numbers_in_range (item j) (array_rest depth r) (λ js. out_at _ refl js)
       where
-        out_at : (b : Bool) → numbers_in_range j ≡ b → (js : Items) → item_numbers_in_range (item j js) ≡ false
+        out_at : (b : Bool) → all_numbers_in_range j ≡ b → (js : Items) → item_numbers_in_range (item j js) ≡ false
         out_at true fits js =
-            let never : Some (j, r) ≡ None = sym (is_sound numbers_in_range (value depth ts) j r is fits) ∙ none in cc
+            let never : Some (j, r) ≡ None = sym (is_sound all_numbers_in_range (value depth ts) j r is fits) ∙ none in cc
         out_at false out js = rw out refl
 
 -- ---- objects
@@ -128,7 +128,7 @@ item_fails depth ts going none = fails_at (value depth ts) refl
 abbrev pub found_at : Arrangement → List JsonMember → Members × List Token → Members × List Token
 found_at a es p = (normalized_members a p.0 (put_json_members a es), p.1)
 
--- the same behind these members
+-- the same after these members
 abbrev pub found_from : Arrangement → Members → Option (Members × List Token) → Option (Members × List Token)
 found_from a ms o = option_map (λ p. (normalized_members a p.0 ms, p.1)) o
 
@@ -147,41 +147,41 @@ member_behind a es k j (Some (ms, r)) =
     ap (λ x. Some (normalized_members a ms x, r)) (sym (put_last a es (k, normalized a j) no_members))
 
 pub member_passed : (depth : ℕ) (all : Option (Members × List Token)) (a : Arrangement) (es : List JsonMember) (k : List ℕ)
-    (ts s r : List Token) (j : Json) → all ≡ found a es (if_valid member_numbers_in_range (inside depth ts))
-    → read_key ts ≡ Some (Some k, s) → if_valid numbers_in_range (value depth s) ≡ Some (j, r)
-    → all ≡ found a (es ++ (k, normalized a j) ∷ []) (if_valid member_numbers_in_range (inside depth r))
+    (ts s r : List Token) (j : Json) → all ≡ found a es (if_valid member_numbers_in_range (object_rest depth ts))
+    → read_key ts ≡ Some (Some k, s) → if_valid all_numbers_in_range (value depth s) ≡ Some (j, r)
+    → all ≡ found a (es ++ (k, normalized a j) ∷ []) (if_valid member_numbers_in_range (object_rest depth r))
 member_passed depth all a es k ts s r j so_far named read =
-    let was = was_sound numbers_in_range (value depth s) j r read in
+    let was = was_sound all_numbers_in_range (value depth s) j r read in
     so_far ∙ ap (λ o. found a es (if_valid member_numbers_in_range o)) (one_member depth k ts s r j named was.0)
-    ∙ ap (found a es) (sound_under member_numbers_in_range member_numbers_in_range (member k j) (inside depth r) (λ ms. rw was.1 refl))
-    ∙ member_behind a es k j (if_valid member_numbers_in_range (inside depth r))
+    ∙ ap (found a es) (sound_under member_numbers_in_range member_numbers_in_range (member k j) (object_rest depth r) (λ ms. rw was.1 refl))
+    ∙ member_behind a es k j (if_valid member_numbers_in_range (object_rest depth r))
 
 pub members_passed : (depth : ℕ) (start ts r : List Token) (old begun now : Normalizer) (later : Normalizer)
     (es fs : List JsonMember) (body : List ℕ) → AppendedAfterComma old (123 ∷ []) false begun
-    → found now.arrangement [] (if_valid member_numbers_in_range (inside depth start))
-    ≡ found now.arrangement es (if_valid member_numbers_in_range (inside depth ts))
+    → found now.arrangement [] (if_valid member_numbers_in_range (object_rest depth start))
+    ≡ found now.arrangement es (if_valid member_numbers_in_range (object_rest depth ts))
     → now.arrangement ≡ begun.arrangement → read_key ts ≡ Some (None, r)
-    → body ≡ member_texts false fs → entry_members fs ≡ put_json_members now.arrangement es
+    → body ≡ comma_if_then_member_texts false fs → entry_members fs ≡ put_json_members now.arrangement es
     → later.arrangement ≡ now.arrangement → later.needs_comma ≡ true
     → later.text.items ≡ (begun.text.items ++ body) ++ 125 ∷ []
-    → NormalizesRead (if_valid member_numbers_in_range (inside depth start)) (λ ms. normalized old.arrangement (object ms)) r old later
+    → ReadAndNormalized (if_valid member_numbers_in_range (object_rest depth start)) (λ ms. normalized old.arrangement (object ms)) r old later
 members_passed depth start ts r old begun now later es fs body begin so_far same ended spells put kept needs_comma text =
     let a = now.arrangement in
-    let last = is_sound member_numbers_in_range (inside depth ts) no_members r (last_member depth ts r ended) refl in
-    let (p, read, end) = came_from (found_at a []) (if_valid member_numbers_in_range (inside depth start)) (put_json_members a es, r)
+    let last = is_sound member_numbers_in_range (object_rest depth ts) no_members r (last_member depth ts r ended) refl in
+    let (p, read, end) = came_from (found_at a []) (if_valid member_numbers_in_range (object_rest depth start)) (put_json_members a es, r)
     (so_far ∙ ap (found a es) last) in
     let comma = comma_if old.needs_comma in
     let first = same ∙ begin.arrangement in
     let all : entry_members fs ≡ normalized_members old.arrangement p.0 no_members =
     put ∙ sym (ap (λ q. q.0) end) ∙ ap (λ x. normalized_members x p.0 no_members) first in
-    let rest = member_texts false fs ++ 125 ∷ [] in (
+    let rest = comma_if_then_member_texts false fs ++ 125 ∷ [] in (
       p.0,
       read ∙ ap (λ t. Some (p.0, t)) (ap (λ q. q.1) end),
       record {
         arrangement = kept ∙ first;
         needs_comma = needs_comma;
         text = text ∙ ap (λ b. (begun.text.items ++ b) ++ 125 ∷ []) spells
-            ∙ append_assoc begun.text.items (member_texts false fs) (125 ∷ [])
+            ∙ append_assoc begun.text.items (comma_if_then_member_texts false fs) (125 ∷ [])
             ∙ ap (λ l. l ++ rest) begin.text
             ∙ append_assoc old.text.items (comma ++ 123 ∷ []) rest
             ∙ ap (λ l. old.text.items ++ l) (append_assoc comma (123 ∷ []) rest)
@@ -190,20 +190,20 @@ members_passed depth start ts r old begun now later es fs body begin so_far same
       },
     )
 
-pub key_fails : (depth : ℕ) (ts : List Token) → read_key ts ≡ None → if_valid member_numbers_in_range (inside depth ts) ≡ None
-key_fails depth ts none = none_sound member_numbers_in_range (inside depth ts) (no_key depth ts none)
+pub key_fails : (depth : ℕ) (ts : List Token) → read_key ts ≡ None → if_valid member_numbers_in_range (object_rest depth ts) ≡ None
+key_fails depth ts none = none_sound member_numbers_in_range (object_rest depth ts) (no_key depth ts none)
 
 pub member_fails : (depth : ℕ) (k : List ℕ) (ts s : List Token) → read_key ts ≡ Some (Some k, s)
-    → if_valid numbers_in_range (value depth s) ≡ None → if_valid member_numbers_in_range (inside depth ts) ≡ None
+    → if_valid all_numbers_in_range (value depth s) ≡ None → if_valid member_numbers_in_range (object_rest depth ts) ≡ None
 member_fails depth k ts s named none = fails_at (value depth s) refl
   where
-    fails_at : (o : Option (Json × List Token)) → value depth s ≡ o → if_valid member_numbers_in_range (inside depth ts) ≡ None
-    fails_at None is = none_sound member_numbers_in_range (inside depth ts) (no_member depth k ts s named is)
+    fails_at : (o : Option (Json × List Token)) → value depth s ≡ o → if_valid member_numbers_in_range (object_rest depth ts) ≡ None
+    fails_at None is = none_sound member_numbers_in_range (object_rest depth ts) (no_member depth k ts s named is)
     fails_at (Some (j, r)) is =
         ap (if_valid member_numbers_in_range) (one_member depth k ts s r j named is)
-        ∙ sound_none member_numbers_in_range (member k j) (inside depth r) (λ ms. out_at _ refl ms)
+        ∙ sound_none member_numbers_in_range (member k j) (object_rest depth r) (λ ms. out_at _ refl ms)
       where
-        out_at : (b : Bool) → numbers_in_range j ≡ b → (ms : Members) → member_numbers_in_range (member k j ms) ≡ false
+        out_at : (b : Bool) → all_numbers_in_range j ≡ b → (ms : Members) → member_numbers_in_range (member k j ms) ≡ false
         out_at true fits ms =
-            let never : Some (j, r) ≡ None = sym (is_sound numbers_in_range (value depth s) j r is fits) ∙ none in cc
+            let never : Some (j, r) ≡ None = sym (is_sound all_numbers_in_range (value depth s) j r is fits) ∙ none in cc
         out_at false out ms = rw out refl

@@ -11,43 +11,53 @@ use Rattle.bson_tree.specs.Place.{PathSegment, key, element, segment_of}
 use Rattle.bson_tree.specs.declared.place.Segment.{Segment}
 
 -- the value of a text whose arrays and objects nest at most 127 deep, with its keys in input order (RFC 8259)
-abbrev pub json_of : List ℕ → Option Json
-json_of text = option_and_then (λ p. if_last p.0 p.1) (value max_depth (tokens text))
+abbrev pub json_of : (text : List ℕ) → Option Json
+json_of text = option_and_then (λ parse_result. if_last parse_result.0 parse_result.1) (value max_depth (tokens text))
 
 mutual
   -- the first duplicate key, in the order of the text, and the path from it outward
   pub data DuplicateAt : Json → List PathSegment → Type 0 where
-    array : {path : List PathSegment} (js : Items) → DuplicateInItems 0 js path → DuplicateAt (json.array js) path
-    object : {path : List PathSegment} (ms : Members) → DuplicateInMembers [] ms path → DuplicateAt (json.object ms) path
+    array : {path : List PathSegment} (json_items : Items) → DuplicateInItems 0 json_items path
+        → DuplicateAt (json.array json_items) path
+    object : {path : List PathSegment} (json_members : Members) → DuplicateInMembers [] json_members path
+        → DuplicateAt (json.object json_members) path
 
   -- among elements, the first of which has this index in its array
-  pub data DuplicateInItems : ℕ → Items → List PathSegment → Type 0 where
-    here : {path : List PathSegment} (n : ℕ) (j : Json) (js : Items) → DuplicateAt j path
-        → DuplicateInItems n (item j js) (path ++ element n ∷ [])
-    later : {path : List PathSegment} (n : ℕ) (j : Json) (js : Items) → HasUniqueKeys j → DuplicateInItems (n + 1) js path
-        → DuplicateInItems n (item j js) path
+  pub data DuplicateInItems : (first_index : ℕ) → Items → (path : List PathSegment) → Type 0 where
+    in_this_item : {path : List PathSegment} (item_index : ℕ) (json_value : Json) (json_items : Items)
+        → DuplicateAt json_value path
+        → DuplicateInItems item_index (item json_value json_items) (path ++ element item_index ∷ [])
+    in_later_item : {path : List PathSegment} (item_index : ℕ) (json_value : Json) (json_items : Items)
+        → HasUniqueKeys json_value → DuplicateInItems (item_index + 1) json_items path
+        → DuplicateInItems item_index (item json_value json_items) path
 
   -- among members after others with these keys
-  pub data DuplicateInMembers : List (List ℕ) → Members → List PathSegment → Type 0 where
-    again : (before : List (List ℕ)) (k : List ℕ) (j : Json) (ms : Members) → Contains before k
-        → DuplicateInMembers before (member k j ms) (key k ∷ [])
-    inside : {path : List PathSegment} (before : List (List ℕ)) (k : List ℕ) (j : Json) (ms : Members)
-        → ¬ (Contains before k) → DuplicateAt j path → DuplicateInMembers before (member k j ms) (path ++ key k ∷ [])
-    later_member : {path : List PathSegment} (before : List (List ℕ)) (k : List ℕ) (j : Json) (ms : Members)
-        → ¬ (Contains before k) → HasUniqueKeys j → DuplicateInMembers (k ∷ before) ms path
-        → DuplicateInMembers before (member k j ms) path
+  pub data DuplicateInMembers : (earlier_keys : List (List ℕ)) → Members → (path : List PathSegment) → Type 0 where
+    duplicate_key : (earlier_keys : List (List ℕ)) (member_key : List ℕ) (json_value : Json) (json_members : Members)
+        → Contains earlier_keys member_key
+        → DuplicateInMembers earlier_keys (member member_key json_value json_members) (key member_key ∷ [])
+    in_member_value : {path : List PathSegment} (earlier_keys : List (List ℕ)) (member_key : List ℕ) (json_value : Json)
+        (json_members : Members)
+        → ¬ (Contains earlier_keys member_key) → DuplicateAt json_value path
+        → DuplicateInMembers earlier_keys (member member_key json_value json_members) (path ++ key member_key ∷ [])
+    in_later_member : {path : List PathSegment} (earlier_keys : List (List ℕ)) (member_key : List ℕ) (json_value : Json)
+        (json_members : Members)
+        → ¬ (Contains earlier_keys member_key) → HasUniqueKeys json_value
+        → DuplicateInMembers (member_key ∷ earlier_keys) json_members path
+        → DuplicateInMembers earlier_keys (member member_key json_value json_members) path
 
 -- the text is a value in which no object has a duplicate key
-abbrev pub HasNoDuplicateKeys : List ℕ → Type 0
-HasNoDuplicateKeys text = (j : Json) × (json_of text ≡ Some j) × HasUniqueKeys j
+abbrev pub HasNoDuplicateKeys : (text : List ℕ) → Type 0
+HasNoDuplicateKeys text = (json_value : Json) × (json_of text ≡ Some json_value) × HasUniqueKeys json_value
 
 -- the text is a value, whose first duplicate key has this path
-abbrev pub HasDuplicateKey : List ℕ → List PathSegment → Type 0
-HasDuplicateKey text path = (j : Json) × (json_of text ≡ Some j) × DuplicateAt j path
+abbrev pub HasDuplicateKey : (text : List ℕ) → (path : List PathSegment) → Type 0
+HasDuplicateKey text path = (json_value : Json) × (json_of text ≡ Some json_value) × DuplicateAt json_value path
 
 abbrev pub segments_of : Vec Segment Global → List PathSegment
 segments_of path = map segment_of path.items
 
 -- the text has no duplicate key, or this is the path to the first one
-abbrev pub IsFirstDuplicate : List ℕ → Option (Vec Segment Global) → Type 0
-IsFirstDuplicate text path = MatchOption path (HasNoDuplicateKeys text) (λ w. HasDuplicateKey text (segments_of w))
+abbrev pub IsFirstDuplicate : (text : List ℕ) → (path : Option (Vec Segment Global)) → Type 0
+IsFirstDuplicate text path =
+    MatchOption path (HasNoDuplicateKeys text) (λ duplicate_path. HasDuplicateKey text (segments_of duplicate_path))

@@ -16,56 +16,66 @@ abbrev pub FaultAndPath : Type 0
 FaultAndPath = Option (Fault × List PathSegment)
 
 abbrev pub add_segment : PathSegment → FaultAndPath → FaultAndPath
-add_segment t None = None
-add_segment t (Some f) = Some (f.0, f.1 ++ t ∷ [])
+add_segment segment None = None
+add_segment segment (Some found_fault) = Some (found_fault.0, found_fault.1 ++ segment ∷ [])
 
-abbrev pub or : FaultAndPath → FaultAndPath → FaultAndPath
-or None w = w
-or (Some f) w = Some f
+abbrev pub or_fault : FaultAndPath → (later_fault : FaultAndPath) → FaultAndPath
+or_fault None later_fault = later_fault
+or_fault (Some found_fault) later_fault = Some found_fault
 
 abbrev pub wrong_shape_here : FaultAndPath
 wrong_shape_here = Some (wrong_shape, [])
 
 abbrev pub scalar_fault : Result Scalar Fault → FaultAndPath
-scalar_fault (Ok x) = None
-scalar_fault (Err f) = Some (f, [])
+scalar_fault (Ok scalar_value) = None
+scalar_fault (Err found_fault) = Some (found_fault, [])
 
 abbrev pub code_fault : Data → FaultAndPath → FaultAndPath
-code_fault (tree.string s) scope = scope
+code_fault (tree.string string_bytes) scope = scope
 code_fault _ scope = wrong_shape_here
 
 abbrev mutual
   pub fault_in_tree : Doubles → Data → FaultAndPath
   fault_in_tree doubles tree.null = None
-  fault_in_tree doubles (tree.boolean b) = None
-  fault_in_tree doubles (tree.number n) = scalar_fault (number_read_in doubles n)
-  fault_in_tree doubles (tree.string s) = None
-  fault_in_tree doubles (tree.array ds) = first_item_fault doubles 0 ds
-  fault_in_tree doubles (tree.object ms) = if has_wrapper ms then wrapper_fault doubles ms else first_member_fault doubles ms
+  fault_in_tree doubles (tree.boolean truth) = None
+  fault_in_tree doubles (tree.number number_value) = scalar_fault (number_read_in doubles number_value)
+  fault_in_tree doubles (tree.string string_bytes) = None
+  fault_in_tree doubles (tree.array tree_items) = first_item_fault doubles 0 tree_items
+  fault_in_tree doubles (tree.object tree_members) =
+      if has_wrapper tree_members then wrapper_fault doubles tree_members else first_member_fault doubles tree_members
 
   -- among elements, the first of which has this index in its array
-  pub first_item_fault : Doubles → ℕ → Items → FaultAndPath
-  first_item_fault doubles n no_items = None
-  first_item_fault doubles n (item d ds) = or (add_segment (element n) (fault_in_tree doubles d)) (first_item_fault doubles (n + 1) ds)
+  pub first_item_fault : Doubles → (item_index : ℕ) → Items → FaultAndPath
+  first_item_fault doubles item_index no_items = None
+  first_item_fault doubles item_index (item tree_value tree_items) =
+      or_fault (add_segment (element item_index) (fault_in_tree doubles tree_value))
+      (first_item_fault doubles (item_index + 1) tree_items)
 
   -- among the values of an object, in ascending key order
   pub first_member_fault : Doubles → Members → FaultAndPath
   first_member_fault doubles no_members = None
-  first_member_fault doubles (member k d ms) = or (add_segment (key k) (fault_in_tree doubles d)) (first_member_fault doubles ms)
+  first_member_fault doubles (member member_key tree_value tree_members) =
+      or_fault (add_segment (key member_key) (fault_in_tree doubles tree_value))
+      (first_member_fault doubles tree_members)
 
   -- in an object with a wrapper key
   pub wrapper_fault : Doubles → Members → FaultAndPath
   wrapper_fault doubles no_members = wrong_shape_here
-  wrapper_fault doubles (member k d no_members) = add_segment (key k) (scalar_fault (optional_wrapper_read_in doubles (wrapper_of k) d))
-  wrapper_fault doubles (member k d (member l e no_members)) =
-      if bytes_eq k (codes "$code") && bytes_eq l (codes "$scope") then code_fault d (scope_fault doubles e) else wrong_shape_here
-  wrapper_fault doubles (member k d (member l e (member m f ms))) = wrong_shape_here
+  wrapper_fault doubles (member member_key tree_value no_members) =
+      add_segment (key member_key) (scalar_fault (optional_wrapper_read_in doubles (wrapper_of member_key) tree_value))
+  wrapper_fault doubles (member member_key tree_value (member second_key second_value no_members)) =
+      if bytes_eq member_key (codes "$code") && bytes_eq second_key (codes "$scope")
+      then code_fault tree_value (scope_fault doubles second_value) else wrong_shape_here
+  wrapper_fault doubles
+      (member member_key tree_value
+      (member second_key second_value (member third_key third_value tree_members))) = wrong_shape_here
 
   -- in the scope of code
   pub scope_fault : Doubles → Data → FaultAndPath
   scope_fault doubles tree.null = None
-  scope_fault doubles (tree.boolean b) = wrong_shape_here
-  scope_fault doubles (tree.number n) = wrong_shape_here
-  scope_fault doubles (tree.string s) = wrong_shape_here
-  scope_fault doubles (tree.array ds) = wrong_shape_here
-  scope_fault doubles (tree.object ms) = add_segment (key (codes "$scope")) (first_member_fault doubles ms)
+  scope_fault doubles (tree.boolean truth) = wrong_shape_here
+  scope_fault doubles (tree.number number_value) = wrong_shape_here
+  scope_fault doubles (tree.string string_bytes) = wrong_shape_here
+  scope_fault doubles (tree.array tree_items) = wrong_shape_here
+  scope_fault doubles (tree.object tree_members) =
+      add_segment (key (codes "$scope")) (first_member_fault doubles tree_members)

@@ -15,62 +15,64 @@ use Rattle.bson_tokens.specs.declared.arrangement.Arrangement.{Arrangement}
 use Rattle.bson_tokens.specs.declared.arrangement.Arrangement.TheVariants.{FirstPositions, Ascending}
 
 -- the members with value j at key k: at the position of k if it is present, otherwise last
-abbrev pub put_at_first_position : List ℕ → Json → Members → Members
-put_at_first_position k j no_members = member k j no_members
-put_at_first_position k j (member l i ms) = if bytes_eq k l then member l j ms else member l i (put_at_first_position k j ms)
+abbrev pub put_at_first_position : (member_key : List ℕ) → Json → Members → Members
+put_at_first_position member_key json_value no_members = member member_key json_value no_members
+put_at_first_position member_key json_value (member first_key first_value json_members) = if bytes_eq member_key first_key then member first_key json_value json_members else member first_key first_value (put_at_first_position member_key json_value json_members)
 
 -- the members with value j at key k, in ascending key order
-abbrev pub put_ascending : List ℕ → Json → Members → Members
-put_ascending k j no_members = member k j no_members
-put_ascending k j (member l i ms) =
-    match_ordering (slice_cmp nat_cmp k l) (member k j (member l i ms)) (member l j ms)
-    (member l i (put_ascending k j ms))
+abbrev pub put_ascending : (member_key : List ℕ) → Json → Members → Members
+put_ascending member_key json_value no_members = member member_key json_value no_members
+put_ascending member_key json_value (member first_key first_value json_members) =
+    match_ordering (slice_cmp nat_cmp member_key first_key) (member member_key json_value (member first_key first_value json_members)) (member first_key json_value json_members)
+    (member first_key first_value (put_ascending member_key json_value json_members))
 
-abbrev pub put_member : Arrangement → List ℕ → Json → Members → Members
+abbrev pub put_member : Arrangement → (member_key : List ℕ) → Json → Members → Members
 put_member FirstPositions = put_at_first_position
 put_member Ascending = put_ascending
 
 -- the tree with each key once in its object: members are inserted one after another, so the last value of a key wins
 abbrev mutual
   pub normalized : Arrangement → Json → Json
-  normalized a null = null
-  normalized a (boolean b) = boolean b
-  normalized a (number s) = number s
-  normalized a (string s) = string s
-  normalized a (array js) = array (normalized_items a js)
-  normalized a (object ms) = object (normalized_members a ms no_members)
+  normalized key_order null = null
+  normalized key_order (boolean truth) = boolean truth
+  normalized key_order (number scalar_text) = number scalar_text
+  normalized key_order (string scalar_text) = string scalar_text
+  normalized key_order (array json_items) = array (normalized_items key_order json_items)
+  normalized key_order (object json_members) = object (normalized_members key_order json_members no_members)
 
   pub normalized_items : Arrangement → Items → Items
-  normalized_items a no_items = no_items
-  normalized_items a (item j js) = item (normalized a j) (normalized_items a js)
+  normalized_items key_order no_items = no_items
+  normalized_items key_order (item json_value json_items) = item (normalized key_order json_value) (normalized_items key_order json_items)
 
   -- members after those that are normalized
-  pub normalized_members : Arrangement → Members → Members → Members
-  normalized_members a no_members found = found
-  normalized_members a (member k j ms) found = normalized_members a ms (put_member a k (normalized a j) found)
+  pub normalized_members : Arrangement → Members → (normalized_before : Members) → Members
+  normalized_members key_order no_members normalized_before = normalized_before
+  normalized_members key_order (member member_key json_value json_members) normalized_before = normalized_members key_order json_members (put_member key_order member_key (normalized key_order json_value) normalized_before)
 
 abbrev mutual
   -- each number is in the range of its Rust type: an integer of 64 bits, or a finite double
   pub HasNumbersInRange : Json → Type 0
   HasNumbersInRange null = Unit {0}
-  HasNumbersInRange (boolean b) = Unit {0}
-  HasNumbersInRange (number s) = (n : Num) × (number_of s ≡ Some n)
-  HasNumbersInRange (string s) = Unit {0}
-  HasNumbersInRange (array js) = ItemsHaveNumbersInRange js
-  HasNumbersInRange (object ms) = MembersHaveNumbersInRange ms
+  HasNumbersInRange (boolean truth) = Unit {0}
+  HasNumbersInRange (number scalar_text) = (number_value : Num) × (number_of scalar_text ≡ Some number_value)
+  HasNumbersInRange (string scalar_text) = Unit {0}
+  HasNumbersInRange (array json_items) = ItemsHaveNumbersInRange json_items
+  HasNumbersInRange (object json_members) = MembersHaveNumbersInRange json_members
 
   pub ItemsHaveNumbersInRange : Items → Type 0
   ItemsHaveNumbersInRange no_items = Unit {0}
-  ItemsHaveNumbersInRange (item j js) = HasNumbersInRange j × ItemsHaveNumbersInRange js
+  ItemsHaveNumbersInRange (item json_value json_items) = HasNumbersInRange json_value
+      × ItemsHaveNumbersInRange json_items
 
   pub MembersHaveNumbersInRange : Members → Type 0
   MembersHaveNumbersInRange no_members = Unit {0}
-  MembersHaveNumbersInRange (member k j ms) = HasNumbersInRange j × MembersHaveNumbersInRange ms
+  MembersHaveNumbersInRange (member member_key json_value json_members) = HasNumbersInRange json_value
+      × MembersHaveNumbersInRange json_members
 
 -- the compact text of the normalized tree of a text, each number of which is in range; it is read as that tree
-pub record IsNormalizedText (a : Arrangement) (text written : List ℕ) : Type 0 where
+pub record IsNormalizedText (key_order : Arrangement) (text written : List ℕ) : Type 0 where
   pub tree : Json
   pub is_tree : json_of text ≡ Some tree
   pub numbers : HasNumbersInRange tree
-  pub compact : written ≡ print (json_tokens (normalized a tree))
-  pub read_again : json_of written ≡ Some (normalized a tree)
+  pub compact : written ≡ print (json_tokens (normalized key_order tree))
+  pub read_again : json_of written ≡ Some (normalized key_order tree)

@@ -23,67 +23,78 @@ use Rattle.bson_tokens.specs.declared.normalizer.Normalizer.{Normalizer}
 use Rattle.bson_tokens.specs.declared.member_order.MemberSpan.{MemberSpan}
 
 -- the elements of an array to its end, and the members of an object to its end
-abbrev pub elements : ℕ → Parse Items
-elements depth ts = items (value depth) (length ts) ts
+abbrev pub array_rest : (depth : ℕ) → Parse Items
+array_rest depth input_tokens = items (value depth) (length input_tokens) input_tokens
 
-abbrev pub inside : ℕ → Parse Members
-inside depth ts = members (value depth) (length ts) ts
+abbrev pub object_rest : (depth : ℕ) → Parse Members
+object_rest depth input_tokens = members (value depth) (length input_tokens) input_tokens
 
 -- ---- numbers
 
-abbrev pub in_range : List ℕ → Bool
-in_range s = is_some (number_of s)
+abbrev pub is_number_in_range : List ℕ → Bool
+is_number_in_range text_bytes = is_some (number_of text_bytes)
 
 -- each number is in range
 abbrev mutual
-  pub numbers_in_range : Json → Bool
-  numbers_in_range null = true
-  numbers_in_range (boolean b) = true
-  numbers_in_range (number s) = in_range s
-  numbers_in_range (string s) = true
-  numbers_in_range (array js) = item_numbers_in_range js
-  numbers_in_range (object ms) = member_numbers_in_range ms
+  pub all_numbers_in_range : Json → Bool
+  all_numbers_in_range null = true
+  all_numbers_in_range (boolean truth) = true
+  all_numbers_in_range (number text_bytes) = is_number_in_range text_bytes
+  all_numbers_in_range (string text_bytes) = true
+  all_numbers_in_range (array json_items) = item_numbers_in_range json_items
+  all_numbers_in_range (object json_members) = member_numbers_in_range json_members
 
   pub item_numbers_in_range : Items → Bool
   item_numbers_in_range no_items = true
-  item_numbers_in_range (item j js) = numbers_in_range j && item_numbers_in_range js
+  item_numbers_in_range (item json_value json_items) =
+      all_numbers_in_range json_value && item_numbers_in_range json_items
 
   pub member_numbers_in_range : Members → Bool
   member_numbers_in_range no_members = true
-  member_numbers_in_range (member k j ms) = numbers_in_range j && member_numbers_in_range ms
+  member_numbers_in_range (member member_key json_value json_members) =
+      all_numbers_in_range json_value && member_numbers_in_range json_members
 
 -- the value that was read, if it passes the test
-abbrev pub if_valid : {A : Type 0} → (A → Bool) → Option (A × List Token) → Option (A × List Token)
-if_valid f None = None
-if_valid f (Some p) = if f p.0 then Some p else None
+abbrev pub if_valid : {A : Type 0} → (is_valid : A → Bool) → (parse_result : Option (A × List Token))
+    → Option (A × List Token)
+if_valid is_valid None = None
+if_valid is_valid (Some parsed) = if is_valid parsed.0 then Some parsed else None
 
 -- ---- the text
 
 -- this text was appended, and the next value needs a comma or not
-pub record Appended (old : Normalizer) (s : List ℕ) (after : Bool) (new : Normalizer) : Type 0 where
+pub record TextAppended (old : Normalizer) (text_bytes : List ℕ) (comma_needed_next : Bool)
+    (new : Normalizer) : Type 0 where
   pub arrangement : new.arrangement ≡ old.arrangement
-  pub needs_comma : new.needs_comma ≡ after
-  pub text : new.text.items ≡ old.text.items ++ s
+  pub needs_comma : new.needs_comma ≡ comma_needed_next
+  pub text : new.text.items ≡ old.text.items ++ text_bytes
 
 -- the same, with a comma before it if one is needed
-abbrev pub AppendedAfterComma : Normalizer → List ℕ → Bool → Normalizer → Type 0
-AppendedAfterComma old s needs_comma new = Appended old (comma_if old.needs_comma ++ s) needs_comma new
+abbrev pub AppendedAfterComma : (old : Normalizer) → (appended : List ℕ) → (needs_comma : Bool) → (new : Normalizer)
+    → Type 0
+AppendedAfterComma old text_bytes needs_comma new =
+    TextAppended old (comma_if old.needs_comma ++ text_bytes) needs_comma new
 
-abbrev pub ValueAppended : Normalizer → Json → Normalizer → Type 0
-ValueAppended old j new = AppendedAfterComma old (print (json_tokens j)) true new
+abbrev pub ValueAppended : (old : Normalizer) → Json → (new : Normalizer) → Type 0
+ValueAppended old json_value new = AppendedAfterComma old (print (json_tokens json_value)) true new
 
 -- something was read, these tokens remain, and the value of it was appended
-abbrev pub NormalizesRead : {A : Type 0} → Option (A × List Token) → (A → Json) → List Token → Normalizer → Normalizer → Type 0
-NormalizesRead {A} read given rest old new = (a : A) × (read ≡ Some (a, rest)) × ValueAppended old (given a) new
+abbrev pub ReadAndNormalized : {A : Type 0} → (read_result : Option (A × List Token)) → (json_of_read : A → Json)
+    → (remaining_tokens : List Token) → (old : Normalizer)
+    → (new : Normalizer) → Type 0
+ReadAndNormalized {A} read_result json_of_read remaining_tokens old new = (value_read : A)
+    × (read_result ≡ Some (value_read, remaining_tokens)) × ValueAppended old (json_of_read value_read) new
 
 -- an object was opened, whose members start here
-abbrev pub ObjectOpened : Normalizer → ℕ → Normalizer → Type 0
+abbrev pub ObjectOpened : (old : Normalizer) → (start : ℕ) → (new : Normalizer) → Type 0
 ObjectOpened old start new = (start ≡ length new.text.items) × AppendedAfterComma old (123 ∷ []) false new
 
 -- a member was opened, whose text starts here in its object
-abbrev pub MemberOpened : Normalizer → ℕ → List ℕ → ℕ → Normalizer → Type 0
-MemberOpened old start k place new = (place ≡ length (old.text.items ++ comma_if old.needs_comma) - start)
-    × AppendedAfterComma old (quoted k ++ 58 ∷ []) false new
+abbrev pub MemberOpened : (old : Normalizer) → (start : ℕ) → (member_key : List ℕ) → (offset_in_object : ℕ)
+    → (new : Normalizer) → Type 0
+MemberOpened old start member_key offset_in_object new =
+    (offset_in_object ≡ length (old.text.items ++ comma_if old.needs_comma) - start)
+    × AppendedAfterComma old (quoted member_key ++ 58 ∷ []) false new
 
 -- ---- the members of an object
 
@@ -92,24 +103,26 @@ abbrev pub JsonMember : Type 0
 JsonMember = List ℕ × Json
 
 abbrev pub json_entry_key : JsonMember → List ℕ
-json_entry_key e = e.0
+json_entry_key json_entry = json_entry.0
 
 abbrev pub json_entry_value : JsonMember → Json
-json_entry_value e = e.1
+json_entry_value json_entry = json_entry.1
 
 abbrev pub entry_members : List JsonMember → Members
 entry_members = members_of json_entry_key json_entry_value
 
-abbrev pub put_json_members : Arrangement → List JsonMember → Members
-put_json_members a es = put_all_members json_entry_key json_entry_value a es no_members
+abbrev pub put_json_members : Arrangement → (json_entries : List JsonMember) → Members
+put_json_members key_order json_entries =
+    put_all_members json_entry_key json_entry_value key_order json_entries no_members
 
 abbrev pub member_text : JsonMember → List ℕ
-member_text e = quoted e.0 ++ 58 ∷ print (json_tokens e.1)
+member_text json_entry = quoted json_entry.0 ++ 58 ∷ print (json_tokens json_entry.1)
 
 -- the texts with commas between them
-abbrev pub member_texts : Bool → List JsonMember → List ℕ
-member_texts needs_comma [] = []
-member_texts needs_comma (e ∷ es) = comma_if needs_comma ++ (member_text e ++ member_texts true es)
+abbrev pub comma_if_then_member_texts : (needs_comma : Bool) → (json_entries : List JsonMember) → List ℕ
+comma_if_then_member_texts needs_comma [] = []
+comma_if_then_member_texts needs_comma (json_entry ∷ json_entries) =
+    comma_if needs_comma ++ (member_text json_entry ++ comma_if_then_member_texts true json_entries)
 
 -- ---- the spans of members
 
@@ -118,97 +131,126 @@ abbrev pub MemberSpanValues : Type 0
 MemberSpanValues = ℕ → Json
 
 abbrev pub member_span_key : MemberSpan → List ℕ
-member_span_key p = p.key.now
+member_span_key member_span = member_span.key.now
 
-abbrev pub span_place : MemberSpan → ℕ
-span_place p = p.place
+abbrev pub span_offset : MemberSpan → ℕ
+span_offset member_span = member_span.offset_in_object
 
 abbrev pub span_value : MemberSpanValues → MemberSpan → Json
-span_value values p = values p.start
+span_value values member_span = values member_span.start
 
-abbrev pub member_span_text : List ℕ → MemberSpan → List ℕ
-member_span_text body p = slice_range body p.start p.end
+abbrev pub member_span_text : (body : List ℕ) → MemberSpan → List ℕ
+member_span_text body member_span = slice_range body member_span.start member_span.end
 
 -- the position of the first with the text of the second
-abbrev pub merge : MemberSpan → MemberSpan → MemberSpan
-merge p q = record { key = p.key; place = p.place; start = q.start; end = q.end }
+abbrev pub merge : (member_span other_span : MemberSpan) → MemberSpan
+merge member_span other_span =
+    record { key = member_span.key; offset_in_object = member_span.offset_in_object; start = other_span.start; end = other_span.end }
 
 abbrev pub entry_at : MemberSpanValues → MemberSpan → JsonMember
-entry_at values p = (member_span_key p, values p.start)
+entry_at values member_span = (member_span_key member_span, values member_span.start)
 
-abbrev pub IsMemberSpanWithin : List ℕ → MemberSpan → Type 0
-IsMemberSpanWithin body p = (p.start < p.end) × (p.end ≤ length body)
+abbrev pub IsMemberSpanWithin : (body : List ℕ) → MemberSpan → Type 0
+IsMemberSpanWithin body member_span = (member_span.start < member_span.end) × (member_span.end ≤ length body)
 
-abbrev pub IsSpan : List ℕ → MemberSpanValues → MemberSpan → Type 0
-IsSpan body values p = IsMemberSpanWithin body p × (member_span_text body p ≡ member_text (entry_at values p))
+abbrev pub IsMemberSpanOf : (body : List ℕ) → MemberSpanValues → MemberSpan → Type 0
+IsMemberSpanOf body values member_span = IsMemberSpanWithin body member_span
+    × (member_span_text body member_span ≡ member_text (entry_at values member_span))
 
 -- there is an entry
-abbrev pub is_nonempty : List JsonMember → Bool
-is_nonempty [] = false
-is_nonempty (e ∷ es) = true
+abbrev pub has_entries : List JsonMember → Bool
+has_entries [] = false
+has_entries (json_entry ∷ json_entries) = true
 
 -- the spans are the texts of these entries, concatenated
-pub record SpansMatch (body : List ℕ) (ps : List MemberSpan) (es : List JsonMember) : Type 0 where
+pub record SpansMatch (body : List ℕ) (member_spans : List MemberSpan) (json_entries : List JsonMember) : Type 0 where
   pub values : MemberSpanValues
-  pub spelled_is : body ≡ member_texts false es
-  pub entries : map (entry_at values) ps ≡ es
-  pub all : All (IsSpan body values) ps
-  pub rise : PositionsAscend span_place 0 ps
-  pub below : All (λ p. p.place < length body) ps
+  pub body_is_member_texts : body ≡ comma_if_then_member_texts false json_entries
+  pub entries : map (entry_at values) member_spans ≡ json_entries
+  pub all : All (IsMemberSpanOf body values) member_spans
+  pub rise : PositionsAscend span_offset 0 member_spans
+  pub below : All (λ member_span. member_span.offset_in_object < length body) member_spans
 
 -- the spans are those of the entries that normalizing the first entries gives
-abbrev pub SpansMatchNormalized : Arrangement → List JsonMember → List ℕ → List MemberSpan → Type 0
-SpansMatchNormalized a es body ps = (fs : List JsonMember) × SpansMatch body ps fs × (entry_members fs ≡ put_json_members a es)
+abbrev pub SpansMatchNormalized : Arrangement → (first_entries : List JsonMember) → (body : List ℕ)
+    → (member_spans : List MemberSpan)
+    → Type 0
+SpansMatchNormalized key_order json_entries body member_spans = (normalized_entries : List JsonMember)
+    × SpansMatch body member_spans normalized_entries
+    × (entry_members normalized_entries ≡ put_json_members key_order json_entries)
 
 -- the spans are normalized in the old text, or in this new text
-abbrev pub SpansNormalized : Arrangement → List ℕ → List MemberSpan → List MemberSpan → Option (Vec ℕ Global) → Type 0
-SpansNormalized a body old new text = (es : List JsonMember) → SpansMatch body old es
-    → MatchOption text (SpansMatchNormalized a es body new) (λ t. SpansMatchNormalized a es t.items new)
+abbrev pub SpansNormalized : Arrangement → (body : List ℕ) → (spans_before spans_after : List MemberSpan)
+    → (text : Option (Vec ℕ Global)) → Type 0
+SpansNormalized key_order body spans_before spans_after text = (json_entries : List JsonMember)
+    → SpansMatch body spans_before json_entries
+    → MatchOption text (SpansMatchNormalized key_order json_entries body spans_after)
+    (λ joined_text. SpansMatchNormalized key_order json_entries joined_text.items spans_after)
 
 -- the members of the object that starts here are normalized
-abbrev pub IsObjectNormalized : Normalizer → ℕ → List MemberSpan → List MemberSpan → Normalizer → Type 0
-IsObjectNormalized w start old new later = (later.arrangement ≡ w.arrangement) × (later.needs_comma ≡ w.needs_comma)
-    × ((front body : List ℕ) (es : List JsonMember) → w.text.items ≡ front ++ body → start ≡ length front
-    → SpansMatch body old es
-    → (t : List ℕ) × (later.text.items ≡ front ++ t) × SpansMatchNormalized w.arrangement es t new)
+abbrev pub IsObjectNormalized : (normalizer_before : Normalizer) → (start : ℕ)
+    → (spans_before spans_after : List MemberSpan) → (normalizer_after : Normalizer)
+    → Type 0
+IsObjectNormalized normalizer_before start spans_before spans_after normalizer_after =
+    (normalizer_after.arrangement ≡ normalizer_before.arrangement)
+    × (normalizer_after.needs_comma ≡ normalizer_before.needs_comma)
+    × ((text_before_object body : List ℕ) (json_entries : List JsonMember)
+    → normalizer_before.text.items ≡ text_before_object ++ body → start ≡ length text_before_object
+    → SpansMatch body spans_before json_entries
+    → (joined_text : List ℕ) × (normalizer_after.text.items ≡ text_before_object ++ joined_text)
+    × SpansMatchNormalized normalizer_before.arrangement json_entries joined_text spans_after)
 
 -- the same before the object ends: the normalized members stay the same
-abbrev pub IsObjectNormalizedEarly : Normalizer → ℕ → List MemberSpan → List MemberSpan → Normalizer → Type 0
-IsObjectNormalizedEarly w start old new later = (later.arrangement ≡ w.arrangement) × (later.needs_comma ≡ w.needs_comma)
-    × ((front body : List ℕ) (es : List JsonMember) → w.text.items ≡ front ++ body → start ≡ length front
-    → SpansMatch body old es
-    → (t : List ℕ) × (fs : List JsonMember) × (later.text.items ≡ front ++ t) × SpansMatch t new fs
-    × (put_json_members w.arrangement fs ≡ put_json_members w.arrangement es) × (is_nonempty fs ≡ is_nonempty es))
+abbrev pub IsObjectNormalizedEarly : (normalizer_before : Normalizer) → (start : ℕ)
+    → (spans_before spans_after : List MemberSpan)
+    → (normalizer_after : Normalizer) → Type 0
+IsObjectNormalizedEarly normalizer_before start spans_before spans_after normalizer_after =
+    (normalizer_after.arrangement ≡ normalizer_before.arrangement)
+    × (normalizer_after.needs_comma ≡ normalizer_before.needs_comma)
+    × ((text_before_object body : List ℕ) (json_entries : List JsonMember)
+    → normalizer_before.text.items ≡ text_before_object ++ body → start ≡ length text_before_object
+    → SpansMatch body spans_before json_entries
+    → (joined_text : List ℕ) × (normalized_entries : List JsonMember)
+    × (normalizer_after.text.items ≡ text_before_object ++ joined_text)
+    × SpansMatch joined_text spans_after normalized_entries
+    × (put_json_members normalizer_before.arrangement normalized_entries
+    ≡ put_json_members normalizer_before.arrangement json_entries)
+    × (has_entries normalized_entries ≡ has_entries json_entries))
 
 -- the texts of the spans are concatenated
-abbrev pub IsJoined : List ℕ → List MemberSpan → List MemberSpan → List ℕ → Type 0
-IsJoined body old new text = (values : MemberSpanValues) → All (IsSpan body values) old
-    → SpansMatch text new (map (entry_at values) old)
+abbrev pub AreSpansJoined : (body : List ℕ) → (spans_before spans_after : List MemberSpan) → (joined : List ℕ) → Type 0
+AreSpansJoined body spans_before spans_after text = (values : MemberSpanValues)
+    → All (IsMemberSpanOf body values) spans_before
+    → SpansMatch text spans_after (map (entry_at values) spans_before)
 
 -- ---- their order
 
 -- the keys are in the order of the arrangement, each once
-abbrev pub AreInOrder : Arrangement → List (List ℕ) → Type 0
-AreInOrder a ks = KeysAscendFrom None ks ⊎ ((a ≡ FirstPositions) × AreDistinct ks)
+abbrev pub AreKeysInOrder : Arrangement → (key_list : List (List ℕ)) → Type 0
+AreKeysInOrder key_order key_list = KeysAscendFrom None key_list ⊎ ((key_order ≡ FirstPositions) × AreDistinct key_list)
 
 -- no span before this one has its key
-abbrev pub IsNewKeyAt : List MemberSpan → ℕ → Type 0
-IsNewKeyAt ps at = (i : ℕ) (d : MemberSpan) → i < at
-    → member_span_key (slice_index_or ps i d) ≢ member_span_key (slice_index_or ps at d)
+abbrev pub IsFirstSpanOfKey : (member_spans : List MemberSpan) → (span_index : ℕ) → Type 0
+IsFirstSpanOfKey member_spans span_index = (earlier_index : ℕ) (default_span : MemberSpan) → earlier_index < span_index
+    → member_span_key (slice_index_or member_spans earlier_index default_span) ≢ member_span_key
+    (slice_index_or member_spans span_index default_span)
 
--- spans in ascending key order, put in the order of the arrangement
-abbrev pub AreArranged : Arrangement → List MemberSpan → List MemberSpan → Type 0
-AreArranged FirstPositions ms zs = IsPermutation ms zs × Sorted.IsSortedByKey span_place nat_cmp zs
-AreArranged Ascending ms zs = zs ≡ ms
+-- spans in ascending key order, rearranged in the order of the arrangement
+abbrev pub AreSpansArranged : Arrangement → (spans_before spans_after : List MemberSpan) → Type 0
+AreSpansArranged FirstPositions spans_before spans_after = IsPermutation spans_before spans_after
+    × Sorted.IsSortedByKey span_offset nat_cmp spans_after
+AreSpansArranged Ascending spans_before spans_after = spans_after ≡ spans_before
 
 -- by key, and spans of one key by position
-abbrev pub key_and_place_cmp : MemberSpan → MemberSpan → Ordering
-key_and_place_cmp p q =
-    ordering_then (slice_cmp nat_cmp (member_span_key p) (member_span_key q)) (nat_cmp (span_place p) (span_place q))
+abbrev pub key_and_offset_cmp : (member_span other_span : MemberSpan) → Ordering
+key_and_offset_cmp member_span other_span =
+    ordering_then (slice_cmp nat_cmp (member_span_key member_span) (member_span_key other_span))
+    (nat_cmp (span_offset member_span) (span_offset other_span))
 
 -- each key once, in the order of the arrangement: with the position of its first span and the text of its last
-pub record AreOrdered (a : Arrangement) (xs zs : List MemberSpan) : Type 0 where
-  pub ys : List MemberSpan
-  pub same : IsPermutation xs ys
-  pub sorted : Sorted.IsSortedBy (λ p q. is_lt (key_and_place_cmp p q)) ys
-  pub placed : AreArranged a (merged member_span_key merge ys) zs
+pub record AreSpansOrdered (key_order : Arrangement) (spans_before spans_after : List MemberSpan) : Type 0 where
+  pub sorted_spans : List MemberSpan
+  pub same : IsPermutation spans_before sorted_spans
+  pub sorted : Sorted.IsSortedBy
+      (λ member_span other_span. is_lt (key_and_offset_cmp member_span other_span)) sorted_spans
+  pub placed : AreSpansArranged key_order (merged member_span_key merge sorted_spans) spans_after

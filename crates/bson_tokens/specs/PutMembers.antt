@@ -11,43 +11,47 @@ use Rattle.bson_tokens.specs.declared.arrangement.Arrangement.{Arrangement}
 -- ---- keys
 
 -- the key is greater than the last one, by bytes
-abbrev pub KeyFollows : Option (List ℕ) → List ℕ → Type 0
-KeyFollows None k = Unit {0}
-KeyFollows (Some l) k = slice_cmp nat_cmp l k ≡ Less
+abbrev pub KeyIsGreater : (previous_key : Option (List ℕ)) → (next_key : List ℕ) → Type 0
+KeyIsGreater None key_bytes = Unit {0}
+KeyIsGreater (Some previous) key_bytes = slice_cmp nat_cmp previous key_bytes ≡ Less
 
 -- each key is greater than the one before it
-abbrev pub KeysAscendFrom : Option (List ℕ) → List (List ℕ) → Type 0
-KeysAscendFrom last [] = Unit {0}
-KeysAscendFrom last (k ∷ ks) = KeyFollows last k × KeysAscendFrom (Some k) ks
+abbrev pub KeysAscendFrom : (previous_key : Option (List ℕ)) → (later_keys : List (List ℕ)) → Type 0
+KeysAscendFrom previous_key [] = Unit {0}
+KeysAscendFrom previous_key (key_bytes ∷ later_keys) = KeyIsGreater previous_key key_bytes
+    × KeysAscendFrom (Some key_bytes) later_keys
 
 -- ---- places
 
-module _ {M : Type 0} (place_of : M → ℕ) where
+module _ {Entry : Type 0} (place_of : Entry → ℕ) where
   -- each position is after the one before it, and the first is not before the lowest
-  abbrev pub PositionsAscend : ℕ → List M → Type 0
-  PositionsAscend lowest [] = Unit {0}
-  PositionsAscend lowest (m ∷ ms) = (lowest ≤ place_of m) × PositionsAscend (place_of m + 1) ms
+  abbrev pub PositionsAscend : (least_position : ℕ) → List Entry → Type 0
+  PositionsAscend least_position [] = Unit {0}
+  PositionsAscend least_position (entry ∷ entries) = (least_position ≤ place_of entry)
+      × PositionsAscend (place_of entry + 1) entries
 
 -- ---- members
 
-module _ {M : Type 0} (key_of : M → List ℕ) where
-  module _ (value_of : M → Json) where
-    abbrev pub members_of : List M → Members
+module _ {Entry : Type 0} (key_of : Entry → List ℕ) where
+  module _ (value_of : Entry → Json) where
+    abbrev pub members_of : List Entry → Members
     members_of [] = no_members
-    members_of (m ∷ ms) = member (key_of m) (value_of m) (members_of ms)
+    members_of (entry ∷ entries) = member (key_of entry) (value_of entry) (members_of entries)
 
     -- the members after each item is inserted
-    abbrev pub put_all_members : Arrangement → List M → Members → Members
-    put_all_members a [] found = found
-    put_all_members a (m ∷ ms) found = put_all_members a ms (put_member a (key_of m) (value_of m) found)
+    abbrev pub put_all_members : Arrangement → List Entry → Members → Members
+    put_all_members key_order [] members_so_far = members_so_far
+    put_all_members key_order (entry ∷ entries) members_so_far =
+        put_all_members key_order entries (put_member key_order (key_of entry) (value_of entry) members_so_far)
 
   -- adjacent items with one key, merged into one
-  module _ (merge : M → M → M) where
-    abbrev pub merged_from : M → List M → List M
-    merged_from m [] = m ∷ []
-    merged_from m (n ∷ ns) =
-        if bytes_eq (key_of n) (key_of m) then merged_from (merge m n) ns else m ∷ merged_from n ns
+  module _ (merge : Entry → Entry → Entry) where
+    abbrev pub merged_from : Entry → List Entry → List Entry
+    merged_from entry [] = entry ∷ []
+    merged_from entry (next_entry ∷ later_entries) =
+        if bytes_eq (key_of next_entry) (key_of entry) then merged_from (merge entry next_entry) later_entries
+        else entry ∷ merged_from next_entry later_entries
 
-    abbrev pub merged : List M → List M
+    abbrev pub merged : List Entry → List Entry
     merged [] = []
-    merged (m ∷ ms) = merged_from m ms
+    merged (entry ∷ entries) = merged_from entry entries

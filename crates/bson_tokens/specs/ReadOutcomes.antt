@@ -8,14 +8,19 @@ use Rattle.json.specs.declared.error.Error.{Error}
 use Rattle.json.specs.declared.error.Error.TheVariants.{Invalid}
 
 -- no tree was read, unless memory ran out
-abbrev pub InvalidIfNotRead : {X : Type 0} → Option X → Error → Type 0
-InvalidIfNotRead tree e = e ≡ Invalid → tree ≡ None
+abbrev pub NothingReadIfInvalid : {X : Type 0} → (tree : Option X) → Error → Type 0
+NothingReadIfInvalid tree read_error = read_error ≡ Invalid → tree ≡ None
 
 -- the members are read to the end of the object, added to those before them
-abbrev pub MembersAre : ℕ → Members → List Token → Members → List Token → Type 0
-MembersAre depth old ts new rest = (n : ℕ) → length ts ≤ n
-    → converted (λ js. of_members js old) (members (value depth) n ts) ≡ Some (new, rest)
+abbrev pub MembersAreReadInto : (depth : ℕ) → (members_before : Members) → (input_tokens : List Token)
+    → (members_after : Members) → (remaining_tokens : List Token) → Type 0
+MembersAreReadInto depth members_before input_tokens members_after remaining_tokens = (fuel : ℕ)
+    → length input_tokens ≤ fuel
+    → converted (λ json_members. of_members json_members members_before) (members (value depth) fuel input_tokens)
+    ≡ Some (members_after, remaining_tokens)
 
 -- they are not read, since the text is not valid
-abbrev pub ReadsNoMembers : ℕ → List Token → Type 0
-ReadsNoMembers depth ts = (old : Members) (n : ℕ) → converted (λ js. of_members js old) (members (value depth) n ts) ≡ None
+abbrev pub ReadsNoMembers : (depth : ℕ) → (input_tokens : List Token) → Type 0
+ReadsNoMembers depth input_tokens = (members_before : Members) (fuel : ℕ)
+    → converted (λ json_members. of_members json_members members_before) (members (value depth) fuel input_tokens)
+    ≡ None

@@ -7,6 +7,7 @@ use Rattle.bson_tree.specs.Place.{HasValueIn, IsFirstFaultIn}
 use Rattle.bson_tree.specs.declared.place.Place.{Place}
 
 -- the text has a tree; the tree has a value, or its first error is at this path, for its reason
-abbrev pub IsTextPlaceIn : Doubles → List ℕ → Option Place → Type 0
+abbrev pub IsTextPlaceIn : Doubles → (text : List ℕ) → (place : Option Place) → Type 0
 IsTextPlaceIn doubles text place =
-    (t : Data) × (read text ≡ Some t) × MatchOption place (HasValueIn doubles t) (IsFirstFaultIn doubles t)
+    (text_tree : Data) × (read text ≡ Some text_tree)
+    × MatchOption place (HasValueIn doubles text_tree) (IsFirstFaultIn doubles text_tree)

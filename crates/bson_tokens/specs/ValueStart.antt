@@ -13,21 +13,26 @@ use Rattle.bson_tokens.specs.declared.value_start.ValueStart.TheVariants as star
 
 abbrev pub primitive_tree : Primitive → Data
 primitive_tree Null = null
-primitive_tree (Bool b) = boolean b
-primitive_tree (Number n) = number (number_view n)
-primitive_tree (String s) = string s.now
+primitive_tree (Bool truth) = boolean truth
+primitive_tree (Number number_value) = number (number_view number_value)
+primitive_tree (String scalar_text) = string scalar_text.now
 
 -- the primitive is of this JSON
 abbrev pub IsPrimitive : Primitive → json.Json → Type 0
-IsPrimitive Null j = j ≡ json.null
-IsPrimitive (Bool b) j = j ≡ json.boolean b
-IsPrimitive (Number n) j = (s : List ℕ) × (j ≡ json.number s) × (number_of s ≡ Some (number_view n))
-IsPrimitive (String s) j = j ≡ json.string s.now
+IsPrimitive Null json_value = json_value ≡ json.null
+IsPrimitive (Bool truth) json_value = json_value ≡ json.boolean truth
+IsPrimitive (Number number_value) json_value = (scalar_text : List ℕ) × (json_value ≡ json.number scalar_text)
+    × (number_of scalar_text ≡ Some (number_view number_value))
+IsPrimitive (String scalar_text) json_value = json_value ≡ json.string scalar_text.now
 
 -- a value starts in this way, and these tokens remain: after the value, or after its bracket or brace
-abbrev pub StartsValue : ℕ → List Token → ValueStart → List Token → Type 0
-StartsValue depth ts (start.Primitive p) rest = (j : json.Json) × (value depth ts ≡ Some (j, rest)) × IsPrimitive p j
-StartsValue depth ts start.Array rest = (0 < depth)
-    × (value depth ts ≡ parse_map json.array (items (value (depth - 1)) (length rest) rest))
-StartsValue depth ts start.Object rest = (0 < depth)
-    × (value depth ts ≡ parse_map json.object (members (value (depth - 1)) (length rest) rest))
+abbrev pub StartsValue : (depth : ℕ) → (input_tokens : List Token) → ValueStart → (remaining_tokens : List Token)
+    → Type 0
+StartsValue depth input_tokens (start.Primitive primitive_value) remaining_tokens = (json_value : json.Json)
+    × (value depth input_tokens ≡ Some (json_value, remaining_tokens)) × IsPrimitive primitive_value json_value
+StartsValue depth input_tokens start.Array remaining_tokens = (0 < depth)
+    × (value depth input_tokens
+    ≡ parse_map json.array (items (value (depth - 1)) (length remaining_tokens) remaining_tokens))
+StartsValue depth input_tokens start.Object remaining_tokens = (0 < depth)
+    × (value depth input_tokens
+    ≡ parse_map json.object (members (value (depth - 1)) (length remaining_tokens) remaining_tokens))

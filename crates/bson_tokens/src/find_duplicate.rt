@@ -1,12 +1,12 @@
 //! The search for the first duplicate key.
 ghost use Rattle.std.specs.Prelude.{◌<◌, [], length, IfOk, IfErr, OnOk};
 ghost use Rattle.json.specs.Json.{value, items, members};
-ghost use Rattle.bson_tokens.specs.ReadOutcomes.{InvalidIfNotRead};
+ghost use Rattle.bson_tokens.specs.ReadOutcomes.{NothingReadIfInvalid};
 ghost use Rattle.bson_tokens.specs.DuplicateKeys.{json_of, IsFirstDuplicate};
 ghost use Rattle.bson_tokens.specs.DuplicateKeyPath.{FindsDuplicate, first_duplicate, first_duplicate_in_items, first_duplicate_in_members};
 
 use crate::MAX_DEPTH;
-use crate::key_path::{KeyPath, first_or_item_path, first_or_member_path};
+use crate::key_path::{KeyPath, first_or_element_path, first_or_member_path};
 use json::{Error, Reader, Scratch, Token};
 use std::alloc::Global;
 use std::collections::BTreeSet;
@@ -29,15 +29,15 @@ use std::collections::BTreeSet;
 /// ```
 pub fn first_duplicate_key(alloc: Global, text: &str) -> Result<Option<KeyPath>, Error>
     ensures ok { IfOk result (λ path. IsFirstDuplicate text.now path) }
-    ensures broken { IfErr result (InvalidIfNotRead (json_of text.now)) }
+    ensures broken { IfErr result (NothingReadIfInvalid (json_of text.now)) }
 {
     let mut scratch = Scratch::new(alloc);
     let mut reader = Reader::new(text, &mut scratch)?;
-    let found = find_in_value(alloc, &mut reader, MAX_DEPTH)?;
+    let duplicate_path = find_in_value(alloc, &mut reader, MAX_DEPTH)?;
     if reader.next().is_some() {
         return Err(Error::Invalid);
     }
-    Ok(found)
+    Ok(duplicate_path)
 }
 
 #[cycle(walk)]
@@ -47,7 +47,7 @@ fn find_in_value(
     depth: usize,
 ) -> Result<Option<KeyPath>, Error>
     ensures ok { IfOk result (λ path. FindsDuplicate first_duplicate (value depth reader.old) path reader.new) }
-    ensures broken { IfErr result (InvalidIfNotRead (value depth reader.old)) }
+    ensures broken { IfErr result (NothingReadIfInvalid (value depth reader.old)) }
     ensures shorter { OnOk result (length reader.new < length reader.old) }
 {
     let token = reader.next().ok_or(Error::Invalid)?;
@@ -77,18 +77,19 @@ fn find_in_items(
     depth: usize,
 ) -> Result<Option<KeyPath>, Error>
     ensures ok { IfOk result
-        (λ path. FindsDuplicate (first_duplicate_in_items 0) (items (value depth) (length reader.old) reader.old) path reader.new) }
-    ensures broken { IfErr result (InvalidIfNotRead (items (value depth) (length reader.old) reader.old)) }
+        (λ path. FindsDuplicate (first_duplicate_in_items 0)
+        (items (value depth) (length reader.old) reader.old) path reader.new) }
+    ensures broken { IfErr result (NothingReadIfInvalid (items (value depth) (length reader.old) reader.old)) }
     ensures shorter { OnOk result (length reader.new < length reader.old) }
 {
-    let mut at = 0usize;
-    let mut first: Option<KeyPath> = None;
+    let mut item_index = 0usize;
+    let mut earliest_path: Option<KeyPath> = None;
     'items: while !reader.take_end_array() {
-        let item = find_in_value(alloc, reader, depth)?;
-        first = first_or_item_path(first, item, at)?;
-        at = at.checked_add(1).ok_or(Error::OutOfMemory)?;
+        let path_in_item = find_in_value(alloc, reader, depth)?;
+        earliest_path = first_or_element_path(earliest_path, path_in_item, item_index)?;
+        item_index = item_index.checked_add(1).ok_or(Error::OutOfMemory)?;
     }
-    Ok(first)
+    Ok(earliest_path)
 }
 
 // Searches the members of an object after its brace.
@@ -99,18 +100,25 @@ fn find_in_members(
     depth: usize,
 ) -> Result<Option<KeyPath>, Error>
     ensures ok { IfOk result
-        (λ path. FindsDuplicate (first_duplicate_in_members []) (members (value depth) (length reader.old) reader.old) path reader.new) }
-    ensures broken { IfErr result (InvalidIfNotRead (members (value depth) (length reader.old) reader.old)) }
+        (λ path. FindsDuplicate (first_duplicate_in_members [])
+        (members (value depth) (length reader.old) reader.old) path reader.new) }
+    ensures broken { IfErr result (NothingReadIfInvalid (members (value depth) (length reader.old) reader.old)) }
     ensures shorter { OnOk result (length reader.new < length reader.old) }
 {
     let mut keys = BTreeSet::new(alloc);
-    let mut first: Option<KeyPath> = None;
-    'members: while let Some(name) = reader.next_key()? {
-        let Ok(is_new) = keys.insert(name) else {
+    let mut earliest_path: Option<KeyPath> = None;
+    'members: while let Some(member_key) = reader.next_key()? {
+        let Ok(is_new) = keys.insert(member_key) else {
             return Err(Error::OutOfMemory);
         };
-        let member = find_in_value(alloc, reader, depth)?;
-        first = first_or_member_path(alloc, first, is_new, name, member)?;
+        let path_in_value = find_in_value(alloc, reader, depth)?;
+        earliest_path = first_or_member_path(
+            alloc,
+            earliest_path,
+            is_new,
+            member_key,
+            path_in_value,
+        )?;
     }
-    Ok(first)
+    Ok(earliest_path)
 }

@@ -11,7 +11,7 @@ ghost use Rattle.serde_json.specs.Read.{read};
 ghost use Rattle.bson_scalar.specs.declared.form.Doubles.{Doubles};
 ghost use Rattle.bson_model.specs.Value.{Value};
 ghost use Rattle.bson_model.specs.OrderedTrees.{read_in_order};
-ghost use Rattle.bson_model.specs.DuplicateKeys.{first_places};
+ghost use Rattle.bson_model.specs.DuplicateKeys.{first_occurrences};
 ghost use Rattle.bson_model.specs.OrderedTexts.{HasMeaningInOrder, MeansByDefault};
 ghost use Rattle.bson_tree.specs.Place.{PathSegment};
 ghost use Rattle.bson_tokens.specs.Normalized.{normalized, normalized_members, IsNormalizedText};
@@ -21,10 +21,13 @@ ghost use Rattle.bson_tokens.specs.declared.arrangement.Arrangement.TheVariants.
 
 /// Proves that a value with a duplicate key has no unique keys, and one path to the first such key;
 /// each value that has no unique keys has one.
-pub fn one_double()
-    ensures twice { (j : Json) (path : List PathSegment) → DuplicateAt j path → ¬ HasUniqueKeys j }
-    ensures path { (j : Json) (path other : List PathSegment) → DuplicateAt j path → DuplicateAt j other → path ≡ other }
-    ensures some { (j : Json) → ¬ HasUniqueKeys j → (path : List PathSegment) × DuplicateAt j path }
+pub fn one_duplicate_path()
+    ensures has_duplicate_key { (json_value : Json) (path : List PathSegment) → DuplicateAt json_value path
+        → ¬ HasUniqueKeys json_value }
+    ensures path { (json_value : Json) (path other_path : List PathSegment) → DuplicateAt json_value path
+        → DuplicateAt json_value other_path → path ≡ other_path }
+    ensures path_exists { (json_value : Json) → ¬ HasUniqueKeys json_value → (path : List PathSegment)
+        × DuplicateAt json_value path }
 {}
 
 /// Proves that the normalized text is read as the text is: by first places as a tree in the order
@@ -32,33 +35,39 @@ pub fn one_double()
 pub fn normalized_texts_read_alike()
     ensures in_order { (text written : List ℕ) → IsNormalizedText FirstPositions text written
         → read_in_order written ≡ read_in_order text }
-    ensures by_key { (a : Arrangement) (text written : List ℕ) → IsNormalizedText a text written
+    ensures by_default { (key_order : Arrangement) (text written : List ℕ) → IsNormalizedText key_order text written
         → read written ≡ read text }
 {}
 
-/// Proves that an normalized tree has each key of an object once and nests no deeper than the tree;
+/// Proves that a normalized tree has each key of an object once and nests no deeper than the tree;
 /// normalized again it is the same.
 pub fn normalized_once()
-    ensures unique { (a : Arrangement) (j : Json) → HasUniqueKeys (normalized a j) }
-    ensures no_deeper { (a : Arrangement) (j : Json) → depth (normalized a j) ≤ depth j }
-    ensures again { (a : Arrangement) (j : Json) → normalized a (normalized a j) ≡ normalized a j }
+    ensures unique { (key_order : Arrangement) (json_value : Json) → HasUniqueKeys (normalized key_order json_value) }
+    ensures no_deeper { (key_order : Arrangement) (json_value : Json)
+        → depth (normalized key_order json_value) ≤ depth json_value }
+    ensures normalized_again { (key_order : Arrangement) (json_value : Json)
+        → normalized key_order (normalized key_order json_value) ≡ normalized key_order json_value }
 {}
 
-/// Proves that an normalized object has each key at its first place or by ascending bytes, with what
-/// stands last at it in the object, normalized.
+/// Proves that a normalized object has each key at its first place or by ascending bytes, with its
+/// last value in the object, normalized.
 pub fn normalized_places()
-    ensures first { (ms : Members) → keys (normalized_members FirstPositions ms no_members) ≡ first_places (keys ms) }
-    ensures ascending { (ms : Members)
-        → IsStrictlySortedBy (slice_cmp nat_cmp) (keys (normalized_members Ascending ms no_members)) }
-    ensures last { (a : Arrangement) (ms : Members) (k : List ℕ)
-        → get_member k (normalized_members a ms no_members) ≡ option_map (normalized a) (get_member k ms) }
+    ensures first_positions { (json_members : Members)
+        → keys (normalized_members FirstPositions json_members no_members) ≡ first_occurrences (keys json_members) }
+    ensures ascending_keys { (json_members : Members)
+        → IsStrictlySortedBy (slice_cmp nat_cmp) (keys (normalized_members Ascending json_members no_members)) }
+    ensures last_values { (key_order : Arrangement) (json_members : Members) (member_key : List ℕ)
+        → get_member member_key (normalized_members key_order json_members no_members)
+        ≡ option_map (normalized key_order) (get_member member_key json_members) }
 {}
 
 /// Proves that a text means the values that its normalized text means: by first places in the order
 /// of the text, and in either arrangement by default.
 pub fn normalized_texts_mean_alike()
-    ensures in_order { (doubles : Doubles) (text written : List ℕ) (v : Value) → IsNormalizedText FirstPositions text written
-        → (HasMeaningInOrder doubles written v ↔ HasMeaningInOrder doubles text v) }
-    ensures by_default { (doubles : Doubles) (a : Arrangement) (text written : List ℕ) (v : Value)
-        → IsNormalizedText a text written → (MeansByDefault doubles written v ↔ MeansByDefault doubles text v) }
+    ensures in_order { (doubles : Doubles) (text written : List ℕ) (bson_value : Value)
+        → IsNormalizedText FirstPositions text written
+        → (HasMeaningInOrder doubles written bson_value ↔ HasMeaningInOrder doubles text bson_value) }
+    ensures by_default { (doubles : Doubles) (key_order : Arrangement) (text written : List ℕ) (bson_value : Value)
+        → IsNormalizedText key_order text written
+        → (MeansByDefault doubles written bson_value ↔ MeansByDefault doubles text bson_value) }
 {}

@@ -1,9 +1,9 @@
 //! Parts of Extended JSON over the tokens of a text, without a tree of the whole.
 //!
-//! In reading order: `start` and `number` (a value of one token), `wrapper_content` (the content of a
+//! In reading order: `value_start`, `number` (a value of one token), `wrapper_content` (content of a
 //! wrapper), `key_prefix` (the first bytes of a key). `find_duplicate` finds the first duplicate key, and `key_path`
 //! has the segments to it. `arrangement` says where members go, `normalize` writes the text with
-//! each key once, by `normalizer` (what is written) and `member_order` (members put in order). `laws` has
+//! each key once, by `normalizer` (what is written) and `member_order` (members in order). `laws` has
 //! the laws of the definitions.
 #![tactic(auto)]
 

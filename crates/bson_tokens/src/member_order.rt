@@ -4,24 +4,24 @@ ghost use Rattle.std.specs.List.{All};
 ghost use Rattle.std.specs.List.Sorted.{IsPermutation, IsSortedBy, IsSortedByKey};
 ghost use Rattle.std.specs.Ordering.{is_lt, nat_cmp};
 ghost use Rattle.serde_json.specs.Written.{comma_if};
-ghost use Rattle.bson_tokens.specs.NormalizerStates.{key_and_place_cmp, merge, member_span_key, span_place};
-ghost use Rattle.bson_tokens.specs.NormalizerStates.{AreOrdered, AreArranged, IsNewKeyAt, IsJoined, IsMemberSpanWithin, SpansNormalized, AreInOrder};
+ghost use Rattle.bson_tokens.specs.NormalizerStates.{key_and_offset_cmp, merge, member_span_key, span_offset};
+ghost use Rattle.bson_tokens.specs.NormalizerStates.{AreSpansOrdered, AreSpansArranged, IsFirstSpanOfKey, AreSpansJoined, IsMemberSpanWithin, SpansNormalized, AreKeysInOrder};
 ghost use Rattle.json.specs.Strict.{AreDistinct};
-ghost use Rattle.bson_tokens.specs.PutMembers.{merged, KeyFollows, KeysAscendFrom};
+ghost use Rattle.bson_tokens.specs.PutMembers.{merged, KeyIsGreater, KeysAscendFrom};
 
 use crate::arrangement::Arrangement;
 use std::alloc::{AllocError, Global};
 use std::cmp::Ordering;
 
 // Among this many members, a duplicate key is searched for by comparing all pairs.
-const MAX_PAIRWISE: usize = 32;
+const MAX_KEYS_COMPARED_PAIRWISE: usize = 32;
 
-// The key of a member, its position among the others, and the span of its text, such as `"a":1`.
+// The key of a member, its position among the others, and the span of its text (`"a":1`).
 // All positions are relative to the start of its object.
 #[derive(Clone, Copy, Drop)]
 pub(crate) struct MemberSpan<'a> {
     pub(crate) key: &'a str,
-    pub(crate) place: usize,
+    pub(crate) offset_in_object: usize,
     pub(crate) start: usize,
     pub(crate) end: usize,
 }
@@ -61,9 +61,9 @@ pub(crate) fn normalize_spans(
 // Returns true if the members are in order, each key once. Many members at first positions are not
 // compared.
 fn are_normalized(arrangement: Arrangement, spans: &Vec<MemberSpan<'_>>) -> bool
-    ensures { result ≡ true → AreInOrder arrangement (map member_span_key spans.now.items) }
+    ensures { result ≡ true → AreKeysInOrder arrangement (map member_span_key spans.now.items) }
 {
-    if spans_ascend(spans) {
+    if span_keys_ascend(spans) {
         return true;
     }
     match arrangement {
@@ -76,11 +76,11 @@ fn are_normalized(arrangement: Arrangement, spans: &Vec<MemberSpan<'_>>) -> bool
 fn are_few_and_distinct(spans: &Vec<MemberSpan<'_>>) -> bool
     ensures { result ≡ true → AreDistinct (map member_span_key spans.now.items) }
 {
-    if spans.len() > MAX_PAIRWISE {
+    if spans.len() > MAX_KEYS_COMPARED_PAIRWISE {
         return false;
     }
-    for at in 1..spans.len() {
-        if is_duplicate_at(spans, at) {
+    for span_index in 1..spans.len() {
+        if is_duplicate_at(spans, span_index) {
             return false;
         }
     }
@@ -88,13 +88,13 @@ fn are_few_and_distinct(spans: &Vec<MemberSpan<'_>>) -> bool
 }
 
 // Returns whether an earlier member has the same key.
-fn is_duplicate_at(spans: &Vec<MemberSpan<'_>>, at: usize) -> bool
-    requires { at < length spans.now.items }
-    ensures { result ≡ false → IsNewKeyAt spans.now.items at }
+fn is_duplicate_at(spans: &Vec<MemberSpan<'_>>, span_index: usize) -> bool
+    requires { span_index < length spans.now.items }
+    ensures { result ≡ false → IsFirstSpanOfKey spans.now.items span_index }
 {
-    let key = spans[at].key;
-    for before in 0..at {
-        if spans[before].key == key {
+    let key = spans[span_index].key;
+    for earlier_index in 0..span_index {
+        if spans[earlier_index].key == key {
             return true;
         }
     }
@@ -103,7 +103,7 @@ fn is_duplicate_at(spans: &Vec<MemberSpan<'_>>, at: usize) -> bool
 
 // Keeps each key once, with the text of its last member.
 fn order_spans(arrangement: Arrangement, spans: &mut Vec<MemberSpan<'_>>)
-    ensures { AreOrdered arrangement spans.old.items spans.new.items }
+    ensures { AreSpansOrdered arrangement spans.old.items spans.new.items }
 {
     sort_by_key(spans);
     merge_equal_keys(spans);
@@ -112,52 +112,57 @@ fn order_spans(arrangement: Arrangement, spans: &mut Vec<MemberSpan<'_>>)
 
 // Puts members that are sorted by key in the order of the arrangement.
 fn arrange_spans(arrangement: Arrangement, spans: &mut Vec<MemberSpan<'_>>)
-    ensures { AreArranged arrangement spans.old.items spans.new.items }
+    ensures { AreSpansArranged arrangement spans.old.items spans.new.items }
 {
     match arrangement {
-        Arrangement::FirstPositions => sort_by_place(spans),
+        Arrangement::FirstPositions => sort_by_offset(spans),
         Arrangement::Ascending => {}
     }
 }
 
 // Returns whether each key is greater than the one before, by bytes.
-fn spans_ascend(spans: &Vec<MemberSpan<'_>>) -> bool
+fn span_keys_ascend(spans: &Vec<MemberSpan<'_>>) -> bool
     ensures { result ≡ true → KeysAscendFrom None (map member_span_key spans.now.items) }
 {
-    let mut last: Option<&str> = None;
-    for at in 0..spans.len() {
-        let key = spans[at].key;
-        if !follows(last, key) {
+    let mut last_key: Option<&str> = None;
+    for span_index in 0..spans.len() {
+        let key = spans[span_index].key;
+        if !key_follows(last_key, key) {
             return false;
         }
-        last = Some(key);
+        last_key = Some(key);
     }
     true
 }
 
 // Returns whether the key is greater than the last one, by bytes.
-fn follows(last: Option<&str>, key: &str) -> bool
-    ensures { result ≡ true → KeyFollows (option_map (λ s. s.now) last.entry) key.now }
+fn key_follows(last_key: Option<&str>, key: &str) -> bool
+    ensures { result ≡ true → KeyIsGreater (option_map (λ key_text. key_text.now) last_key.entry) key.now }
 {
-    match last {
-        Some(last) => last.cmp(key).is_lt(),
+    match last_key {
+        Some(last_key) => last_key.cmp(key).is_lt(),
         None => true,
     }
 }
 
 // Sorts by key, and members with one key by position.
 fn sort_by_key(spans: &mut Vec<MemberSpan<'_>>)
-    ensures same { IsPermutation spans.old.items spans.new.items }
-    ensures sorted { IsSortedBy (λ p q. is_lt (key_and_place_cmp p q)) spans.new.items }
+    ensures permutation { IsPermutation spans.old.items spans.new.items }
+    ensures sorted { IsSortedBy
+        (λ first_span second_span. is_lt (key_and_offset_cmp first_span second_span)) spans.new.items }
 {
-    spans.sort_unstable_by(|one, other| by_key_and_place(one, other));
+    spans.sort_unstable_by(|first_span, second_span| by_key_and_offset(first_span, second_span));
 }
 
-fn by_key_and_place(one: &MemberSpan<'_>, other: &MemberSpan<'_>) -> Ordering
-    ensures { result ≡ key_and_place_cmp one.now other.now }
+fn by_key_and_offset(first_span: &MemberSpan<'_>, second_span: &MemberSpan<'_>) -> Ordering
+    ensures { result ≡ key_and_offset_cmp first_span.now second_span.now }
 {
-    let by_key = one.key.cmp(other.key);
-    by_key.then(one.place.cmp(&other.place))
+    let by_key = first_span.key.cmp(second_span.key);
+    by_key.then(
+        first_span
+            .offset_in_object
+            .cmp(&second_span.offset_in_object),
+    )
 }
 
 // Merges adjacent members with one key into one, with the position of the first and the text of the
@@ -168,28 +173,28 @@ fn merge_equal_keys(spans: &mut Vec<MemberSpan<'_>>)
     if spans.is_empty() {
         return;
     }
-    let mut kept = 0;
-    let mut last = spans[0];
-    'spans: for at in 1..spans.len() {
-        let next = spans[at];
-        if next.key == last.key {
-            last.start = next.start;
-            last.end = next.end;
+    let mut merged_count = 0;
+    let mut last_span = spans[0];
+    'spans: for span_index in 1..spans.len() {
+        let next_span = spans[span_index];
+        if next_span.key == last_span.key {
+            last_span.start = next_span.start;
+            last_span.end = next_span.end;
         } else {
-            spans[kept] = last;
-            kept += 1;
-            last = next;
+            spans[merged_count] = last_span;
+            merged_count += 1;
+            last_span = next_span;
         }
     }
-    spans[kept] = last;
-    spans.truncate(kept + 1);
+    spans[merged_count] = last_span;
+    spans.truncate(merged_count + 1);
 }
 
-fn sort_by_place(spans: &mut Vec<MemberSpan<'_>>)
-    ensures same { IsPermutation spans.old.items spans.new.items }
-    ensures sorted { IsSortedByKey span_place nat_cmp spans.new.items }
+fn sort_by_offset(spans: &mut Vec<MemberSpan<'_>>)
+    ensures permutation { IsPermutation spans.old.items spans.new.items }
+    ensures sorted { IsSortedByKey span_offset nat_cmp spans.new.items }
 {
-    spans.sort_unstable_by_key(|span| span.place);
+    spans.sort_unstable_by_key(|span| span.offset_in_object);
 }
 
 // Concatenates the texts of the members, and updates their spans.
@@ -199,25 +204,25 @@ fn join_spans(
     body: &[u8],
 ) -> Result<Vec<u8>, AllocError>
     requires { All (IsMemberSpanWithin body.now) spans.old.items }
-    ensures { IfOk result (λ text. IsJoined body.now spans.old.items spans.new.items text.items) }
+    ensures { IfOk result (λ text. AreSpansJoined body.now spans.old.items spans.new.items text.items) }
 {
     // Twice the capacity, half of which is never touched: glibc maps a block that is larger than all
     // that were freed before it, and so returns it at once (mallopt(3), M_MMAP_THRESHOLD).
     let mut text = Vec::with_capacity(alloc, body.len().saturating_mul(2))?;
-    'spans: for at in 0..spans.len() {
+    'spans: for span_index in 0..spans.len() {
         let MemberSpan {
             key,
             start,
             end,
             ..
-        } = spans[at];
-        put_comma(at > 0, &mut text)?;
-        let place = text.len();
+        } = spans[span_index];
+        put_comma(span_index > 0, &mut text)?;
+        let offset_in_object = text.len();
         text.extend_from_slice(&body[start..end])?;
-        spans[at] = MemberSpan {
+        spans[span_index] = MemberSpan {
             key,
-            place,
-            start: place,
+            offset_in_object,
+            start: offset_in_object,
             end: text.len(),
         };
     }

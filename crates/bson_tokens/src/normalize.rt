@@ -4,16 +4,16 @@ ghost use Rattle.json.specs.Json.{array, object, value};
 ghost use Rattle.json.specs.Json as json;
 ghost use Rattle.json.specs.Print.{IsNumber};
 ghost use Rattle.serde_json.specs.Read.{read};
-ghost use Rattle.bson_tokens.specs.ReadOutcomes.{InvalidIfNotRead};
+ghost use Rattle.bson_tokens.specs.ReadOutcomes.{NothingReadIfInvalid};
 ghost use Rattle.bson_tokens.specs.Normalized.{IsNormalizedText, normalized};
-ghost use Rattle.bson_tokens.specs.NormalizerStates.{NormalizesRead, ValueAppended, elements, in_range, inside, if_valid};
-ghost use Rattle.bson_tokens.specs.NormalizerStates.{numbers_in_range, item_numbers_in_range, member_numbers_in_range};
+ghost use Rattle.bson_tokens.specs.NormalizerStates.{ReadAndNormalized, ValueAppended, array_rest, is_number_in_range, object_rest, if_valid};
+ghost use Rattle.bson_tokens.specs.NormalizerStates.{all_numbers_in_range, item_numbers_in_range, member_numbers_in_range};
 ghost use Rattle.json.specs.declared.error.Error.TheVariants.{Invalid};
 
 use crate::MAX_DEPTH;
 use crate::arrangement::Arrangement;
 use crate::member_order::{MemberSpan, push_span};
-use crate::normalizer::{EARLY_LIMIT, Normalizer, into_text};
+use crate::normalizer::{MEMBERS_BEFORE_NORMALIZING, Normalizer, into_text};
 use crate::number::number;
 use json::{Error, Reader, Scratch, Token};
 use std::alloc::Global;
@@ -35,92 +35,111 @@ use std::alloc::Global;
 /// println!(rt; "{normalized}")?; // {"b":3,"a":2}
 /// ```
 pub fn normalize_text(alloc: Global, arrangement: Arrangement, text: &str) -> Result<String, Error>
-    ensures ok { IfOk result (λ written. IsNormalizedText arrangement text.now (string_bytes written)) }
-    ensures broken { IfErr result (InvalidIfNotRead (read text.now)) }
+    ensures ok { IfOk result (λ normalized_text. IsNormalizedText arrangement text.now (string_bytes normalized_text)) }
+    ensures broken { IfErr result (NothingReadIfInvalid (read text.now)) }
 {
     let mut scratch = Scratch::new(alloc);
     let mut reader = Reader::new(text, &mut scratch)?;
-    let mut out = Normalizer::new(alloc, arrangement, text.len())?;
-    write_value(&mut reader, MAX_DEPTH, &mut out)?;
+    let mut normalizer = Normalizer::new(alloc, arrangement, text.len())?;
+    write_value(&mut reader, MAX_DEPTH, &mut normalizer)?;
     if reader.next().is_some() {
         return Err(Error::Invalid);
     }
-    into_text(out.text)
+    into_text(normalizer.text)
 }
 
 #[cycle(write)]
-fn write_value(reader: &mut Reader<'_>, depth: usize, out: &mut Normalizer) -> Result<(), Error>
-    ensures ok { OnOk result (NormalizesRead (if_valid numbers_in_range (value depth reader.old)) (normalized out.old.arrangement)
-        reader.new out.old out.new) }
-    ensures broken { IfErr result (InvalidIfNotRead (if_valid numbers_in_range (value depth reader.old))) }
+fn write_value(
+    reader: &mut Reader<'_>,
+    depth: usize,
+    normalizer: &mut Normalizer,
+) -> Result<(), Error>
+    ensures ok { OnOk result
+        (ReadAndNormalized (if_valid all_numbers_in_range (value depth reader.old))
+        (normalized normalizer.old.arrangement)
+        reader.new normalizer.old normalizer.new) }
+    ensures broken { IfErr result (NothingReadIfInvalid (if_valid all_numbers_in_range (value depth reader.old))) }
 {
     let token = reader.next().ok_or(Error::Invalid)?;
     match token {
-        Token::String(_) | Token::Bool(_) | Token::Null => Ok(out.scalar(token)?),
-        Token::Number(text) => write_number(text, out),
+        Token::String(_) | Token::Bool(_) | Token::Null => Ok(normalizer.push_scalar(token)?),
+        Token::Number(text) => write_number(text, normalizer),
         Token::EndObject | Token::EndArray | Token::Key(_) | Token::Bad => Err(Error::Invalid),
         Token::BeginArray => {
             if depth == 0 {
                 return Err(Error::Invalid);
             }
-            write_items(reader, depth - 1, out)
+            write_items(reader, depth - 1, normalizer)
         }
         Token::BeginObject => {
             if depth == 0 {
                 return Err(Error::Invalid);
             }
-            write_members(reader, depth - 1, out)
+            write_members(reader, depth - 1, normalizer)
         }
     }
 }
 
-fn write_number(text: &str, out: &mut Normalizer) -> Result<(), Error>
+fn write_number(text: &str, normalizer: &mut Normalizer) -> Result<(), Error>
     requires { IsNumber text.now }
-    ensures ok { OnOk result ((in_range text.now ≡ true) × ValueAppended out.old (json.number text.now) out.new) }
-    ensures broken { IfErr result (λ e. e ≡ Invalid → in_range text.now ≡ false) }
+    ensures ok { OnOk result ((is_number_in_range text.now ≡ true)
+        × ValueAppended normalizer.old (json.number text.now) normalizer.new) }
+    ensures broken { IfErr result (λ read_error. read_error ≡ Invalid → is_number_in_range text.now ≡ false) }
 {
     if number(text).is_none() {
         return Err(Error::Invalid);
     }
-    Ok(out.scalar(Token::Number(text))?)
+    Ok(normalizer.push_scalar(Token::Number(text))?)
 }
 
 // Writes the elements of an array after its bracket.
 #[cycle(write)]
-fn write_items(reader: &mut Reader<'_>, depth: usize, out: &mut Normalizer) -> Result<(), Error>
-    ensures ok { OnOk result (NormalizesRead (if_valid item_numbers_in_range (elements depth reader.old))
-        (λ js. normalized out.old.arrangement (array js)) reader.new out.old out.new) }
-    ensures broken { IfErr result (InvalidIfNotRead (if_valid item_numbers_in_range (elements depth reader.old))) }
+fn write_items(
+    reader: &mut Reader<'_>,
+    depth: usize,
+    normalizer: &mut Normalizer,
+) -> Result<(), Error>
+    ensures ok { OnOk result (ReadAndNormalized (if_valid item_numbers_in_range (array_rest depth reader.old))
+        (λ json_items. normalized normalizer.old.arrangement
+        (array json_items)) reader.new normalizer.old normalizer.new) }
+    ensures broken { IfErr result
+        (NothingReadIfInvalid (if_valid item_numbers_in_range (array_rest depth reader.old))) }
 {
-    out.open(b'[')?;
+    normalizer.open_container(b'[')?;
     'items: while !reader.take_end_array() {
-        write_value(reader, depth, out)?;
+        write_value(reader, depth, normalizer)?;
     }
-    Ok(out.close(b']')?)
+    Ok(normalizer.close_container(b']')?)
 }
 
 // Writes the members of an object after its brace.
 #[cycle(write)]
-fn write_members(reader: &mut Reader<'_>, depth: usize, out: &mut Normalizer) -> Result<(), Error>
-    ensures ok { OnOk result (NormalizesRead (if_valid member_numbers_in_range (inside depth reader.old))
-        (λ ms. normalized out.old.arrangement (object ms)) reader.new out.old out.new) }
-    ensures broken { IfErr result (InvalidIfNotRead (if_valid member_numbers_in_range (inside depth reader.old))) }
+fn write_members(
+    reader: &mut Reader<'_>,
+    depth: usize,
+    normalizer: &mut Normalizer,
+) -> Result<(), Error>
+    ensures ok { OnOk result (ReadAndNormalized (if_valid member_numbers_in_range (object_rest depth reader.old))
+        (λ json_members. normalized normalizer.old.arrangement
+        (object json_members)) reader.new normalizer.old normalizer.new) }
+    ensures broken { IfErr result
+        (NothingReadIfInvalid (if_valid member_numbers_in_range (object_rest depth reader.old))) }
 {
-    let start = out.begin_object()?;
-    let mut spans = Vec::new(out.alloc);
-    let mut most = EARLY_LIMIT;
+    let object_start = normalizer.begin_object()?;
+    let mut spans = Vec::new(normalizer.alloc);
+    let mut member_limit = MEMBERS_BEFORE_NORMALIZING;
     'members: while let Some(key) = reader.next_key()? {
-        let place = out.begin_member(start, key)?;
-        write_value(reader, depth, out)?;
+        let offset_in_object = normalizer.begin_member(object_start, key)?;
+        write_value(reader, depth, normalizer)?;
         let span = MemberSpan {
             key,
-            place,
-            start: place,
-            end: out.place(start),
+            offset_in_object,
+            start: offset_in_object,
+            end: normalizer.offset_in_object(object_start),
         };
         push_span(&mut spans, span)?;
-        most = out.normalize_members_early(start, &mut spans, most)?;
+        member_limit = normalizer.normalize_members_early(object_start, &mut spans, member_limit)?;
     }
-    out.normalize_members(start, &mut spans)?;
-    Ok(out.close(b'}')?)
+    normalizer.normalize_members(object_start, &mut spans)?;
+    Ok(normalizer.close_container(b'}')?)
 }

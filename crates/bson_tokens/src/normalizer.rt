@@ -6,7 +6,7 @@ ghost use Rattle.json.specs.Print.{print, IsPrintable};
 ghost use Rattle.json.specs.Reads.{token_of};
 ghost use Rattle.serde_json.specs.Written.{comma_if};
 ghost use Rattle.json.specs.declared.error.Error.TheVariants.{OutOfMemory};
-ghost use Rattle.bson_tokens.specs.NormalizerStates.{AppendedAfterComma, Appended, ObjectOpened, IsObjectNormalized, IsObjectNormalizedEarly, IsMemberSpanWithin, MemberOpened};
+ghost use Rattle.bson_tokens.specs.NormalizerStates.{AppendedAfterComma, TextAppended, ObjectOpened, IsObjectNormalized, IsObjectNormalizedEarly, IsMemberSpanWithin, MemberOpened};
 
 use crate::arrangement::Arrangement;
 use crate::member_order::{MemberSpan, normalize_spans};
@@ -16,7 +16,7 @@ use std::mem::replace;
 
 // If an open object has this many members, they are normalized before its end, and again after each
 // doubling.
-pub(crate) const EARLY_LIMIT: usize = 1_000;
+pub(crate) const MEMBERS_BEFORE_NORMALIZING: usize = 1_000;
 
 // The text so far. The members of an open object are in it in input order.
 #[derive(Drop)]
@@ -25,15 +25,15 @@ pub(crate) struct Normalizer {
     pub(crate) arrangement: Arrangement,
     pub(crate) text: Vec<u8>,
     // A buffer for the writer of a token. In a long text it would reserve much memory ahead.
-    pub(crate) part: Vec<u8>,
+    pub(crate) token_buffer: Vec<u8>,
     // Whether the next value needs a comma before it.
     pub(crate) needs_comma: bool,
 }
 
 // Converts the text to a string.
 pub(crate) fn into_text(text: Vec<u8>) -> Result<String, Error>
-    ensures bytes { IfOk result (λ written. string_bytes written ≡ text.items) }
-    ensures refused { IfErr result (λ e. e ≡ OutOfMemory) }
+    ensures bytes { IfOk result (λ text_string. string_bytes text_string ≡ text.items) }
+    ensures out_of_memory { IfErr result (λ conversion_error. conversion_error ≡ OutOfMemory) }
 {
     match String::from_utf8(text) {
         Ok(text) => Ok(text),
@@ -45,24 +45,24 @@ impl Normalizer {
     pub(crate) fn new(
         alloc: Global,
         arrangement: Arrangement,
-        room: usize,
+        capacity: usize,
     ) -> Result<Normalizer, AllocError>
-        ensures arrangement { IfOk result (λ out. out.arrangement ≡ arrangement) }
-        ensures empty { IfOk result (λ out. out.text.items ≡ []) }
-        ensures first { IfOk result (λ out. out.needs_comma ≡ false) }
+        ensures arrangement { IfOk result (λ normalizer. normalizer.arrangement ≡ arrangement) }
+        ensures empty { IfOk result (λ normalizer. normalizer.text.items ≡ []) }
+        ensures no_comma_yet { IfOk result (λ normalizer. normalizer.needs_comma ≡ false) }
     {
         Ok(Normalizer {
             alloc,
             arrangement,
-            text: Vec::with_capacity(alloc, room)?,
-            part: Vec::new(alloc),
+            text: Vec::with_capacity(alloc, capacity)?,
+            token_buffer: Vec::new(alloc),
             needs_comma: false,
         })
     }
 
     // Adds a comma if one is needed.
     fn add_comma(&mut self) -> Result<(), AllocError>
-        ensures { OnOk result (Appended self.old (comma_if self.old.needs_comma) self.old.needs_comma self.new) }
+        ensures { OnOk result (TextAppended self.old (comma_if self.old.needs_comma) self.old.needs_comma self.new) }
     {
         if self.needs_comma {
             self.text.push(b',')?;
@@ -71,31 +71,31 @@ impl Normalizer {
     }
 
     // Adds a token, and says whether the next value needs a comma.
-    fn add(&mut self, token: Token<'_>, needs_comma: bool) -> Result<(), AllocError>
+    fn push_token(&mut self, token: Token<'_>, needs_comma: bool) -> Result<(), AllocError>
         requires { IsPrintable (token_of token) }
-        ensures { OnOk result (Appended self.old (print (token_of token.entry ∷ [])) needs_comma self.new) }
+        ensures { OnOk result (TextAppended self.old (print (token_of token.entry ∷ [])) needs_comma self.new) }
     {
-        let mut room = replace(&mut self.part, Vec::new(self.alloc));
-        room.clear();
-        let mut part = Writer::new(room);
-        part.token(token)?;
-        self.part = part.into_inner();
-        self.text.extend_from_slice(&self.part)?;
+        let mut emptied_buffer = replace(&mut self.token_buffer, Vec::new(self.alloc));
+        emptied_buffer.clear();
+        let mut token_writer = Writer::new(emptied_buffer);
+        token_writer.token(token)?;
+        self.token_buffer = token_writer.into_inner();
+        self.text.extend_from_slice(&self.token_buffer)?;
         self.needs_comma = needs_comma;
         Ok(())
     }
 
     // Adds a value of one token.
-    pub(crate) fn scalar(&mut self, token: Token<'_>) -> Result<(), AllocError>
+    pub(crate) fn push_scalar(&mut self, token: Token<'_>) -> Result<(), AllocError>
         requires { IsPrintable (token_of token) }
         ensures { OnOk result (AppendedAfterComma self.old (print (token_of token.entry ∷ [])) true self.new) }
     {
         self.add_comma()?;
-        self.add(token, true)
+        self.push_token(token, true)
     }
 
     // Opens an array or an object.
-    pub(crate) fn open(&mut self, byte: u8) -> Result<(), AllocError>
+    pub(crate) fn open_container(&mut self, byte: u8) -> Result<(), AllocError>
         ensures { OnOk result (AppendedAfterComma self.old (byte ∷ []) false self.new) }
     {
         self.add_comma()?;
@@ -105,8 +105,8 @@ impl Normalizer {
     }
 
     // Closes an array or an object.
-    pub(crate) fn close(&mut self, byte: u8) -> Result<(), AllocError>
-        ensures { OnOk result (Appended self.old (byte ∷ []) true self.new) }
+    pub(crate) fn close_container(&mut self, byte: u8) -> Result<(), AllocError>
+        ensures { OnOk result (TextAppended self.old (byte ∷ []) true self.new) }
     {
         self.text.push(byte)?;
         self.needs_comma = true;
@@ -115,42 +115,47 @@ impl Normalizer {
 
     // Opens an object, and returns the position of its first member.
     pub(crate) fn begin_object(&mut self) -> Result<usize, AllocError>
-        ensures { IfOk result (λ start. ObjectOpened self.old start self.new) }
+        ensures { IfOk result (λ object_start. ObjectOpened self.old object_start self.new) }
     {
-        self.open(b'{')?;
+        self.open_container(b'{')?;
         Ok(self.text.len())
     }
 
     // Returns the distance from the start of the object to the end of the text.
-    pub(crate) fn place(&self, start: usize) -> usize
-        ensures { result ≡ length self.now.text.items - start }
+    pub(crate) fn offset_in_object(&self, object_start: usize) -> usize
+        ensures { result ≡ length self.now.text.items - object_start }
     {
-        self.text.len().saturating_sub(start)
+        self.text.len().saturating_sub(object_start)
     }
 
     // Adds the key of a member, and returns the member's position in its object.
-    pub(crate) fn begin_member(&mut self, start: usize, key: &str) -> Result<usize, AllocError>
-        ensures { IfOk result (λ place. MemberOpened self.old start key.now place self.new) }
+    pub(crate) fn begin_member(
+        &mut self,
+        object_start: usize,
+        key: &str,
+    ) -> Result<usize, AllocError>
+        ensures { IfOk result
+            (λ offset_in_object. MemberOpened self.old object_start key.now offset_in_object self.new) }
     {
         self.add_comma()?;
-        let place = self.place(start);
-        self.add(Token::Key(key), false)?;
-        Ok(place)
+        let offset_in_object = self.offset_in_object(object_start);
+        self.push_token(Token::Key(key), false)?;
+        Ok(offset_in_object)
     }
 
     // Normalizes the members of an open object.
     pub(crate) fn normalize_members(
         &mut self,
-        start: usize,
+        object_start: usize,
         spans: &mut Vec<MemberSpan<'_>>,
     ) -> Result<(), AllocError>
-        requires inside { start ≤ length self.old.text.items }
-        requires within { All (IsMemberSpanWithin (drop start self.old.text.items)) spans.old.items }
-        ensures { OnOk result (IsObjectNormalized self.old start spans.old.items spans.new.items self.new) }
+        requires start_in_text { object_start ≤ length self.old.text.items }
+        requires spans_in_object { All (IsMemberSpanWithin (drop object_start self.old.text.items)) spans.old.items }
+        ensures { OnOk result (IsObjectNormalized self.old object_start spans.old.items spans.new.items self.new) }
     {
-        let body = &self.text[start..];
+        let body = &self.text[object_start..];
         if let Some(normalized) = normalize_spans(self.alloc, self.arrangement, spans, body)? {
-            self.text.truncate(start);
+            self.text.truncate(object_start);
             self.text.extend_from_slice(&normalized)?;
         }
         Ok(())
@@ -159,18 +164,23 @@ impl Normalizer {
     // Normalizes the members if there are this many, and returns the next limit.
     pub(crate) fn normalize_members_early(
         &mut self,
-        start: usize,
+        object_start: usize,
         spans: &mut Vec<MemberSpan<'_>>,
-        most: usize,
+        member_limit: usize,
     ) -> Result<usize, AllocError>
-        requires inside { start ≤ length self.old.text.items }
-        requires within { All (IsMemberSpanWithin (drop start self.old.text.items)) spans.old.items }
-        ensures { OnOk result (IsObjectNormalizedEarly self.old start spans.old.items spans.new.items self.new) }
+        requires start_in_text { object_start ≤ length self.old.text.items }
+        requires spans_in_object { All (IsMemberSpanWithin (drop object_start self.old.text.items)) spans.old.items }
+        ensures { OnOk result (IsObjectNormalizedEarly self.old object_start spans.old.items spans.new.items self.new) }
     {
-        if spans.len() < most {
-            return Ok(most);
+        if spans.len() < member_limit {
+            return Ok(member_limit);
         }
-        self.normalize_members(start, spans)?;
-        Ok(spans.len().saturating_mul(2).max(EARLY_LIMIT))
+        self.normalize_members(object_start, spans)?;
+        Ok(
+            spans
+                .len()
+                .saturating_mul(2)
+                .max(MEMBERS_BEFORE_NORMALIZING),
+        )
     }
 }

@@ -21,8 +21,8 @@ pub fn number(text: &str) -> Option<Number>
 }
 
 fn begins_with_minus(bytes: &[u8]) -> bool
-    ensures value { result ≡ (slice_index bytes.now 0 == 45) }
-    ensures some { IsTrue result → 0 < length bytes.now }
+    ensures first_byte_is_minus { result ≡ (slice_index bytes.now 0 == 45) }
+    ensures not_empty { IsTrue result → 0 < length bytes.now }
 {
     !bytes.is_empty() && bytes[0] == b'-'
 }
@@ -31,7 +31,7 @@ fn number_of_sign(is_negative: bool, numeral: &Numeral<'_>) -> Option<Number>
     ensures { option_map number_view result ≡ number_from is_negative numeral.now }
 {
     match integer(is_negative, numeral) {
-        Some(n) => Some(n),
+        Some(parsed_number) => Some(parsed_number),
         None => Number::from_f64(numeral.to_float::<f64>(is_negative)),
     }
 }
@@ -39,16 +39,16 @@ fn number_of_sign(is_negative: bool, numeral: &Numeral<'_>) -> Option<Number>
 // The integer, if it is one of 64 bits; `-0` is a double.
 fn integer(is_negative: bool, numeral: &Numeral<'_>) -> Option<Number>
     ensures { MatchOption result (number_from is_negative numeral.now ≡ float_of is_negative numeral.now)
-        (λ n. number_from is_negative numeral.now ≡ Some (number_view n)) }
+        (λ parsed_number. number_from is_negative numeral.now ≡ Some (number_view parsed_number)) }
 {
     if !is_negative {
         return match numeral.to_u64() {
-            Some(n) => Some(Number::from(n)),
+            Some(parsed_number) => Some(Number::from(parsed_number)),
             None => None,
         };
     }
     match numeral.to_i64(true) {
-        Some(n) if n < 0 => Some(Number::from(n)),
+        Some(parsed_number) if parsed_number < 0 => Some(Number::from(parsed_number)),
         _ => None,
     }
 }

@@ -3,7 +3,7 @@ ghost use Rattle.std.specs.Prelude.{◌≡◌, ◌<◌, length, IfOk, IfErr, OnO
 ghost use Rattle.json.specs.Json.{value};
 ghost use Rattle.serde_json.specs.Read.{of_json, converted};
 ghost use Rattle.serde_json.specs.View.{view};
-ghost use Rattle.bson_tokens.specs.ReadOutcomes.{InvalidIfNotRead};
+ghost use Rattle.bson_tokens.specs.ReadOutcomes.{NothingReadIfInvalid};
 ghost use Rattle.bson_tokens.specs.ValueStart.{StartsValue, primitive_tree};
 
 use crate::number::number;
@@ -41,17 +41,17 @@ pub enum ValueStart<'a> {
 #[inline(always)]
 pub fn read_start<'a>(reader: &mut Reader<'a>, depth: usize) -> Result<ValueStart<'a>, Error>
     ensures ok { IfOk result (λ start. StartsValue depth reader.old start reader.new) }
-    ensures broken { IfErr result (InvalidIfNotRead (converted of_json (value depth reader.old))) }
+    ensures broken { IfErr result (NothingReadIfInvalid (converted of_json (value depth reader.old))) }
     ensures shorter { OnOk result (length reader.new < length reader.old) }
 {
     let token = reader.next().ok_or(Error::Invalid)?;
     match token {
         Token::String(text) => Ok(ValueStart::Primitive(Primitive::String(text))),
         Token::Number(text) => match number(text) {
-            Some(n) => Ok(ValueStart::Primitive(Primitive::Number(n))),
+            Some(json_number) => Ok(ValueStart::Primitive(Primitive::Number(json_number))),
             None => Err(Error::Invalid),
         },
-        Token::Bool(b) => Ok(ValueStart::Primitive(Primitive::Bool(b))),
+        Token::Bool(truth_value) => Ok(ValueStart::Primitive(Primitive::Bool(truth_value))),
         Token::Null => Ok(ValueStart::Primitive(Primitive::Null)),
         Token::EndObject | Token::EndArray | Token::Key(_) | Token::Bad => Err(Error::Invalid),
         Token::BeginArray => {
@@ -71,12 +71,12 @@ pub fn read_start<'a>(reader: &mut Reader<'a>, depth: usize) -> Result<ValueStar
 
 // Returns the tree of a value of one token.
 pub(crate) fn primitive_value(alloc: Global, primitive: Primitive<'_>) -> Result<Value, AllocError>
-    ensures { IfOk result (λ v. view v ≡ primitive_tree primitive.entry) }
+    ensures { IfOk result (λ tree. view tree ≡ primitive_tree primitive.entry) }
 {
     match primitive {
         Primitive::String(text) => Ok(Value::String(String::from_str(alloc, text)?)),
-        Primitive::Number(n) => Ok(Value::Number(n)),
-        Primitive::Bool(b) => Ok(Value::Bool(b)),
+        Primitive::Number(json_number) => Ok(Value::Number(json_number)),
+        Primitive::Bool(truth_value) => Ok(Value::Bool(truth_value)),
         Primitive::Null => Ok(Value::Null),
     }
 }

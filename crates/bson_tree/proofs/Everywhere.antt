@@ -14,11 +14,11 @@ use Rattle.bson_scalar.specs.Scalar as kind
 use Rattle.bson_scalar.specs.Table.{wrapper_of, has_wrapper}
 use Rattle.bson_scalar.specs.declared.form.Doubles.{Doubles}
 use Rattle.bson_model.specs.Fault.{MeansNothingIn}
-use Rattle.bson_model.specs.Reading.{reads_in}
+use Rattle.bson_model.specs.Reading.{reads_tree_in}
 use Rattle.bson_model.specs.Value as model
 use Rattle.bson_model.proofs.Offered.{means_to_in}
 use Rattle.bson_tree.specs.Place.{PathSegment, key, element, FaultAtIn, ItemFaultAtIn, MemberFaultAtIn, HasValueIn}
-use Rattle.bson_tree.specs.Place.{array, document, here, later, at_key, behind}
+use Rattle.bson_tree.specs.Place.{array, document, at_this_element, after_valid_element, at_key, after_valid_member}
 use Rattle.bson_tree.proofs.Agrees.{fault_to}
 use Rattle.bson_tree.proofs.FaultLaws.{nothing_read}
 use Rattle.bson_tree.proofs.FaultLaws.{Coded}
@@ -52,12 +52,12 @@ module _ (D : Doubles) where
       → Or (HasItems D ds) (λ f path. ItemFaultAtIn D f (n + 1) ds path)
       → Or (HasItems D (item d ds)) (λ f path. ItemFaultAtIn D f n (item d ds) path)
   items_are n d ds (inl a) (inl b) = inl (model.value a.0 b.0, rw (means_to_in D a.1, b.1) refl)
-  items_are n d ds (inl a) (inr b) = inr (b.0, b.1, later n d a.0 ds a.1 b.2)
-  items_are n d ds (inr a) b = inr (a.0, a.1 ++ element n ∷ [], here n d ds a.2)
+  items_are n d ds (inl a) (inr b) = inr (b.0, b.1, after_valid_element n d a.0 ds a.1 b.2)
+  items_are n d ds (inr a) b = inr (a.0, a.1 ++ element n ∷ [], at_this_element n d ds a.2)
 
   members_are : (k : List ℕ) (d : Data) (ms : Members) → ValueOr d → PairsOr ms → PairsOr (member k d ms)
   members_are k d ms (inl a) (inl b) = inl (model.pair k a.0 b.0, rw (means_to_in D a.1, b.1) refl)
-  members_are k d ms (inl a) (inr b) = inr (b.0, b.1, behind k d a.0 ms a.1 b.2)
+  members_are k d ms (inl a) (inr b) = inr (b.0, b.1, after_valid_member k d a.0 ms a.1 b.2)
   members_are k d ms (inr a) b = inr (a.0, a.1 ++ key k ∷ [], at_key k d ms a.2)
 
   document_is : (ms : Members) → has_wrapper ms ≡ false → PairsOr ms → ValueOr (tree.object ms)
@@ -144,13 +144,13 @@ module _ (D : Doubles) where
   has_fault t nothing = fault_left t (value_or_fault t) nothing
 
   -- the fault that reading gives has a path
-  same_fault : {f g : Fault} (t : Data) (path : List PathSegment) → reads_in D t ≡ Err f → FaultAtIn D g t path
+  same_fault : {f g : Fault} (t : Data) (path : List PathSegment) → reads_tree_in D t ≡ Err f → FaultAtIn D g t path
       → FaultAtIn D f t path
   same_fault {f} {g} t path h m =
       let same : g ≡ f = (let reads = sym (fault_to D m) ∙ h in cc) in
       subst (λ x. FaultAtIn D x t path) same m
 
-  pub read_fault : (t : Data) (f : Fault) → reads_in D t ≡ Err f → (path : List PathSegment) × FaultAtIn D f t path
+  pub read_fault : (t : Data) (f : Fault) → reads_tree_in D t ≡ Err f → (path : List PathSegment) × FaultAtIn D f t path
   read_fault t f h =
       let a = has_fault t (nothing_read D h) in
       (a.1, same_fault t a.1 h a.2)

@@ -15,13 +15,13 @@ use Rattle.serde_json.specs.View.{view, items_view, members_view}
 use Rattle.serde_json.specs.declared.value.Value as json
 use Rattle.bson_scalar.specs.Faults.{Fault, ◌>>=◌}
 use Rattle.bson_scalar.specs.declared.form.Doubles.{Doubles}
-use Rattle.bson_model.specs.Reading.{reads_in, reads_items_in, reads_members_in}
+use Rattle.bson_model.specs.Reading.{reads_tree_in, reads_items_in, reads_members_in}
 use Rattle.bson_model.specs.Value.{Value, Values, no_values, value, Pairs, no_pairs, pair, value_at_key}
 use Rattle.bson_tree.specs.declared.place.Place.{Place}
 use Rattle.bson_tree.specs.Built.{push_value, push_pair, Builds}
-use Rattle.bson_tree.specs.Place.{PathSegment, key, element, FaultAtIn, ItemFaultAtIn, MemberFaultAtIn, here, later}
+use Rattle.bson_tree.specs.Place.{PathSegment, key, element, FaultAtIn, ItemFaultAtIn, MemberFaultAtIn, at_this_element, after_valid_element}
 use Rattle.bson_tree.specs.Place.{at_key}
-use Rattle.bson_tree.specs.Place.{behind, IsPlace, path_of}
+use Rattle.bson_tree.specs.Place.{after_valid_member, IsFaultPlace, path_of}
 use Rattle.bson_model.proofs.Offered.{means_from_in}
 use Rattle.bson_tree.proofs.Steps.{Member, built_in, carried, placed_in}
 
@@ -112,38 +112,38 @@ pub record PairsRead {X : Type 0} (D : Doubles) (paired : X → Pairs → Type 0
   pub whole : onto_pairs done (reads_members_in D rest) ≡ reads_members_in D all
   pub fault : (f : Fault) (path : List PathSegment) → MemberFaultAtIn D f rest path → MemberFaultAtIn D f all path
 
-module _ {X Z : Type 0} (D : Doubles) (built : Z → Value → Type 0) (listed : X → Values → Type 0) (all : Items) where
+module _ {X Z : Type 0} (D : Doubles) (represents : Z → Value → Type 0) (listed : X → Values → Type 0) (all : Items) where
   pub items_begun : (read : X) → listed read no_values → ItemsRead D listed read 0 all all
   items_begun read h = record { done = no_values; stands = h; whole = refl; fault = λ f path is. is }
 
   -- one more was read
   pub items_more : (read new : X) (n : ℕ) (xs rest : List json.Value) (x : json.Value) (r : Result Z Place) (z : Z)
       → xs ≡ x ∷ rest → ItemsRead D listed read n (items_view xs) all → r ≡ Ok z
-      → Builds built (reads_in D (view x)) (λ f. FaultAtIn D f (view x)) r
-      → ((vs : Values) (v : Value) → listed read vs → built z v → listed new (push_value vs v))
+      → Builds represents (reads_tree_in D (view x)) (λ f. FaultAtIn D f (view x)) r
+      → ((vs : Values) (v : Value) → listed read vs → represents z v → listed new (push_value vs v))
       → ItemsRead D listed new (n + 1) (items_view rest) all
   items_more read new n xs rest x r z next so_far is h push =
       let ds = items_view rest in
       let was = subst (λ ys. ItemsRead D listed read n (items_view ys) all) next so_far in
-      let v = built_in built (reads_in D (view x)) (λ f. FaultAtIn D f (view x)) r z is h in
+      let v = built_in represents (reads_tree_in D (view x)) (λ f. FaultAtIn D f (view x)) r z is h in
       record {
         done = push_value was.done v.0;
         stands = push was.done v.0 was.stands v.2;
         whole = onto_values-then was.done v.0 (reads_items_in D ds)
             ∙ ap (λ q. onto_values was.done (q >>= λ w. reads_items_in D ds >>= λ ws. Ok (value w ws))) (sym v.1)
             ∙ was.whole;
-        fault = λ f path m. was.fault f path (later n (view x) v.0 ds (means_from_in D (view x) v.0 v.1) m);
+        fault = λ f path m. was.fault f path (after_valid_element n (view x) v.0 ds (means_from_in D (view x) v.0 v.1) m);
       }
 
   -- a fault of the next one is the fault of the whole
   pub items_stopped : (read : X) (n : ℕ) (xs rest : List json.Value) (x : json.Value) (r : Result Z Place)
       (p q : Place) → xs ≡ x ∷ rest → ItemsRead D listed read n (items_view xs) all → r ≡ Err p
-      → Builds built (reads_in D (view x)) (λ f. FaultAtIn D f (view x)) r → path_of q ≡ path_of p ++ element n ∷ []
-      → q.reason ≡ p.reason → IsPlace (λ f. ItemFaultAtIn D f 0 all) q
+      → Builds represents (reads_tree_in D (view x)) (λ f. FaultAtIn D f (view x)) r → path_of q ≡ path_of p ++ element n ∷ []
+      → q.reason ≡ p.reason → IsFaultPlace (λ f. ItemFaultAtIn D f 0 all) q
   items_stopped read n xs rest x r p q next so_far is h path reason =
       let was = subst (λ ys. ItemsRead D listed read n (items_view ys) all) next so_far in
-      carried p q (element n) (λ f w m. was.fault f (w ++ element n ∷ []) (here n (view x) (items_view rest) m)) path
-      reason (placed_in built (reads_in D (view x)) (λ f. FaultAtIn D f (view x)) r p is h)
+      carried p q (element n) (λ f w m. was.fault f (w ++ element n ∷ []) (at_this_element n (view x) (items_view rest) m)) path
+      reason (placed_in represents (reads_tree_in D (view x)) (λ f. FaultAtIn D f (view x)) r p is h)
 
   pub items_ended : (read : X) (n : ℕ) (xs : List json.Value) → xs ≡ []
       → ItemsRead D listed read n (items_view xs) all
@@ -152,7 +152,7 @@ module _ {X Z : Type 0} (D : Doubles) (built : Z → Value → Type 0) (listed :
       let was = subst (λ ys. ItemsRead D listed read n (items_view ys) all) none so_far in
       (was.done, sym was.whole ∙ onto_values-ok was.done, was.stands)
 
-module _ {X Z : Type 0} (D : Doubles) (built : Z → Value → Type 0) (paired : X → Pairs → Type 0) (all : List Member) where
+module _ {X Z : Type 0} (D : Doubles) (represents : Z → Value → Type 0) (paired : X → Pairs → Type 0) (all : List Member) where
   pub pairs_begun : (read : X) → paired read no_pairs → IsStrictlySortedBy string_cmp (keys_of all)
       → PairsRead D paired read (members_view all) (members_view all)
   pairs_begun read h sorted = record {
@@ -173,15 +173,15 @@ module _ {X Z : Type 0} (D : Doubles) (built : Z → Value → Type 0) (paired :
 
   pub pairs_more : (read new : X) (es rest : List Member) (x : Member) (r : Result Z Place) (z : Z) → es ≡ x ∷ rest
       → PairsRead D paired read (members_view es) (members_view all) → r ≡ Ok z
-      → Builds built (reads_in D (view x.1)) (λ f. FaultAtIn D f (view x.1)) r
-      → ((ps : Pairs) (v : Value) → paired read ps → built z v → paired new (push_pair ps (string_bytes x.0) v))
+      → Builds represents (reads_tree_in D (view x.1)) (λ f. FaultAtIn D f (view x.1)) r
+      → ((ps : Pairs) (v : Value) → paired read ps → represents z v → paired new (push_pair ps (string_bytes x.0) v))
       → PairsRead D paired new (members_view rest) (members_view all)
   pairs_more read new es rest x r z next so_far is h put =
       let k = string_bytes x.0 in
       let d = view x.1 in
       let ms = members_view rest in
       let was = subst (λ ys. PairsRead D paired read (members_view ys) (members_view all)) next so_far in
-      let v = built_in built (reads_in D d) (λ f. FaultAtIn D f d) r z is h in
+      let v = built_in represents (reads_tree_in D d) (λ f. FaultAtIn D f d) r z is h in
       record {
         done = push_pair was.done k v.0;
         stands = put was.done v.0 was.stands v.2;
@@ -189,19 +189,19 @@ module _ {X Z : Type 0} (D : Doubles) (built : Z → Value → Type 0) (paired :
         whole = onto_pairs-then was.done k v.0 (reads_members_in D ms)
             ∙ ap (λ q. onto_pairs was.done (q >>= λ w. reads_members_in D ms >>= λ qs. Ok (pair k w qs))) (sym v.1)
             ∙ was.whole;
-        fault = λ f path m. was.fault f path (behind k d v.0 ms (means_from_in D d v.0 v.1) m);
+        fault = λ f path m. was.fault f path (after_valid_member k d v.0 ms (means_from_in D d v.0 v.1) m);
       }
 
   pub pairs_stopped : (read : X) (es rest : List Member) (x : Member) (r : Result Z Place) (p q : Place)
       → es ≡ x ∷ rest → PairsRead D paired read (members_view es) (members_view all) → r ≡ Err p
-      → Builds built (reads_in D (view x.1)) (λ f. FaultAtIn D f (view x.1)) r
+      → Builds represents (reads_tree_in D (view x.1)) (λ f. FaultAtIn D f (view x.1)) r
       → path_of q ≡ path_of p ++ key (string_bytes x.0) ∷ [] → q.reason ≡ p.reason
-      → IsPlace (λ f. MemberFaultAtIn D f (members_view all)) q
+      → IsFaultPlace (λ f. MemberFaultAtIn D f (members_view all)) q
   pairs_stopped read es rest x r p q next so_far is h path reason =
       let k = string_bytes x.0 in
       let was = subst (λ ys. PairsRead D paired read (members_view ys) (members_view all)) next so_far in
       carried p q (key k) (λ f w m. was.fault f (w ++ key k ∷ []) (at_key k (view x.1) (members_view rest) m)) path
-      reason (placed_in built (reads_in D (view x.1)) (λ f. FaultAtIn D f (view x.1)) r p is h)
+      reason (placed_in represents (reads_tree_in D (view x.1)) (λ f. FaultAtIn D f (view x.1)) r p is h)
 
   pub pairs_ended : (read : X) (es : List Member) → es ≡ []
       → PairsRead D paired read (members_view es) (members_view all)

@@ -19,14 +19,14 @@ use Rattle.bson_scalar.specs.Reading.{number_read_in, optional_wrapper_read_in}
 use Rattle.bson_scalar.specs.Scalar.{Scalar}
 use Rattle.bson_scalar.specs.Table.{wrapper_of, has_wrapper}
 use Rattle.bson_scalar.specs.declared.form.Doubles.{Doubles}
-use Rattle.bson_model.specs.Reading.{reads_in, reads_items_in, reads_members_in, reads_wrapper_in, reads_scope_in}
-use Rattle.bson_model.specs.Reading.{scalar_value, code_at, code_value, scope_value}
+use Rattle.bson_model.specs.Reading.{reads_tree_in, reads_items_in, reads_members_in, reads_wrapper_in, reads_scope_in}
+use Rattle.bson_model.specs.Reading.{scalar_result_as_value, code_with_scope_read, code_value, scope_value}
 use Rattle.bson_model.specs.Value.{Value, Values, Pairs}
 use Rattle.bson_model.specs.Value as model
 use Rattle.bson_tree.specs.declared.place.Place.{Place}
 use Rattle.bson_tree.specs.declared.place.Reason.{Reason}
 use Rattle.bson_tree.specs.Place.{PathSegment, key, path_of, FaultAtIn, ItemFaultAtIn, MemberFaultAtIn, number}
-use Rattle.bson_tree.specs.Place.{array, document, wrapper, scope, shape, HasValueIn, IsReason, IsPlace, HasWrapperKeys}
+use Rattle.bson_tree.specs.Place.{array, document, wrapper, scope, shape, HasValueIn, IsReasonOfFault, IsFaultPlace, HasWrapperKeys}
 use Rattle.bson_tree.specs.Place.{code_with_scope}
 use Rattle.bson_tree.specs.Built.{Builds}
 use Rattle.bson_model.proofs.Offered.{means_from_in}
@@ -46,32 +46,32 @@ view_number n = search (rules, the_lemmas)
 -- the same reason at a path that leads through one more segment
 pub carried : {A B : Fault → List PathSegment → Type 0} (p q : Place) (t : PathSegment)
     → ((f : Fault) (path : List PathSegment) → A f path → B f (path ++ t ∷ []))
-    → path_of q ≡ path_of p ++ t ∷ [] → q.reason ≡ p.reason → IsPlace A p → IsPlace B q
+    → path_of q ≡ path_of p ++ t ∷ [] → q.reason ≡ p.reason → IsFaultPlace A p → IsFaultPlace B q
 carried {A} {B} p q t f path reason is = record {
   fault = is.fault;
   path = subst (B is.fault) (sym path) (f is.fault (path_of p) is.path);
-  reason = subst (IsReason is.fault) (sym reason) is.reason;
+  reason = subst (IsReasonOfFault is.fault) (sym reason) is.reason;
 }
 
 -- the same place, seen from further out
 with_place : {A B : Fault → List PathSegment → Type 0} (p : Place) → ((f : Fault) (path : List PathSegment) → A f path → B f path)
-    → IsPlace A p → IsPlace B p
+    → IsFaultPlace A p → IsFaultPlace B p
 with_place p f is = record { fault = is.fault; path = f is.fault (path_of p) is.path; reason = is.reason }
 
 -- a place at a tree itself
-pub at_once : {A : Fault → List PathSegment → Type 0} (p : Place) → IsReason wrong_shape p.reason → path_of p ≡ []
-    → A wrong_shape [] → IsPlace A p
+pub at_once : {A : Fault → List PathSegment → Type 0} (p : Place) → IsReasonOfFault wrong_shape p.reason → path_of p ≡ []
+    → A wrong_shape [] → IsFaultPlace A p
 at_once {A} p reason path a = record { fault = wrong_shape; path = subst (A wrong_shape) (sym path) a; reason = reason }
 
 -- what was built, where it is that
-pub built_in : {X Y : Type 0} (built : X → Y → Type 0) (read : Result Y Fault) (lies : Fault → List PathSegment → Type 0)
-    (r : Result X Place) (x : X) → r ≡ Ok x → Builds built read lies r → (y : Y) × (read ≡ Ok y) × built x y
-built_in built read lies r x is h = subst (Builds built read lies) is h
+pub built_in : {X Y : Type 0} (represents : X → Y → Type 0) (read : Result Y Fault) (lies : Fault → List PathSegment → Type 0)
+    (r : Result X Place) (x : X) → r ≡ Ok x → Builds represents read lies r → (y : Y) × (read ≡ Ok y) × represents x y
+built_in represents read lies r x is h = subst (Builds represents read lies) is h
 
 -- the place, where it is that
-pub placed_in : {X Y : Type 0} (built : X → Y → Type 0) (read : Result Y Fault) (lies : Fault → List PathSegment → Type 0)
-    (r : Result X Place) (p : Place) → r ≡ Err p → Builds built read lies r → IsPlace lies p
-placed_in built read lies r p is h = subst (Builds built read lies) is h
+pub placed_in : {X Y : Type 0} (represents : X → Y → Type 0) (read : Result Y Fault) (lies : Fault → List PathSegment → Type 0)
+    (r : Result X Place) (p : Place) → r ≡ Err p → Builds represents read lies r → IsFaultPlace lies p
+placed_in represents read lies r p is h = subst (Builds represents read lies) is h
 
 -- ---- what a list, a map and a scope are read as
 
@@ -135,24 +135,24 @@ module _ (D : Doubles) where
   -- ---- values
 
   -- what is read is the meaning
-  pub value_of : (t : Data) (v : Value) → reads_in D t ≡ Ok v → HasValueIn D t
+  pub value_of : (t : Data) (v : Value) → reads_tree_in D t ≡ Ok v → HasValueIn D t
   value_of t v h = (v, means_from_in D t v h)
 
   pub number_value : (n : Num) (x : Scalar) → number_read_in D n ≡ Ok x → HasValueIn D (tree.number n)
-  number_value n x h = value_of (tree.number n) (model.scalar x) (ap scalar_value h)
+  number_value n x h = value_of (tree.number n) (model.scalar x) (ap scalar_result_as_value h)
 
   pub no_number : (n : Num) (f : Fault) → number_read_in D n ≡ Err f → FaultAtIn D f (tree.number n) []
   no_number n f h =
       let is = number_fault D n f h in
-      subst (λ g. FaultAtIn D g (tree.number n) []) (sym is) (number n (nothing_read D (ap scalar_value h)))
+      subst (λ g. FaultAtIn D g (tree.number n) []) (sym is) (number n (nothing_read D (ap scalar_result_as_value h)))
 
   -- the reason of a number
-  pub number_place : (n : Num) (f : Fault) (e : Reason) (p : Place) → number_read_in D n ≡ Err f → IsReason f e
-      → path_of p ≡ [] → p.reason ≡ e → IsPlace (λ g. FaultAtIn D g (tree.number n)) p
+  pub number_place : (n : Num) (f : Fault) (e : Reason) (p : Place) → number_read_in D n ≡ Err f → IsReasonOfFault f e
+      → path_of p ≡ [] → p.reason ≡ e → IsFaultPlace (λ g. FaultAtIn D g (tree.number n)) p
   number_place n f e p h is path reason = record {
     fault = f;
     path = subst (FaultAtIn D f (tree.number n)) (sym path) (no_number n f h);
-    reason = subst (IsReason f) (sym reason) is;
+    reason = subst (IsReasonOfFault f) (sym reason) is;
   }
 
   -- ---- arrays and documents
@@ -163,7 +163,7 @@ module _ (D : Doubles) where
   -- the place of a fault in a list is that of the list's tree
   pub array_place : {X : Type 0} (listed : X → Values → Type 0) (ds : Items) (r : Result X Place) (p : Place)
       → r ≡ Err p → Builds listed (reads_items_in D ds) (λ f. ItemFaultAtIn D f 0 ds) r
-      → IsPlace (λ f. FaultAtIn D f (tree.array ds)) p
+      → IsFaultPlace (λ f. FaultAtIn D f (tree.array ds)) p
   array_place listed ds r p is h =
       with_place p (λ f path m. array ds m) (placed_in listed (reads_items_in D ds) (λ f. ItemFaultAtIn D f 0 ds) r p is h)
 
@@ -175,7 +175,7 @@ module _ (D : Doubles) where
 
   pub document_place : {X : Type 0} (paired : X → Pairs → Type 0) (ms : Members) (r : Result X Place) (p : Place)
       → has_wrapper ms ≡ false → r ≡ Err p → Builds paired (reads_members_in D ms) (λ f. MemberFaultAtIn D f ms) r
-      → IsPlace (λ f. FaultAtIn D f (tree.object ms)) p
+      → IsFaultPlace (λ f. FaultAtIn D f (tree.object ms)) p
   document_place paired ms r p none is h =
       with_place p (λ f path m. document ms none m)
       (placed_in paired (reads_members_in D ms) (λ f. MemberFaultAtIn D f ms) r p is h)
@@ -186,7 +186,7 @@ module _ (D : Doubles) where
       → optional_wrapper_read_in D (wrapper_of k) d ≡ Ok x → HasValueIn D (tree.object (member k d no_members))
   lone_value k d x h e =
       value_of (tree.object (member k d no_members)) (model.scalar x)
-      (wrapped D (member k d no_members) h ∙ ap scalar_value e)
+      (wrapped D (member k d no_members) h ∙ ap scalar_result_as_value e)
 
   -- what reading finds at the key of a wrapper
   pub lone_fault : (k : List ℕ) (d : Data) (f : Fault) → has_wrapper (member k d no_members) ≡ true
@@ -200,12 +200,12 @@ module _ (D : Doubles) where
 
   -- the reason at a wrapper's key
   pub lone_place : (k : List ℕ) (d : Data) (f : Fault) (e : Reason) (p : Place)
-      → has_wrapper (member k d no_members) ≡ true → optional_wrapper_read_in D (wrapper_of k) d ≡ Err f → IsReason f e
-      → path_of p ≡ key k ∷ [] → p.reason ≡ e → IsPlace (λ g. FaultAtIn D g (tree.object (member k d no_members))) p
+      → has_wrapper (member k d no_members) ≡ true → optional_wrapper_read_in D (wrapper_of k) d ≡ Err f → IsReasonOfFault f e
+      → path_of p ≡ key k ∷ [] → p.reason ≡ e → IsFaultPlace (λ g. FaultAtIn D g (tree.object (member k d no_members))) p
   lone_place k d f e p w h is path reason = record {
     fault = f;
     path = subst (λ x. FaultAtIn D f (tree.object (member k d no_members)) x) (sym path) (lone_fault k d f w h);
-    reason = subst (IsReason f) (sym reason) is;
+    reason = subst (IsReasonOfFault f) (sym reason) is;
   }
 
   pub not_code : (k : List ℕ) (d : Data) (l : List ℕ) (e : Data)
@@ -217,7 +217,7 @@ module _ (D : Doubles) where
       shape_fault ms w (not_open_by_keys k d l e h) (other_keys k d l (reads_scope_in D e) h)
 
   no_code_text : (d e : Data) → ((s : List ℕ) → d ≡ tree.string s → ⊥)
-      → code_at (codes "$code") d (codes "$scope") (reads_scope_in D e) ≡ Err wrong_shape
+      → code_with_scope_read (codes "$code") d (codes "$scope") (reads_scope_in D e) ≡ Err wrong_shape
   no_code_text tree.null e h = refl
   no_code_text (tree.boolean b) e h = refl
   no_code_text (tree.number n) e h = refl
@@ -230,7 +230,7 @@ module _ (D : Doubles) where
   not_text d e h = shape_fault (Coded d e) refl (not_open_by_code d e h) (no_code_text d e h)
 
   code_read : (d e : Data) (s : List ℕ) → d ≡ tree.string s
-      → reads_in D (tree.object (Coded d e)) ≡ scope_value s (reads_scope_in D e)
+      → reads_tree_in D (tree.object (Coded d e)) ≡ scope_value s (reads_scope_in D e)
   code_read d e s is = rw is refl
 
   pub value_of_code : (d e : Data) (s : List ℕ) → d ≡ tree.string s → HasScopeIn D e
@@ -246,14 +246,14 @@ module _ (D : Doubles) where
       shape_fault (Coded d e) refl (not_open_by_scope d e none) (code_read d e s is ∙ ap (scope_value s) bad)
 
   -- a tree that is not a string, where code is expected
-  pub no_text_place : (d e : Data) (p : Place) → as_str d ≡ None → IsReason wrong_shape p.reason → path_of p ≡ []
-      → IsPlace (λ f. FaultAtIn D f (tree.object (Coded d e))) p
+  pub no_text_place : (d e : Data) (p : Place) → as_str d ≡ None → IsReasonOfFault wrong_shape p.reason → path_of p ≡ []
+      → IsFaultPlace (λ f. FaultAtIn D f (tree.object (Coded d e))) p
   no_text_place d e p none reason path = at_once p reason path (not_text d e (no_string d none))
 
   -- what is no scope, beside code
   pub bad_scope_place : (s : List ℕ) (e : Data) (p : Place) → as_object e ≡ None → reads_scope_in D e ≡ Err wrong_shape
-      → IsReason wrong_shape p.reason → path_of p ≡ []
-      → IsPlace (λ f. FaultAtIn D f (tree.object (Coded (tree.string s) e))) p
+      → IsReasonOfFault wrong_shape p.reason → path_of p ≡ []
+      → IsFaultPlace (λ f. FaultAtIn D f (tree.object (Coded (tree.string s) e))) p
   bad_scope_place s e p none bad reason path =
       at_once p reason path
       (scope_path (tree.string s) e s refl wrong_shape [] (no_scope e (no_object e none) bad))
@@ -261,7 +261,7 @@ module _ (D : Doubles) where
   pub scope_place : {X : Type 0} (paired : X → Pairs → Type 0) (s k : List ℕ) (ms : Members) (r : Result X Place)
       (p q : Place) → r ≡ Err p → Builds paired (reads_members_in D ms) (λ f. MemberFaultAtIn D f ms) r
       → k ≡ codes "$scope" → path_of q ≡ path_of p ++ key k ∷ [] → q.reason ≡ p.reason
-      → IsPlace (λ f. FaultAtIn D f (tree.object (Coded (tree.string s) (tree.object ms)))) q
+      → IsFaultPlace (λ f. FaultAtIn D f (tree.object (Coded (tree.string s) (tree.object ms)))) q
   scope_place paired s k ms r p q is h at_scope path reason =
       carried p q (key (codes "$scope")) (λ f w m. scope s ms m)
       (path ∙ ap (λ l. path_of p ++ key l ∷ []) at_scope) reason
@@ -270,7 +270,7 @@ module _ (D : Doubles) where
   pub scope_of_map : (ms : Members) → HasPairs D ms → HasScopeIn D (tree.object ms)
   scope_of_map ms ps = (Some ps.0, ap (λ r. r >>= λ qs. Ok (Some qs)) ps.1)
 
-  -- ---- a map of one key, of two and of more, as its pairs are taken
+  -- ---- a map of one key, of two and of more, as its pairs are read
 
   more_cases : (x y : Member) (rest : List Member) → (length rest ≡ 0 → ⊥)
       → has_wrapper (members_view (x ∷ y ∷ rest)) ≡ true
@@ -280,8 +280,8 @@ module _ (D : Doubles) where
       shape_fault (members_view (x ∷ y ∷ z ∷ rest)) w (λ o. never o) refl
 
   pub more_place : (es mid rest : List Member) (x y : Member) (p : Place) → es ≡ x ∷ mid → mid ≡ y ∷ rest
-      → (length rest ≡ 0 → ⊥) → has_wrapper (members_view es) ≡ true → IsReason wrong_shape p.reason → path_of p ≡ []
-      → IsPlace (λ f. FaultAtIn D f (tree.object (members_view es))) p
+      → (length rest ≡ 0 → ⊥) → has_wrapper (members_view es) ≡ true → IsReasonOfFault wrong_shape p.reason → path_of p ≡ []
+      → IsFaultPlace (λ f. FaultAtIn D f (tree.object (members_view es))) p
   more_place es mid rest x y p is next some w reason path =
       let all : es ≡ x ∷ y ∷ rest = is ∙ ap (λ l. x ∷ l) next in
       at_once p reason path
@@ -291,7 +291,7 @@ module _ (D : Doubles) where
   -- two keys that are not those of code and its scope
   pub other_place : (es mid rest : List Member) (x y : Member) (p : Place) → es ≡ x ∷ mid → mid ≡ y ∷ rest
       → length rest ≡ 0 → has_wrapper (members_view es) ≡ true → has_code_keys x y ≡ false
-      → IsReason wrong_shape p.reason → path_of p ≡ [] → IsPlace (λ f. FaultAtIn D f (tree.object (members_view es))) p
+      → IsReasonOfFault wrong_shape p.reason → path_of p ≡ [] → IsFaultPlace (λ f. FaultAtIn D f (tree.object (members_view es))) p
   other_place es mid rest x y p is next none w other reason path =
       let two = two_entries es mid rest x y is next none in
       at_once p reason path

@@ -25,48 +25,52 @@ pub trait ValueBuilder {
     type Pairs: Drop;
 
     // What was built represents the value.
-    ghost built: { Self.Value → model.Value → Type 0 };
+    ghost represents: { Self.Value → model.Value → Type 0 };
 
     // What was built represents these elements.
-    ghost listed: { Self.Items → Values → Type 0 };
+    ghost represents_items: { Self.Items → Values → Type 0 };
 
     // What was built represents these pairs.
-    ghost paired: { Self.Pairs → Pairs → Type 0 };
+    ghost represents_pairs: { Self.Pairs → Pairs → Type 0 };
 
     /// A value that holds no other.
     fn scalar(value: Scalar) -> Self::Value
-        ensures { built result (scalar (scalar_view value)) };
+        ensures { represents result (scalar (scalar_view value)) };
 
     /// No elements yet, with room for so many.
     fn items(alloc: Global, len: usize) -> Result<Self::Items, AllocError>
-        ensures { IfOk result (λ items. listed items no_values) };
+        ensures { IfOk result (λ items. represents_items items no_values) };
 
     /// Adds the next element.
     fn push(items: &mut Self::Items, value: Self::Value) -> Result<(), AllocError>
-        ensures { OnOk result ((vs : Values) (v : model.Value) → listed items.old vs → built value v
-            → listed items.new (push_value vs v)) };
+        ensures { OnOk result ((value_list : Values) (bson_value : model.Value) → represents_items items.old value_list
+            → represents value bson_value
+            → represents_items items.new (push_value value_list bson_value)) };
 
     /// The array of the elements.
     fn array(items: Self::Items) -> Self::Value
-        ensures { (vs : Values) → listed items vs → built result (array vs) };
+        ensures { (value_list : Values) → represents_items items value_list → represents result (array value_list) };
 
     /// No pairs yet, with room for so many.
     fn pairs(alloc: Global, len: usize) -> Result<Self::Pairs, AllocError>
-        ensures { IfOk result (λ pairs. paired pairs no_pairs) };
+        ensures { IfOk result (λ pairs. represents_pairs pairs no_pairs) };
 
     /// Adds the next pair, whose key is not there yet.
     fn put(pairs: &mut Self::Pairs, key: String, value: Self::Value) -> Result<(), AllocError>
-        requires { (ps : Pairs) × paired pairs.old ps × (value_at_key (string_bytes key) ps ≡ None) }
-        ensures { OnOk result ((ps : Pairs) (v : model.Value) → paired pairs.old ps → built value v
-            → paired pairs.new (push_pair ps (string_bytes key) v)) };
+        requires { (pair_list : Pairs) × represents_pairs pairs.old pair_list
+            × (value_at_key (string_bytes key) pair_list ≡ None) }
+        ensures { OnOk result ((pair_list : Pairs) (bson_value : model.Value) → represents_pairs pairs.old pair_list
+            → represents value bson_value
+            → represents_pairs pairs.new (push_pair pair_list (string_bytes key) bson_value)) };
 
     /// The document of the pairs.
     fn document(pairs: Self::Pairs) -> Self::Value
-        ensures { (ps : Pairs) → paired pairs ps → built result (document ps) };
+        ensures { (pair_list : Pairs) → represents_pairs pairs pair_list → represents result (document pair_list) };
 
     /// Code with the scope of the pairs.
     fn code(code: String, scope: Self::Pairs) -> Self::Value
-        ensures { (ps : Pairs) → paired scope ps → built result (code_scope (string_bytes code) ps) };
+        ensures { (pair_list : Pairs) → represents_pairs scope pair_list
+            → represents result (code_scope (string_bytes code) pair_list) };
 }
 
 /// Builds nothing, where only the first fault is asked for.
@@ -88,11 +92,11 @@ impl ValueBuilder for Nothing {
 
     ghost use Rattle.std.specs.Prelude.{⊤};
 
-    ghost built = { λ made v. ⊤ };
+    ghost represents = { λ built_value bson_value. ⊤ };
 
-    ghost listed = { λ made vs. ⊤ };
+    ghost represents_items = { λ built_value value_list. ⊤ };
 
-    ghost paired = { λ made ps. ⊤ };
+    ghost represents_pairs = { λ built_value pair_list. ⊤ };
 
     fn scalar(_value: Scalar) {}
 

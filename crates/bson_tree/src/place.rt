@@ -78,23 +78,24 @@ impl Place {
 fn write_path(alloc: Global, segments: &[Segment], path: &mut String) -> Result<(), AllocError>
     ensures { OnOk result (string_bytes path.new ≡ string_bytes path.old ++ path_text (map segment_of segments.now)) }
 {
-    let Some((segment, outer)) = segments.split_first() else {
+    let Some((segment, outer_segments)) = segments.split_first() else {
         return Ok(());
     };
-    if !outer.is_empty() {
-        write_path(alloc, outer, path)?;
+    if !outer_segments.is_empty() {
+        write_path(alloc, outer_segments, path)?;
         path.push_str(".")?;
     }
-    let word = word(alloc, segment)?;
-    path.push_str(&word)
+    let segment_as_string = segment_as_string(alloc, segment)?;
+    path.push_str(&segment_as_string)
 }
 
 // A key, or the number of a place in an array.
-fn word(alloc: Global, segment: &Segment) -> Result<String, AllocError>
-    ensures { IfOk result (λ word. string_bytes word ≡ segment_text (segment_of segment.now)) }
+fn segment_as_string(alloc: Global, segment: &Segment) -> Result<String, AllocError>
+    ensures { IfOk result
+        (λ segment_as_string. string_bytes segment_as_string ≡ segment_text (segment_of segment.now)) }
 {
     match segment {
         Segment::Key(key) => key.clone(),
-        Segment::Element(at) => format!(in alloc; "{at}"),
+        Segment::Element(item_index) => format!(in alloc; "{item_index}"),
     }
 }

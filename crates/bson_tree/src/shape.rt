@@ -1,6 +1,6 @@
 //! Wrong shapes: which wrapper an object is not, though it has its key, and the message for it.
 ghost use Rattle.std.specs.Prelude.{◌≡◌, is_some};
-ghost use Rattle.bson_tree.specs.Shape.{only_key_message, wrapper_in};
+ghost use Rattle.bson_tree.specs.Shape.{only_key_message, first_wrapper_in};
 ghost use Rattle.bson_scalar.specs.Table.{has_wrapper};
 ghost use Rattle.serde_json.specs.View.{members_view};
 
@@ -17,7 +17,7 @@ pub const SCOPE_MESSAGE: &str = "`$scope` must be an object";
 /// Returns the reason for an object that has the wrapper's key, and other keys than the wrapper's
 /// object.
 pub fn other_keys_reason(wrapper: Wrapper) -> &'static str
-    ensures names { result.now ≡ only_key_message wrapper }
+    ensures message { result.now ≡ only_key_message wrapper }
 {
     match wrapper {
         Wrapper::Oid => "`$oid` must be the only key of its object",
@@ -41,8 +41,8 @@ pub fn other_keys_reason(wrapper: Wrapper) -> &'static str
 
 /// Finds the first wrapper, by ascending key, whose key a map has.
 pub fn first_wrapper(members: &Map<String, Value>) -> Option<Wrapper>
-    ensures first { result ≡ wrapper_in (members_view members.now.entries) }
-    ensures has { is_some result ≡ has_wrapper (members_view members.now.entries) }
+    ensures wrapper { result ≡ first_wrapper_in (members_view members.now.entries) }
+    ensures is_present { is_some result ≡ has_wrapper (members_view members.now.entries) }
 {
     for (key, _) in members.iter() {
         if let Some(wrapper) = wrapper_named(key.as_str()) {

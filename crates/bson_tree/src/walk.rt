@@ -4,13 +4,13 @@ ghost use Rattle.std.specs.Prelude.{MatchOption, Result, Ok, Err, codes, string_
 ghost use Rattle.serde_json.specs.View.{view, number_view, items_view, members_view};
 ghost use Rattle.serde_json.specs.Data.{number, string, array, object, member, no_members};
 ghost use Rattle.bson_scalar.specs.Table.{has_wrapper};
-ghost use Rattle.bson_scalar.specs.TreeParts.{object_of_two};
+ghost use Rattle.bson_scalar.specs.TreeParts.{two_key_object};
 ghost use Rattle.bson_scalar.specs.Faults.{Fault, IsReadError, wrong_shape};
 ghost use Rattle.bson_scalar.specs.Scalar as kind;
-ghost use Rattle.bson_model.specs.Reading.{reads_in, reads_items_in, reads_members_in};
+ghost use Rattle.bson_model.specs.Reading.{reads_tree_in, reads_items_in, reads_members_in};
 ghost use Rattle.bson_tree.specs.Built.{Builds};
 ghost use Rattle.bson_tree.specs.Place.{FaultAtIn, ItemFaultAtIn, MemberFaultAtIn, HasValueIn};
-ghost use Rattle.bson_tree.specs.Place.{IsFirstFaultIn, IsReason, key as key_segment};
+ghost use Rattle.bson_tree.specs.Place.{IsFirstFaultIn, IsReasonOfFault, key as key_segment};
 ghost use Rattle.bson_tree.specs.Place.{segment_of, path_of};
 
 use crate::builder::{Nothing, ValueBuilder};
@@ -45,7 +45,7 @@ pub fn first_place(
     tree: Value,
 ) -> Result<Option<Place>, AllocError>
     ensures { IfOk result
-        (λ found. MatchOption found (HasValueIn doubles (view tree)) (IsFirstFaultIn doubles (view tree))) }
+        (λ first_fault. MatchOption first_fault (HasValueIn doubles (view tree)) (IsFirstFaultIn doubles (view tree))) }
 {
     match read_tree::<Nothing>(alloc, doubles, tree)? {
         Ok(()) => Ok(None),
@@ -66,7 +66,8 @@ pub fn read_tree<B: ValueBuilder>(
     tree: Value,
 ) -> Result<Result<B::Value, Place>, AllocError>
     ensures { IfOk result
-        (Builds B.built (reads_in doubles (view tree)) (λ f. FaultAtIn doubles f (view tree))) }
+        (Builds B.represents (reads_tree_in doubles (view tree))
+        (λ tree_fault. FaultAtIn doubles tree_fault (view tree))) }
 {
     read_value::<B>(alloc, doubles, tree)
 }
@@ -82,8 +83,8 @@ pub fn read_pairs<B: ValueBuilder>(
     doubles: Doubles,
     members: Map<String, Value>,
 ) -> Result<Result<B::Pairs, Place>, AllocError>
-    ensures { IfOk result (Builds B.paired (reads_members_in doubles (members_view members.entries))
-        (λ f. MemberFaultAtIn doubles f (members_view members.entries))) }
+    ensures { IfOk result (Builds B.represents_pairs (reads_members_in doubles (members_view members.entries))
+        (λ tree_fault. MemberFaultAtIn doubles tree_fault (members_view members.entries))) }
 {
     read_members::<B>(alloc, doubles, members)
 }
@@ -95,19 +96,20 @@ fn read_value<B: ValueBuilder>(
     tree: Value,
 ) -> Result<Result<B::Value, Place>, AllocError>
     ensures { IfOk result
-        (Builds B.built (reads_in doubles (view tree)) (λ f. FaultAtIn doubles f (view tree))) }
+        (Builds B.represents (reads_tree_in doubles (view tree))
+        (λ tree_fault. FaultAtIn doubles tree_fault (view tree))) }
 {
     match tree {
         Value::Null => Ok(Ok(B::scalar(Scalar::Null))),
         Value::Bool(truth) => Ok(Ok(B::scalar(Scalar::Boolean(truth)))),
-        Value::Number(n) => build_number::<B>(alloc, doubles, &n),
+        Value::Number(json_number) => build_number::<B>(alloc, doubles, &json_number),
         Value::String(text) => Ok(Ok(B::scalar(Scalar::String(text)))),
         Value::Array(items) => read_array::<B>(alloc, doubles, items),
         Value::Object(members) => read_object::<B>(alloc, doubles, members),
     }
 }
 
-fn at(alloc: Global, reason: Reason) -> Place
+fn root_place(alloc: Global, reason: Reason) -> Place
     ensures reason { result.reason ≡ reason }
     ensures path { path_of result ≡ [] }
 {
@@ -118,17 +120,17 @@ fn at(alloc: Global, reason: Reason) -> Place
 }
 
 // The place at the tree itself.
-fn place_here(alloc: Global, message: &'static str) -> Place
-    ensures reason { IsReason wrong_shape result.reason }
+fn wrong_shape_place(alloc: Global, message: &'static str) -> Place
+    ensures reason { IsReasonOfFault wrong_shape result.reason }
     ensures path { path_of result ≡ [] }
 {
-    at(alloc, Reason::WrongShape(message))
+    root_place(alloc, Reason::WrongShape(message))
 }
 
 // Why a scalar was not read.
-fn reason_of(error: Error) -> Result<Reason, AllocError>
-    ensures { IfOk result (λ reason. (read : Result kind.Scalar Fault) → IsReadError error read
-        → (f : Fault) × (read ≡ Err f) × IsReason f reason) }
+fn reason_of_error(error: Error) -> Result<Reason, AllocError>
+    ensures { IfOk result (λ reason. (scalar_result : Result kind.Scalar Fault) → IsReadError error scalar_result
+        → (tree_fault : Fault) × (scalar_result ≡ Err tree_fault) × IsReasonOfFault tree_fault reason) }
 {
     match error {
         Error::InvalidObjectId(id) => Ok(Reason::BadObjectId(id)),
@@ -140,21 +142,21 @@ fn reason_of(error: Error) -> Result<Reason, AllocError>
 fn build_number<B: ValueBuilder>(
     alloc: Global,
     doubles: Doubles,
-    n: &Number,
+    json_number: &Number,
 ) -> Result<Result<B::Value, Place>, AllocError>
-    ensures { IfOk result (Builds B.built (reads_in doubles (number (number_view n.now)))
-        (λ f. FaultAtIn doubles f (number (number_view n.now)))) }
+    ensures { IfOk result (Builds B.represents (reads_tree_in doubles (number (number_view json_number.now)))
+        (λ tree_fault. FaultAtIn doubles tree_fault (number (number_view json_number.now)))) }
 {
-    match read_number(doubles, n) {
+    match read_number(doubles, json_number) {
         Ok(scalar) => Ok(Ok(B::scalar(scalar))),
-        Err(error) => Ok(Err(at(alloc, reason_of(error)?))),
+        Err(error) => Ok(Err(root_place(alloc, reason_of_error(error)?))),
     }
 }
 
 // The place of a fault in the value that the segment leads to.
 fn with_segment(place: Place, segment: Segment) -> Result<Place, AllocError>
-    ensures path { IfOk result (λ p. path_of p ≡ path_of place ++ segment_of segment ∷ []) }
-    ensures reason { IfOk result (λ p. p.reason ≡ place.reason) }
+    ensures path { IfOk result (λ found_place. path_of found_place ≡ path_of place ++ segment_of segment ∷ []) }
+    ensures reason { IfOk result (λ found_place. found_place.reason ≡ place.reason) }
 {
     let Place {
         reason,
@@ -170,8 +172,8 @@ fn read_array<B: ValueBuilder>(
     doubles: Doubles,
     items: Vec<Value>,
 ) -> Result<Result<B::Value, Place>, AllocError>
-    ensures { IfOk result (Builds B.built (reads_in doubles (array (items_view items.items)))
-        (λ f. FaultAtIn doubles f (array (items_view items.items)))) }
+    ensures { IfOk result (Builds B.represents (reads_tree_in doubles (array (items_view items.items)))
+        (λ tree_fault. FaultAtIn doubles tree_fault (array (items_view items.items)))) }
 {
     match read_items::<B>(alloc, doubles, items)? {
         Ok(items) => Ok(Ok(B::array(items))),
@@ -185,19 +187,19 @@ fn read_items<B: ValueBuilder>(
     doubles: Doubles,
     items: Vec<Value>,
 ) -> Result<Result<B::Items, Place>, AllocError>
-    ensures { IfOk result (Builds B.listed (reads_items_in doubles (items_view items.items))
-        (λ f. ItemFaultAtIn doubles f 0 (items_view items.items))) }
+    ensures { IfOk result (Builds B.represents_items (reads_items_in doubles (items_view items.items))
+        (λ tree_fault. ItemFaultAtIn doubles tree_fault 0 (items_view items.items))) }
 {
-    let mut read = B::items(alloc, items.len())?;
-    let mut at = 0usize;
+    let mut built_so_far = B::items(alloc, items.len())?;
+    let mut item_index = 0usize;
     for item in items {
         match read_value::<B>(alloc, doubles, item)? {
-            Ok(value) => B::push(&mut read, value)?,
-            Err(place) => return Ok(Err(with_segment(place, Segment::Element(at))?)),
+            Ok(value) => B::push(&mut built_so_far, value)?,
+            Err(place) => return Ok(Err(with_segment(place, Segment::Element(item_index))?)),
         }
-        at += 1;
+        item_index += 1;
     }
-    Ok(Ok(read))
+    Ok(Ok(built_so_far))
 }
 
 #[cycle(walk)]
@@ -206,17 +208,17 @@ fn read_members<B: ValueBuilder>(
     doubles: Doubles,
     members: Map<String, Value>,
 ) -> Result<Result<B::Pairs, Place>, AllocError>
-    ensures { IfOk result (Builds B.paired (reads_members_in doubles (members_view members.entries))
-        (λ f. MemberFaultAtIn doubles f (members_view members.entries))) }
+    ensures { IfOk result (Builds B.represents_pairs (reads_members_in doubles (members_view members.entries))
+        (λ tree_fault. MemberFaultAtIn doubles tree_fault (members_view members.entries))) }
 {
-    let mut read = B::pairs(alloc, members.len())?;
+    let mut built_so_far = B::pairs(alloc, members.len())?;
     for (key, value) in members {
         match read_value::<B>(alloc, doubles, value)? {
-            Ok(value) => B::put(&mut read, key, value)?,
+            Ok(value) => B::put(&mut built_so_far, key, value)?,
             Err(place) => return Ok(Err(with_segment(place, Segment::Key(key))?)),
         }
     }
-    Ok(Ok(read))
+    Ok(Ok(built_so_far))
 }
 
 #[cycle(walk)]
@@ -225,11 +227,11 @@ fn read_object<B: ValueBuilder>(
     doubles: Doubles,
     members: Map<String, Value>,
 ) -> Result<Result<B::Value, Place>, AllocError>
-    ensures { IfOk result (Builds B.built (reads_in doubles (object (members_view members.entries)))
-        (λ f. FaultAtIn doubles f (object (members_view members.entries)))) }
+    ensures { IfOk result (Builds B.represents (reads_tree_in doubles (object (members_view members.entries)))
+        (λ tree_fault. FaultAtIn doubles tree_fault (object (members_view members.entries)))) }
 {
     if let Some(wrapper) = first_wrapper(&members) {
-        return read_wrapped::<B>(alloc, doubles, members, wrapper);
+        return read_wrapper_object::<B>(alloc, doubles, members, wrapper);
     }
     match read_members::<B>(alloc, doubles, members)? {
         Ok(pairs) => Ok(Ok(B::document(pairs))),
@@ -239,27 +241,27 @@ fn read_object<B: ValueBuilder>(
 
 // An object whose first wrapper is this one.
 #[cycle(walk)]
-fn read_wrapped<B: ValueBuilder>(
+fn read_wrapper_object<B: ValueBuilder>(
     alloc: Global,
     doubles: Doubles,
     mut members: Map<String, Value>,
     wrapper: Wrapper,
 ) -> Result<Result<B::Value, Place>, AllocError>
     requires { has_wrapper (members_view members.entries) ≡ true }
-    ensures { IfOk result (Builds B.built (reads_in doubles (object (members_view members.entries)))
-        (λ f. FaultAtIn doubles f (object (members_view members.entries)))) }
+    ensures { IfOk result (Builds B.represents (reads_tree_in doubles (object (members_view members.entries)))
+        (λ tree_fault. FaultAtIn doubles tree_fault (object (members_view members.entries)))) }
 {
     let Some((key, value)) = members.pop_first() else {
         unreachable!();
     };
-    let Some((other, scope)) = members.pop_first() else {
+    let Some((second_key, scope)) = members.pop_first() else {
         return build_single_key::<B>(alloc, doubles, key, value);
     };
     if !members.is_empty() {
-        return Ok(Err(place_here(alloc, other_keys_reason(wrapper))));
+        return Ok(Err(wrong_shape_place(alloc, other_keys_reason(wrapper))));
     }
-    if !is_code_with_scope(key.as_str(), other.as_str()) {
-        return Ok(Err(place_here(alloc, other_keys_reason(wrapper))));
+    if !is_code_with_scope(key.as_str(), second_key.as_str()) {
+        return Ok(Err(wrong_shape_place(alloc, other_keys_reason(wrapper))));
     }
     read_code::<B>(alloc, doubles, scope, value)
 }
@@ -273,12 +275,12 @@ fn build_single_key<B: ValueBuilder>(
 ) -> Result<Result<B::Value, Place>, AllocError>
     requires { has_wrapper (member (string_bytes key) (view value) no_members) ≡ true }
     ensures { IfOk result
-        (Builds B.built (reads_in doubles (object (member (string_bytes key) (view value) no_members)))
-        (λ f. FaultAtIn doubles f (object (member (string_bytes key) (view value) no_members)))) }
+        (Builds B.represents (reads_tree_in doubles (object (member (string_bytes key) (view value) no_members)))
+        (λ tree_fault. FaultAtIn doubles tree_fault (object (member (string_bytes key) (view value) no_members)))) }
 {
     match read_single_key_in(alloc, doubles, key.as_str(), value) {
         Ok(scalar) => Ok(Ok(B::scalar(scalar))),
-        Err(error) => Ok(Err(at_key(alloc, key, reason_of(error)?)?)),
+        Err(error) => Ok(Err(at_key(alloc, key, reason_of_error(error)?)?)),
     }
 }
 
@@ -287,7 +289,7 @@ fn at_key(alloc: Global, key: String, reason: Reason) -> Result<Place, AllocErro
     ensures { IfOk result
         (λ place. (path_of place ≡ key_segment (string_bytes key) ∷ []) × (place.reason ≡ reason)) }
 {
-    with_segment(at(alloc, reason), Segment::Key(key))
+    with_segment(root_place(alloc, reason), Segment::Key(key))
 }
 
 // The value at `$scope`, next to the value at `$code`.
@@ -298,13 +300,14 @@ fn read_code<B: ValueBuilder>(
     scope: Value,
     code: Value,
 ) -> Result<Result<B::Value, Place>, AllocError>
-    ensures { IfOk result (Builds B.built
-        (reads_in doubles (object_of_two (codes "$code") (view code) (codes "$scope") (view scope)))
-        (λ f. FaultAtIn doubles f (object_of_two (codes "$code") (view code) (codes "$scope") (view scope)))) }
+    ensures { IfOk result (Builds B.represents
+        (reads_tree_in doubles (two_key_object (codes "$code") (view code) (codes "$scope") (view scope)))
+        (λ tree_fault. FaultAtIn doubles tree_fault
+        (two_key_object (codes "$code") (view code) (codes "$scope") (view scope)))) }
 {
     match code {
         Value::String(code) => read_scope::<B>(alloc, doubles, scope, code),
-        _ => Ok(Err(place_here(alloc, CODE_MESSAGE))),
+        _ => Ok(Err(wrong_shape_place(alloc, CODE_MESSAGE))),
     }
 }
 
@@ -316,15 +319,16 @@ fn read_scope<B: ValueBuilder>(
     scope: Value,
     code: String,
 ) -> Result<Result<B::Value, Place>, AllocError>
-    ensures { IfOk result (Builds B.built
-        (reads_in doubles (object_of_two (codes "$code") (string (string_bytes code)) (codes "$scope") (view scope)))
-        (λ f. FaultAtIn doubles f
-        (object_of_two (codes "$code") (string (string_bytes code)) (codes "$scope") (view scope)))) }
+    ensures { IfOk result (Builds B.represents
+        (reads_tree_in doubles
+        (two_key_object (codes "$code") (string (string_bytes code)) (codes "$scope") (view scope)))
+        (λ tree_fault. FaultAtIn doubles tree_fault
+        (two_key_object (codes "$code") (string (string_bytes code)) (codes "$scope") (view scope)))) }
 {
     match scope {
         Value::Null => Ok(Ok(B::scalar(Scalar::JavaScriptCode(code)))),
         Value::Object(members) => read_scope_map::<B>(alloc, doubles, members, code),
-        _ => Ok(Err(place_here(alloc, SCOPE_MESSAGE))),
+        _ => Ok(Err(wrong_shape_place(alloc, SCOPE_MESSAGE))),
     }
 }
 
@@ -335,10 +339,11 @@ fn read_scope_map<B: ValueBuilder>(
     members: Map<String, Value>,
     code: String,
 ) -> Result<Result<B::Value, Place>, AllocError>
-    ensures { IfOk result (Builds B.built
-        (reads_in doubles (object_of_two (codes "$code") (string (string_bytes code)) (codes "$scope")
+    ensures { IfOk result (Builds B.represents
+        (reads_tree_in doubles (two_key_object (codes "$code") (string (string_bytes code)) (codes "$scope")
         (object (members_view members.entries))))
-        (λ f. FaultAtIn doubles f (object_of_two (codes "$code") (string (string_bytes code)) (codes "$scope")
+        (λ tree_fault. FaultAtIn doubles tree_fault
+        (two_key_object (codes "$code") (string (string_bytes code)) (codes "$scope")
         (object (members_view members.entries))))) }
 {
     match read_members::<B>(alloc, doubles, members)? {

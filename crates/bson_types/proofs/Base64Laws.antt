@@ -6,20 +6,20 @@ use Rattle.base64.specs.Rfc4648.{encode_symbols, padding_len}
 use Rattle.base64.specs.Engines.{standard}
 use Rattle.base64.specs.GeneralPurpose.{IsBytes, decode_of, encode_of, engine_symbols}
 use Rattle.base64.proofs.EngineFacts.{decode_of_strict, decode_of-encode_of}
-use Rattle.bson_types.specs.Base64.{IsBase64, base64_digit, padded_text}
+use Rattle.bson_types.specs.Base64.{IsBase64, base64_digit, padded_base64}
 use Rattle.bson_types.proofs.ByteRanges.{base64_bytes}
 
 three_more : (n : ℕ) → padding_len (suc (suc (suc n))) ≡ padding_len n
 three_more n = omega arith
 
-pub padded : (bytes : List ℕ) → encode_of standard bytes ≡ padded_text bytes
+pub padded : (bytes : List ℕ) → encode_of standard bytes ≡ padded_base64 bytes
 unfolding encode_symbols
 padded [] = refl
 padded (a ∷ []) = refl
 padded (a ∷ b ∷ []) = refl
 padded (a ∷ b ∷ c ∷ rest) =
     let digits = encode_symbols (engine_symbols standard) rest in
-    let end : digits ++ replicate (padding_len (length (a ∷ b ∷ c ∷ rest))) 61 ≡ padded_text rest =
+    let end : digits ++ replicate (padding_len (length (a ∷ b ∷ c ∷ rest))) 61 ≡ padded_base64 rest =
     ap (λ n. digits ++ replicate n 61) (three_more (length rest))
     ∙ padded rest in
     ap (λ t. base64_digit (a / 4) ∷ base64_digit (a % 4 * 16 + b / 16) ∷ base64_digit (b % 16 * 4 + c / 64) ∷ base64_digit (c % 64) ∷ t) end

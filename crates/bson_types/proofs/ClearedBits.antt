@@ -8,7 +8,7 @@ use Rattle.bson_types.specs.IgnoredBits.{cleared_bytes, ignored_bits, last_byte}
 use Rattle.std.specs.Prelude.{Result, Ok, Err, IfOk}
 use Rattle.bson_types.specs.declared.binary.Error.{Error}
 use Rattle.bson_types.specs.declared.vector.Vector.{Vector}
-use Rattle.bson_types.specs.VectorBytes.{vector_bytes, cleared_vector}
+use Rattle.bson_types.specs.VectorBytes.{vector_bytes, vector_with_cleared_bits}
 use Rattle.bson_types.specs.VectorData.{VectorData, IsDataInRange, IsOnlyDataOf, data_bytes, int8, float32, packed}
 use Rattle.bson_types.specs.VectorData.{vector_data}
 use Rattle.bson_types.proofs.VectorLaws.{only_one, same_bytes}
@@ -37,19 +37,19 @@ cleared_bytes-same bytes padding zeros =
     ap (set bytes (length bytes - 1)) high ∙ set-get_or bytes (length bytes - 1) 0
 
 -- and so do those of each vector
-cleared_vector-same : (v : VectorData) → IsDataInRange v → cleared_vector (data_bytes v) ≡ data_bytes v
-cleared_vector-same (int8 zs) range = refl
-cleared_vector-same (float32 ns) range = refl
-cleared_vector-same (packed bytes padding) range =
+vector_with_cleared_bits-same : (v : VectorData) → IsDataInRange v → vector_with_cleared_bits (data_bytes v) ≡ data_bytes v
+vector_with_cleared_bits-same (int8 zs) range = refl
+vector_with_cleared_bits-same (float32 ns) range = refl
+vector_with_cleared_bits-same (packed bytes padding) range =
     ap (λ bs. 16 ∷ padding ∷ bs) (cleared_bytes-same bytes padding range.2)
 
 -- a vector that was read in bytes is the only one of the cleared_bytes bytes, since these are the same
 pub only_one-unchanged : (r : Result Vector Error) (bytes : List ℕ) → IfOk r (λ v. vector_bytes v ≡ bytes)
     → IfOk r (λ v. IsDataInRange (vector_data v))
-    → IfOk r (λ v. IsOnlyDataOf (cleared_vector bytes) (vector_data v))
+    → IfOk r (λ v. IsOnlyDataOf (vector_with_cleared_bits bytes) (vector_data v))
 only_one-unchanged (Ok v) bytes is range =
     let same : data_bytes (vector_data v) ≡ bytes = same_bytes v ∙ is in
-    let unchanged : cleared_vector bytes ≡ bytes = ap cleared_vector (sym same)
-    ∙ cleared_vector-same (vector_data v) range ∙ same in
-    only_one v (cleared_vector bytes) range (is ∙ sym unchanged)
+    let unchanged : vector_with_cleared_bits bytes ≡ bytes = ap vector_with_cleared_bits (sym same)
+    ∙ vector_with_cleared_bits-same (vector_data v) range ∙ same in
+    only_one v (vector_with_cleared_bits bytes) range (is ∙ sym unchanged)
 only_one-unchanged (Err e) bytes is range = tt

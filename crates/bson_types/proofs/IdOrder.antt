@@ -6,22 +6,22 @@ use Rattle.std.proofs.lemmas.Int.{ints}
 use Rattle.std.proofs.Math.Nat.{mul-le-mul_right, pow-suc}
 use Rattle.std.specs.Cmp.Lexicographic.{slice_cmp}
 use Rattle.std.specs.declared.cmp.Ordering.TheVariants.{Less, Equal, Greater}
-use Rattle.bson_types.specs.ObjectIds.{be_number, IsBytes}
+use Rattle.bson_types.specs.ObjectIds.{big_endian_number, IsBytes}
 
 tail_bytes : (x : ℕ) (xs : List ℕ) → IsBytes (x ∷ xs) → IsBytes xs
 tail_bytes x xs h = λ i. h (suc i)
 
-be_number-bound : (xs : List ℕ) → IsBytes xs → be_number xs < 256 ^ length xs
-unfolding be_number
-be_number-bound [] h = omega arith
-be_number-bound (x ∷ xs) h =
+big_endian_number-bound : (xs : List ℕ) → IsBytes xs → big_endian_number xs < 256 ^ length xs
+unfolding big_endian_number
+big_endian_number-bound [] h = omega arith
+big_endian_number-bound (x ∷ xs) h =
     let small : x < 256 = h 0 in
     let le : x ≤ 255 = omega arith in
     omega (
       arith,
       pow-suc 256 (length xs),
       mul-le-mul_right (256 ^ length xs) le,
-      be_number-bound xs (tail_bytes x xs h),
+      big_endian_number-bound xs (tail_bytes x xs h),
     )
 
 cmp-below : (a b : ℕ) → a < b → nat_cmp a b ≡ Less
@@ -47,27 +47,27 @@ first_below x y p a b h s =
     let le : suc x ≤ y = omega arith in
     omega (arith, mul-le-mul_right p le)
 
-pub slice_cmp-be_number : (a b : List ℕ) → length a ≡ length b → IsBytes a → IsBytes b
-    → slice_cmp nat_cmp a b ≡ nat_cmp (be_number a) (be_number b)
-unfolding be_number
-slice_cmp-be_number [] [] e ha hb = refl
-slice_cmp-be_number [] (y ∷ ys) e ha hb = absurd (omega arith)
-slice_cmp-be_number (x ∷ xs) [] e ha hb = absurd (omega arith)
-slice_cmp-be_number (x ∷ xs) (y ∷ ys) e ha hb =
+pub slice_cmp-big_endian_number : (a b : List ℕ) → length a ≡ length b → IsBytes a → IsBytes b
+    → slice_cmp nat_cmp a b ≡ nat_cmp (big_endian_number a) (big_endian_number b)
+unfolding big_endian_number
+slice_cmp-big_endian_number [] [] e ha hb = refl
+slice_cmp-big_endian_number [] (y ∷ ys) e ha hb = absurd (omega arith)
+slice_cmp-big_endian_number (x ∷ xs) [] e ha hb = absurd (omega arith)
+slice_cmp-big_endian_number (x ∷ xs) (y ∷ ys) e ha hb =
     let len : length xs ≡ length ys = omega arith in
-    let ih = slice_cmp-be_number xs ys len (tail_bytes x xs ha) (tail_bytes y ys hb) in
-    let bx = be_number-bound xs (tail_bytes x xs ha) in
-    let by' = be_number-bound ys (tail_bytes y ys hb) in
+    let ih = slice_cmp-big_endian_number xs ys len (tail_bytes x xs ha) (tail_bytes y ys hb) in
+    let bx = big_endian_number-bound xs (tail_bytes x xs ha) in
+    let by' = big_endian_number-bound ys (tail_bytes y ys hb) in
     elim (cases_order x y) [
-      | inl same ↦ rw (same, cmp-same y, len) (ih ∙ sym (cmp-add (y * 256 ^ length ys) (be_number xs) (be_number ys)))
+      | inl same ↦ rw (same, cmp-same y, len) (ih ∙ sym (cmp-add (y * 256 ^ length ys) (big_endian_number xs) (big_endian_number ys)))
       | inr (inl lt) ↦
-          let less : x * 256 ^ length xs + be_number xs < y * 256 ^ length ys + be_number ys =
-          rw (← len) (first_below x y (256 ^ length xs) (be_number xs) (be_number ys) lt bx) in
+          let less : x * 256 ^ length xs + big_endian_number xs < y * 256 ^ length ys + big_endian_number ys =
+          rw (← len) (first_below x y (256 ^ length xs) (big_endian_number xs) (big_endian_number ys) lt bx) in
           rw (cmp-below x y lt) (sym (cmp-below _ _ less))
       | inr (inr gt) ↦
-          let more : y * 256 ^ length ys + be_number ys < x * 256 ^ length xs + be_number xs =
-          rw len (first_below y x (256 ^ length ys) (be_number ys) (be_number xs) gt by') in
+          let more : y * 256 ^ length ys + big_endian_number ys < x * 256 ^ length xs + big_endian_number xs =
+          rw len (first_below y x (256 ^ length ys) (big_endian_number ys) (big_endian_number xs) gt by') in
           rw (cmp-above x y gt) (sym (cmp-above _ _ more))
     ]
 
-pub ruleset order_lemmas = (slice_cmp-be_number)
+pub ruleset order_lemmas = (slice_cmp-big_endian_number)

@@ -6,8 +6,8 @@ use Rattle.std.specs.Cmp.Lexicographic.{slice_cmp}
 use Rattle.std.specs.Ordering.{ordering_then}
 use Rattle.std.specs.declared.cmp.Ordering.{Ordering}
 use Rattle.std.specs.declared.cmp.Ordering.TheVariants.{Less, Equal, Greater}
-use Rattle.bson_types.specs.ObjectIds.{be_number, id_order, IsBytes, IsObjectId}
-use Rattle.bson_types.proofs.IdOrder.{slice_cmp-be_number}
+use Rattle.bson_types.specs.ObjectIds.{big_endian_number, object_id_order, IsBytes, IsObjectId}
+use Rattle.bson_types.proofs.IdOrder.{slice_cmp-big_endian_number}
 
 then-assoc : (a b c : Ordering) → ordering_then a (ordering_then b c) ≡ ordering_then (ordering_then a b) c
 then-assoc Less b c = refl
@@ -45,18 +45,18 @@ same-take : (n : ℕ) (a b : List ℕ) → length a ≡ length b → length (tak
 same-take n a b e = length-take n a ∙ ap (min n) e ∙ sym (length-take n b)
 
 first : (n : ℕ) (a b : List ℕ) → length a ≡ length b → IsBytes a → IsBytes b
-    → slice_cmp nat_cmp (take n a) (take n b) ≡ nat_cmp (be_number (take n a)) (be_number (take n b))
+    → slice_cmp nat_cmp (take n a) (take n b) ≡ nat_cmp (big_endian_number (take n a)) (big_endian_number (take n b))
 first n a b e ha hb =
-    slice_cmp-be_number (take n a) (take n b) (same-take n a b e) (IsBytes-take n a ha) (IsBytes-take n b hb)
+    slice_cmp-big_endian_number (take n a) (take n b) (same-take n a b e) (IsBytes-take n a ha) (IsBytes-take n b hb)
 
-pub slice_cmp-id_order : (a b : List ℕ) → IsObjectId a → IsObjectId b → slice_cmp nat_cmp a b ≡ id_order a b
-slice_cmp-id_order a b ha hb =
+pub slice_cmp-object_id_order : (a b : List ℕ) → IsObjectId a → IsObjectId b → slice_cmp nat_cmp a b ≡ object_id_order a b
+slice_cmp-object_id_order a b ha hb =
     let len : length a ≡ length b = ha.0 ∙ sym hb.0 in
     let len-4 = same-drop 4 a b len in
     let bytes-a = IsBytes-drop 4 a ha.1 in
     let bytes-b = IsBytes-drop 4 b hb.1 in
     let counter =
-    slice_cmp-be_number (drop 5 (drop 4 a)) (drop 5 (drop 4 b)) (same-drop 5 _ _ len-4) (IsBytes-drop 5 _ bytes-a)
+    slice_cmp-big_endian_number (drop 5 (drop 4 a)) (drop 5 (drop 4 b)) (same-drop 5 _ _ len-4) (IsBytes-drop 5 _ bytes-a)
     (IsBytes-drop 5 _ bytes-b) in
     slice_cmp-cut 4 a b len
     ∙ ap₂ ordering_then (first 4 a b len ha.1 hb.1) (slice_cmp-cut 5 (drop 4 a) (drop 4 b) len-4

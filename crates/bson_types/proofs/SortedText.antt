@@ -5,7 +5,7 @@ use Rattle.std.specs.Str.{chars, is_utf8, encode_utf8_all}
 use lib.Utf8.{scalar, scalars}
 use Rattle.std.proofs.lemmas.Bool.{and_parts}
 use Rattle.std.proofs.lemmas.Str.{scalars-chars, chars-encodes, IsUtf8-from_is_utf8, is_utf8-from_IsUtf8}
-use Rattle.bson_types.specs.Regex.{sorted_text, ascending_numbers}
+use Rattle.bson_types.specs.Regex.{sorted_regex_options, ascending_numbers}
 use Rattle.bson_types.proofs.Sorting.{ascending_numbers-again, all-ascending_numbers}
 
 abbrev IsCharacter : ℕ → Type 0
@@ -22,8 +22,8 @@ characters_to (c ∷ cs) h = rw (h.0, characters_to cs h.1) refl
 still_characters : (cs : List ℕ) → scalars cs ≡ true → scalars (ascending_numbers cs) ≡ true
 still_characters cs h = characters_to _ (all-ascending_numbers IsCharacter cs (characters_from cs h))
 
-sorted_at : (b : Bool) (s : List ℕ) → is_utf8 s ≡ b → sorted_text (sorted_text s) ≡ sorted_text s
-unfolding sorted_text
+sorted_at : (b : Bool) (s : List ℕ) → is_utf8 s ≡ b → sorted_regex_options (sorted_regex_options s) ≡ sorted_regex_options s
+unfolding sorted_regex_options
 sorted_at false s e = rw e (rw e refl)
 sorted_at true s e =
     let text = IsUtf8-from_is_utf8 s e in
@@ -35,5 +35,5 @@ sorted_at true s e =
     rw e (rw (again, spelled, ascending_numbers-again (chars s)) refl)
 
 -- sorted options stay as they are
-pub sorted_text-again : (s : List ℕ) → sorted_text (sorted_text s) ≡ sorted_text s
-sorted_text-again s = sorted_at _ s refl
+pub sorted_regex_options-again : (s : List ℕ) → sorted_regex_options (sorted_regex_options s) ≡ sorted_regex_options s
+sorted_regex_options-again s = sorted_at _ s refl

@@ -12,17 +12,17 @@ use Rattle.std.proofs.lemmas.Slice.Eq.{bytes_eq-Decides}
 use Rattle.uuid.specs.Text.{by_index, byte_of_digits, digits_of, has_hyphens, has_urn_prefix, is_hex_digit, parsed}
 use Rattle.uuid.specs.Text.{parsed_braced, parsed_hyphenated, parsed_simple, parsed_urn, value_of}
 use Rattle.uuid.proofs.TextLemmas.{by_index_cong, by_index_length, by_index_same}
-use Rattle.bson_types.specs.HexText.{IsDigitOf, IsHexText, nothing, pair}
+use Rattle.bson_types.specs.HexText.{IsHexDigitOf, IsHexText, nothing, digit_pair}
 use Rattle.bson_types.specs.Uuid.{AreUuidDigits, IsHyphenatedText, IsUuidText, IsUrnPrefix, with_hyphens, digits_alone}
 use Rattle.bson_types.specs.Uuid.{hyphenated, braced, urn}
 use Rattle.bson_types.proofs.HexLaws.{twice}
 
 -- ---- digits
 
-digit_from : (c : ℕ) → is_hex_digit c ≡ true → IsDigitOf (value_of c) c
+digit_from : (c : ℕ) → is_hex_digit c ≡ true → IsHexDigitOf (value_of c) c
 digit_from c h = grind (arith, nat_tests, h)
 
-digit_to : (v c : ℕ) → IsDigitOf v c → (is_hex_digit c ≡ true) × (value_of c ≡ v)
+digit_to : (v c : ℕ) → IsHexDigitOf v c → (is_hex_digit c ≡ true) × (value_of c ≡ v)
 digit_to v c (inl is) = (grind (arith, nat_tests, is.0, is.1), grind (arith, nat_tests, is.0, is.1))
 digit_to v c (inr (least, most, inl is)) =
     (grind (arith, nat_tests, least, most, is), grind (arith, nat_tests, least, most, is))
@@ -59,14 +59,14 @@ text_from (suc n) (c ∷ d ∷ s) long h =
     let second = and_parts (is_hex_digit d) (list_all is_hex_digit s) first.1 in
     let rest = text_from n s (omega (arith, long)) second.1 in
     subst (IsHexText (c ∷ d ∷ s)) (sym (bytes_in_turn c d s n))
-    (pair (value_of c) (value_of d) c d s (by_index n (byte_of_digits s)) (digit_from c first.0)
+    (digit_pair (value_of c) (value_of d) c d s (by_index n (byte_of_digits s)) (digit_from c first.0)
     (digit_from d second.0) rest)
 
 text_to : {s bytes : List ℕ} → IsHexText s bytes
     → (list_all is_hex_digit s ≡ true) × (by_index (length bytes) (byte_of_digits s) ≡ bytes)
 unfolding by_index
 text_to nothing = (refl, refl)
-text_to (pair high low c d s bytes first second rest) =
+text_to (digit_pair high low c d s bytes first second rest) =
     let a = digit_to high c first in
     let b = digit_to low d second in
     let others = text_to rest in

@@ -16,20 +16,20 @@ subtype_byte Encrypted = 6
 subtype_byte Column = 7
 subtype_byte Sensitive = 8
 subtype_byte Vector = 9
-subtype_byte (Reserved x) = x
-subtype_byte (UserDefined x) = x
+subtype_byte (Reserved byte) = byte
+subtype_byte (UserDefined byte) = byte
 
-abbrev pub subtype_of : ℕ → BinarySubtype
-subtype_of b =
-    if b == 0 then Generic
-    else if b == 1 then Function
-    else if b == 2 then BinaryOld
-    else if b == 3 then UuidOld
-    else if b == 4 then Uuid
-    else if b == 5 then Md5
-    else if b == 6 then Encrypted
-    else if b == 7 then Column
-    else if b == 8 then Sensitive
-    else if b == 9 then Vector
-    else if nat_lt b 128 then Reserved b
-    else UserDefined b
+abbrev pub subtype_of : (byte : ℕ) → BinarySubtype
+subtype_of byte =
+    if byte == 0 then Generic
+    else if byte == 1 then Function
+    else if byte == 2 then BinaryOld
+    else if byte == 3 then UuidOld
+    else if byte == 4 then Uuid
+    else if byte == 5 then Md5
+    else if byte == 6 then Encrypted
+    else if byte == 7 then Column
+    else if byte == 8 then Sensitive
+    else if byte == 9 then Vector
+    else if nat_lt byte 128 then Reserved byte
+    else UserDefined byte

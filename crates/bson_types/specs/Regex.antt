@@ -4,19 +4,21 @@ use Rattle.std.specs.Str.{chars, is_utf8, encode_utf8_all}
 use Rattle.bson_types.specs.declared.regex.Regex.{Regex}
 
 -- the list with one more number, inserted in ascending order
-abbrev pub insert_sorted : ℕ → List ℕ → List ℕ
-insert_sorted n [] = n ∷ []
-insert_sorted n (x ∷ xs) = if nat_le n x then n ∷ x ∷ xs else x ∷ insert_sorted n xs
+abbrev pub insert_sorted : (inserted_number : ℕ) → (numbers : List ℕ) → List ℕ
+insert_sorted inserted_number [] = inserted_number ∷ []
+insert_sorted inserted_number (first_number ∷ other_numbers) = if nat_le inserted_number first_number then inserted_number ∷ first_number ∷ other_numbers else first_number ∷ insert_sorted inserted_number other_numbers
 
 -- the same numbers in ascending order
-abbrev pub ascending_numbers : List ℕ → List ℕ
+abbrev pub ascending_numbers : (numbers : List ℕ) → List ℕ
 ascending_numbers [] = []
-ascending_numbers (x ∷ xs) = insert_sorted x (ascending_numbers xs)
+ascending_numbers (first_number ∷ other_numbers) = insert_sorted first_number (ascending_numbers other_numbers)
 
 -- the characters of a string in ascending order; bytes that are not UTF-8 are unchanged
-unfoldable pub sorted_text : List ℕ → List ℕ
-sorted_text s = if is_utf8 s then encode_utf8_all (ascending_numbers (chars s)) else s
+unfoldable pub sorted_regex_options : (text_bytes : List ℕ) → List ℕ
+sorted_regex_options text_bytes =
+    if is_utf8 text_bytes then encode_utf8_all (ascending_numbers (chars text_bytes)) else text_bytes
 
 -- how a regular expression is shown: `/pattern/options`, with the options in their own order
 abbrev pub regex_text : Regex → List ℕ
-regex_text r = codes "/" ++ string_bytes r.pattern ++ codes "/" ++ string_bytes r.options
+regex_text regular_expression =
+    codes "/" ++ string_bytes regular_expression.pattern ++ codes "/" ++ string_bytes regular_expression.options

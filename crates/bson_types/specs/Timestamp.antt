@@ -4,4 +4,5 @@ use Rattle.std.specs.Fmt.{decimal}
 use Rattle.bson_types.specs.declared.timestamp.Timestamp.{Timestamp}
 
 abbrev pub timestamp_text : Timestamp → List ℕ
-timestamp_text t = codes "Timestamp(" ++ decimal t.time ++ codes ", " ++ decimal t.increment ++ codes ")"
+timestamp_text timestamp_value =
+    codes "Timestamp(" ++ decimal timestamp_value.time ++ codes ", " ++ decimal timestamp_value.increment ++ codes ")"

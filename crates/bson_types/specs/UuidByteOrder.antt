@@ -16,7 +16,7 @@ byte_order_of JavaLegacy = 7 ∷ 6 ∷ 5 ∷ 4 ∷ 3 ∷ 2 ∷ 1 ∷ 0 ∷ 15 �
 byte_order_of _ = 0 ∷ 1 ∷ 2 ∷ 3 ∷ 4 ∷ 5 ∷ 6 ∷ 7 ∷ 8 ∷ 9 ∷ 10 ∷ 11 ∷ 12 ∷ 13 ∷ 14 ∷ 15 ∷ []
 
 -- the bytes in the order of a representation; reordering twice gives the same bytes
-abbrev pub bytes_in_uuid_order : UuidRepresentation → List ℕ → List ℕ
+abbrev pub bytes_in_uuid_order : UuidRepresentation → (bytes : List ℕ) → List ℕ
 bytes_in_uuid_order representation bytes = map (slice_index bytes) (byte_order_of representation)
 
 -- the subtype that a representation is stored with
@@ -29,10 +29,13 @@ abbrev pub IsInvalidUuidString : Error → Type 0
 IsInvalidUuidString (InvalidUuidString message) = Unit {0}
 IsInvalidUuidString _ = ⊥
 
-abbrev pub IsRepresentationMismatch : BinarySubtype → BinarySubtype → UuidRepresentation → Error → Type 0
-IsRepresentationMismatch expected actual asked (RepresentationMismatch e a representation) = (e ≡ expected) × (a ≡ actual) × (representation ≡ asked)
-IsRepresentationMismatch expected actual asked _ = ⊥
+abbrev pub IsRepresentationMismatch : (expected actual : BinarySubtype) → (requested : UuidRepresentation) → Error
+    → Type 0
+IsRepresentationMismatch expected actual requested
+    (RepresentationMismatch error_expected error_actual error_requested) = (error_expected ≡ expected)
+    × (error_actual ≡ actual) × (error_requested ≡ requested)
+IsRepresentationMismatch expected actual requested _ = ⊥
 
-abbrev pub IsInvalidLength : ℕ → Error → Type 0
-IsInvalidLength n (InvalidLength m) = m ≡ n
-IsInvalidLength n _ = ⊥
+abbrev pub IsInvalidLength : (byte_count : ℕ) → Error → Type 0
+IsInvalidLength byte_count (InvalidLength reported_length) = reported_length ≡ byte_count
+IsInvalidLength byte_count _ = ⊥

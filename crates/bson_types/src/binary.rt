@@ -4,7 +4,7 @@ ghost use Rattle.std.specs.Prelude.{◌≡◌, ◌≢◌, ◌⊎◌, ◌↔◌, 
 ghost use Rattle.std.specs.Prelude.{OnOk, length, true, unwrap_or, vec_len};
 ghost use Rattle.base64.specs.Engines.{standard};
 ghost use Rattle.base64.specs.GeneralPurpose.{encode_of};
-ghost use Rattle.bson_types.specs.Base64.{IsBase64, padded_text};
+ghost use Rattle.bson_types.specs.Base64.{IsBase64, padded_base64};
 ghost use Rattle.bson_types.specs.BinaryErrors.{IsDecodingError, IsAllocationError};
 ghost use Rattle.bson_types.specs.UuidByteOrder.{bytes_in_uuid_order, subtype_for};
 ghost use Rattle.bson_types.specs.VectorData.{IsDataInRange, IsOnlyDataOf, data_in_range, vector_data};
@@ -15,7 +15,7 @@ pub use crate::packed_bits::PackedBitVector;
 use crate::spec::BinarySubtype;
 use crate::uuid_value::{self, Uuid, UuidRepresentation};
 pub use crate::vector::Vector;
-use crate::vector::are_bytes;
+use crate::vector::bytes_are_below_256;
 use base64::engine::general_purpose::STANDARD;
 use std::alloc::{AllocError, Global};
 use std::fmt;
@@ -73,17 +73,17 @@ impl Binary {
     /// - `DecodingError`: the text is not padded base64 of this form.
     /// - `OutOfMemory`: a request for memory was refused.
     pub fn from_base64(alloc: Global, text: &str, subtype: Option<BinarySubtype>) -> Result<Binary>
-        ensures subtype { IfOk result (λ b. b.subtype ≡ unwrap_or subtype BinarySubtype.Generic) }
-        ensures ok { IfOk result (λ b. IsBase64 text.now b.bytes.items) }
+        ensures subtype { IfOk result (λ binary. binary.subtype ≡ unwrap_or subtype BinarySubtype.Generic) }
+        ensures ok { IfOk result (λ binary. IsBase64 text.now binary.bytes.items) }
 
         // A string that is base64 is not rejected.
-        ensures err { IfErr result (λ e. IsAllocationError e
-            ⊎ (IsDecodingError e × ((bytes : List ℕ) → ¬ (IsBase64 text.now bytes)))) }
+        ensures err { IfErr result (λ error. IsAllocationError error
+            ⊎ (IsDecodingError error × ((bytes : List ℕ) → ¬ (IsBase64 text.now bytes)))) }
     {
         let input = text.as_bytes();
-        are_bytes(input);
-        let room = input.len() / 4 * 3 + 3;
-        let mut bytes = vec![in alloc; 0u8; room]?;
+        bytes_are_below_256(input);
+        let decoded_capacity = input.len() / 4 * 3 + 3;
+        let mut bytes = vec![in alloc; 0u8; decoded_capacity]?;
         match STANDARD.decode_slice_unchecked(input, bytes.as_mut_slice()) {
             Ok(len) => {
                 bytes.truncate(len);
@@ -104,9 +104,9 @@ impl Binary {
     ///
     /// Returns `AllocError` if a request for memory is refused.
     pub fn from_uuid(alloc: Global, id: Uuid) -> Result<Binary, AllocError>
-        ensures subtype { IfOk result (λ b. b.subtype ≡ BinarySubtype.Uuid) }
-        ensures bytes { IfOk result (λ b. b.bytes.items ≡ id) }
-        ensures length { IfOk result (λ b. vec_len b.bytes ≡ 16) }
+        ensures subtype { IfOk result (λ binary. binary.subtype ≡ BinarySubtype.Uuid) }
+        ensures bytes { IfOk result (λ binary. binary.bytes.items ≡ id) }
+        ensures length { IfOk result (λ binary. vec_len binary.bytes ≡ 16) }
     {
         let bytes = id.bytes();
         Ok(Binary {
@@ -127,16 +127,16 @@ impl Binary {
         id: Uuid,
         representation: UuidRepresentation,
     ) -> Result<Binary, AllocError>
-        ensures subtype { IfOk result (λ b. b.subtype ≡ subtype_for representation) }
-        ensures bytes { IfOk result (λ b. b.bytes.items ≡ bytes_in_uuid_order representation id) }
+        ensures subtype { IfOk result (λ binary. binary.subtype ≡ subtype_for representation) }
+        ensures bytes { IfOk result (λ binary. binary.bytes.items ≡ bytes_in_uuid_order representation id) }
 
         // Reading the UUID back needs this length, and returns the same UUID.
-        ensures length { IfOk result (λ b. vec_len b.bytes ≡ 16) }
-        ensures undone { IfOk result (λ b. bytes_in_uuid_order representation b.bytes.items ≡ id) }
+        ensures length { IfOk result (λ binary. vec_len binary.bytes ≡ 16) }
+        ensures reorders_back { IfOk result (λ binary. bytes_in_uuid_order representation binary.bytes.items ≡ id) }
     {
-        let bytes = reorder(&id.bytes(), representation);
+        let bytes = reorder_uuid_bytes(&id.bytes(), representation);
         Ok(Binary {
-            subtype: subtype_of(representation),
+            subtype: uuid_subtype_of(representation),
             bytes: Vec::from_slice(alloc, &bytes)?,
         })
     }
@@ -148,21 +148,21 @@ impl Binary {
     ///
     /// Returns `AllocError` if a request for memory is refused.
     pub fn from_vector(alloc: Global, vector: &Vector) -> Result<Binary, AllocError>
-        ensures subtype { IfOk result (λ b. b.subtype ≡ BinarySubtype.Vector) }
-        ensures bytes { IfOk result (λ b. b.bytes.items ≡ vector_bytes vector.now) }
+        ensures subtype { IfOk result (λ binary. binary.subtype ≡ BinarySubtype.Vector) }
+        ensures bytes { IfOk result (λ binary. binary.bytes.items ≡ vector_bytes vector.now) }
 
         // Reading the vector back accepts these bytes, and returns the same vector.
-        ensures readable { IfOk result (λ b. is_vector_bytes b.bytes.items ≡ true) }
-        ensures only { IfOk result (λ b. IsDataInRange (vector_data vector.now)
-            → IsOnlyDataOf b.bytes.items (vector_data vector.now)) }
+        ensures readable { IfOk result (λ binary. is_vector_bytes binary.bytes.items ≡ true) }
+        ensures only_vector { IfOk result (λ binary. IsDataInRange (vector_data vector.now)
+            → IsOnlyDataOf binary.bytes.items (vector_data vector.now)) }
 
         // The same for any vector. `data_in_range` differs from `vector_data` only for a number that a
         // clause assumes to be outside the range of 8 bits.
-        ensures ranged { OnOk result (IsDataInRange (data_in_range vector.now)) }
-        ensures held { IfOk result (λ b. IsOnlyDataOf b.bytes.items (data_in_range vector.now)) }
+        ensures within_type_range { OnOk result (IsDataInRange (data_in_range vector.now)) }
+        ensures only_in_range { IfOk result (λ binary. IsOnlyDataOf binary.bytes.items (data_in_range vector.now)) }
     {
         let bytes = vector.to_bytes(alloc)?;
-        are_bytes(bytes.as_slice());
+        bytes_are_below_256(bytes.as_slice());
         Ok(Binary {
             subtype: BinarySubtype::Vector,
             bytes,
@@ -175,8 +175,8 @@ impl Binary {
     ///
     /// Returns `AllocError` if a request for memory is refused.
     pub fn clone(&self, alloc: Global) -> Result<Binary, AllocError>
-        ensures subtype { IfOk result (λ b. b.subtype ≡ self.now.subtype) }
-        ensures bytes { IfOk result (λ b. b.bytes.items ≡ self.now.bytes.items) }
+        ensures subtype { IfOk result (λ binary. binary.subtype ≡ self.now.subtype) }
+        ensures bytes { IfOk result (λ binary. binary.bytes.items ≡ self.now.bytes.items) }
     {
         Ok(Binary {
             subtype: self.subtype,
@@ -225,7 +225,7 @@ impl Binary {
         ensures length { self.now.subtype ≡ subtype_for representation
             → IfErr result (IsInvalidLength (vec_len self.now.bytes)) }
     {
-        let expected = subtype_of(representation);
+        let expected = uuid_subtype_of(representation);
         if self.subtype != expected {
             return Err(uuid_value::Error::RepresentationMismatch {
                 expected_binary_subtype: expected,
@@ -234,7 +234,7 @@ impl Binary {
             });
         }
         match <[u8; 16]>::try_from(self.bytes.as_slice()) {
-            Ok(bytes) => Ok(Uuid::from_bytes(reorder(&bytes, representation))),
+            Ok(bytes) => Ok(Uuid::from_bytes(reorder_uuid_bytes(&bytes, representation))),
             Err(_) => Err(uuid_value::Error::InvalidLength {
                 length: self.bytes.len(),
             }),
@@ -242,7 +242,7 @@ impl Binary {
     }
 }
 
-fn subtype_of(representation: UuidRepresentation) -> BinarySubtype
+fn uuid_subtype_of(representation: UuidRepresentation) -> BinarySubtype
     ensures { result ≡ subtype_for representation }
 {
     match representation {
@@ -251,21 +251,21 @@ fn subtype_of(representation: UuidRepresentation) -> BinarySubtype
     }
 }
 
-fn reorder(b: &[u8; 16], representation: UuidRepresentation) -> [u8; 16]
-    ensures { result ≡ bytes_in_uuid_order representation b.now }
+fn reorder_uuid_bytes(bytes: &[u8; 16], representation: UuidRepresentation) -> [u8; 16]
+    ensures { result ≡ bytes_in_uuid_order representation bytes.now }
 {
     match representation {
         UuidRepresentation::Standard | UuidRepresentation::PythonLegacy => [
-            b[0], b[1], b[2], b[3], b[4], b[5], b[6], b[7], b[8], b[9], b[10], b[11], b[12], b[13],
-            b[14], b[15],
+            bytes[0], bytes[1], bytes[2], bytes[3], bytes[4], bytes[5], bytes[6], bytes[7],
+            bytes[8], bytes[9], bytes[10], bytes[11], bytes[12], bytes[13], bytes[14], bytes[15],
         ],
         UuidRepresentation::CSharpLegacy => [
-            b[3], b[2], b[1], b[0], b[5], b[4], b[7], b[6], b[8], b[9], b[10], b[11], b[12], b[13],
-            b[14], b[15],
+            bytes[3], bytes[2], bytes[1], bytes[0], bytes[5], bytes[4], bytes[7], bytes[6],
+            bytes[8], bytes[9], bytes[10], bytes[11], bytes[12], bytes[13], bytes[14], bytes[15],
         ],
         UuidRepresentation::JavaLegacy => [
-            b[7], b[6], b[5], b[4], b[3], b[2], b[1], b[0], b[15], b[14], b[13], b[12], b[11],
-            b[10], b[9], b[8],
+            bytes[7], bytes[6], bytes[5], bytes[4], bytes[3], bytes[2], bytes[1], bytes[0],
+            bytes[15], bytes[14], bytes[13], bytes[12], bytes[11], bytes[10], bytes[9], bytes[8],
         ],
     }
 }
@@ -273,14 +273,14 @@ fn reorder(b: &[u8; 16], representation: UuidRepresentation) -> [u8; 16]
 impl fmt::Display for Binary {
     ghost use Rattle.bson_types.specs.BinaryText.{binary_text};
 
-    ghost output = { λ b. Some (binary_text b) };
+    ghost output = { λ binary. Some (binary_text binary) };
 
-    fn fmt<W: fmt::Write>(&self, f: &mut fmt::Formatter<W>) -> fmt::Result {
+    fn fmt<W: fmt::Write>(&self, formatter: &mut fmt::Formatter<W>) -> fmt::Result {
         let byte = u8::from(self.subtype);
         let text = Base64 {
             bytes: self.bytes.as_slice(),
         };
-        write!(f, "Binary(0x{byte:x}, {text})")
+        write!(formatter, "Binary(0x{byte:x}, {text})")
     }
 }
 
@@ -291,44 +291,44 @@ struct Base64<'a> {
 }
 
 impl fmt::Display for Base64<'_> {
-    ghost output = { λ b. Some (padded_text b.bytes.now) };
+    ghost output = { λ base64_bytes. Some (padded_base64 base64_bytes.bytes.now) };
 
-    fn fmt<W: fmt::Write>(&self, f: &mut fmt::Formatter<W>) -> fmt::Result {
-        let mut rest = self.bytes;
-        'groups: while rest.len() > 3 {
-            let (group, others) = rest.split_at(3);
-            let mut out = [0u8; 4];
-            f.write_str(group_text(group, &mut out))?;
-            rest = others;
+    fn fmt<W: fmt::Write>(&self, formatter: &mut fmt::Formatter<W>) -> fmt::Result {
+        let mut remaining_bytes = self.bytes;
+        'groups: while remaining_bytes.len() > 3 {
+            let (group, bytes_after_group) = remaining_bytes.split_at(3);
+            let mut group_digits = [0u8; 4];
+            formatter.write_str(base64_group_text(group, &mut group_digits))?;
+            remaining_bytes = bytes_after_group;
         }
-        let mut out = [0u8; 4];
-        f.write_str(group_text(rest, &mut out))
+        let mut group_digits = [0u8; 4];
+        formatter.write_str(base64_group_text(remaining_bytes, &mut group_digits))
     }
 }
 
-fn group_text<'o>(bytes: &[u8], out: &'o mut [u8; 4]) -> &'o str
+fn base64_group_text<'o>(bytes: &[u8], group_digits: &'o mut [u8; 4]) -> &'o str
     requires { length bytes.now ≤ 3 }
-    ensures { result.now ≡ padded_text bytes.now }
+    ensures { result.now ≡ padded_base64 bytes.now }
 {
-    match str::from_utf8(group_bytes(bytes, out)) {
+    match str::from_utf8(base64_group_bytes(bytes, group_digits)) {
         Ok(text) => text,
         Err(_) => unreachable!(),
     }
 }
 
 // The base64 of at most three bytes, on the stack, as the engine writes it.
-fn group_bytes<'o>(bytes: &[u8], out: &'o mut [u8; 4]) -> &'o [u8]
+fn base64_group_bytes<'o>(bytes: &[u8], group_digits: &'o mut [u8; 4]) -> &'o [u8]
     requires { length bytes.now ≤ 3 }
     ensures { result.now ≡ encode_of standard bytes.now }
 {
-    match STANDARD.encode_slice(bytes, out) {
-        Ok(len) => &out[..len],
+    match STANDARD.encode_slice(bytes, group_digits) {
+        Ok(len) => &group_digits[..len],
         Err(_) => unreachable!(),
     }
 }
 
 impl From<AllocError> for Error {
-    ghost from_gives = { λ _ e. e ≡ binary_error.OutOfMemory };
+    ghost from_gives = { λ _ error. error ≡ binary_error.OutOfMemory };
 
     fn from(_refused: AllocError) -> Error {
         Error::OutOfMemory

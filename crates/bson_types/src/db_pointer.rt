@@ -18,34 +18,34 @@ pub struct DbPointer {
 }
 
 impl DbPointer {
-    ghost use Rattle.bson_types.specs.DbPointer.{namespace_of, id_of};
+    ghost use Rattle.bson_types.specs.DbPointer.{pointer_namespace, pointer_id};
 
     /// Makes the pointer to the document with this id in this collection.
     pub fn new(namespace: String, id: ObjectId) -> DbPointer
-        ensures namespace { namespace_of result ≡ string_bytes namespace }
-        ensures id { id_of result ≡ id }
+        ensures namespace { pointer_namespace result ≡ string_bytes namespace }
+        ensures id { pointer_id result ≡ id }
     {
         DbPointer { namespace, id }
     }
 
     /// Returns the name of the collection.
     pub fn namespace(&self) -> &str
-        ensures { result.now ≡ namespace_of self.now }
+        ensures { result.now ≡ pointer_namespace self.now }
     {
         self.namespace.as_str()
     }
 
     /// Returns the id of the document.
     pub fn id(&self) -> ObjectId
-        ensures { result ≡ id_of self.now }
+        ensures { result ≡ pointer_id self.now }
     {
         self.id
     }
 
     /// Returns the name and the id, without a copy of the name.
     pub fn into_parts(self) -> (String, ObjectId)
-        ensures namespace { string_bytes result.0 ≡ namespace_of self }
-        ensures id { result.1 ≡ id_of self }
+        ensures namespace { string_bytes result.0 ≡ pointer_namespace self }
+        ensures id { result.1 ≡ pointer_id self }
     {
         let DbPointer { namespace, id } = self;
         (namespace, id)
@@ -57,8 +57,8 @@ impl DbPointer {
     ///
     /// Returns `AllocError` if a request for memory is refused.
     pub fn clone(&self, alloc: Global) -> Result<DbPointer, AllocError>
-        ensures namespace { IfOk result (λ p. namespace_of p ≡ namespace_of self.now) }
-        ensures id { IfOk result (λ p. id_of p ≡ id_of self.now) }
+        ensures namespace { IfOk result (λ copy. pointer_namespace copy ≡ pointer_namespace self.now) }
+        ensures id { IfOk result (λ copy. pointer_id copy ≡ pointer_id self.now) }
     {
         Ok(DbPointer {
             namespace: String::from_str(alloc, self.namespace.as_str())?,

@@ -8,7 +8,7 @@ ghost use Rattle.std.proofs.Common.{refl};
 ghost use Rattle.bson_types.specs.ObjectIds.{IsObjectId, IsOidText, BadLength, first_non_digit, encode_lower};
 ghost use Rattle.bson_types.specs.ObjectIds.{oid_fault_at, is_hex_digit, oid_fault, oid_millis};
 ghost use Rattle.hex.specs.Hex.{hex_digit_value};
-ghost use Rattle.bson_types.specs.HexText.{below_16, byte_of_digits};
+ghost use Rattle.bson_types.specs.HexText.{below_16, byte_of_hex_digits};
 ghost use Rattle.bson_types.specs.ObjectIdErrors.{IsOidError};
 ghost use Rattle.bson_types.specs.declared.oid.Error.TheVariants as oid_error;
 
@@ -73,7 +73,7 @@ impl Model for ObjectId {
 
     ghost view = { λ id. id.bytes };
 
-    ghost inverse = { λ xs. record { bytes = xs } };
+    ghost inverse = { λ id_bytes. record { bytes = id_bytes } };
 }
 
 impl ObjectId {
@@ -109,12 +109,12 @@ impl ObjectId {
         ensures valid { (id : List ℕ) → IsOidText text.now id → result ≡ Ok id }
 
         // A string that is an object id is not rejected, so the string has an error.
-        ensures err { IfErr result (λ e. IsOidError text.now e) }
+        ensures err { IfErr result (λ error. IsOidError text.now error) }
     {
         if text.len() % 2 != 0 {
             return Err(length_error(alloc, text));
         }
-        match bytes_of(text.as_bytes()) {
+        match parse_id_bytes(text.as_bytes()) {
             Some(bytes) => Ok(ObjectId::from_bytes(bytes)),
             None => Err(digit_error(alloc, text)),
         }
@@ -124,17 +124,17 @@ impl ObjectId {
     pub fn timestamp(&self) -> DateTime
         ensures { result ≡ oid_millis self.now }
     {
-        let [a, b, c, d, ..] = self.bytes;
-        let seconds = u32::from_be_bytes([a, b, c, d]);
+        let [byte_0, byte_1, byte_2, byte_3, ..] = self.bytes;
+        let seconds = u32::from_be_bytes([byte_0, byte_1, byte_2, byte_3]);
         DateTime::from_millis(seconds as i64 * 1000)
     }
 
     /// Returns the 12 bytes.
     pub fn bytes(&self) -> [u8; 12]
         ensures value { result ≡ self.now }
-        ensures ranged { IsObjectId self.now }
+        ensures within_type_range { IsObjectId self.now }
     {
-        in_range(self.bytes)
+        with_byte_bounds(self.bytes)
     }
 
     /// Writes the 24 lower-case hexadecimal digits, as `Display` writes them.
@@ -158,26 +158,26 @@ impl From<[u8; 12]> for ObjectId {
 }
 
 impl Ord for ObjectId {
-    ghost use Rattle.bson_types.specs.ObjectIds.{id_order};
+    ghost use Rattle.bson_types.specs.ObjectIds.{object_id_order};
 
     ghost cmp = { slice_cmp nat_cmp };
 
     ghost total = { nat_list_cmp_total };
 
-    ghost matches_partial_cmp = { λ x y. refl };
+    ghost matches_partial_cmp = { λ id other_id. refl };
 
     ghost matches_eq = { texts_ties };
 
     fn cmp(&self, other: &ObjectId) -> Ordering
         ensures bytes { result ≡ slice_cmp nat_cmp self.now other.now }
-        ensures numbers { result ≡ id_order self.now other.now }
+        ensures numbers { result ≡ object_id_order self.now other.now }
     {
         self.bytes().cmp(&other.bytes())
     }
 }
 
 impl PartialOrd for ObjectId {
-    ghost partial_cmp = { λ x y. Some (slice_cmp nat_cmp x y) };
+    ghost partial_cmp = { λ id other_id. Some (slice_cmp nat_cmp id other_id) };
 
     ghost laws = { texts_po };
 
@@ -189,17 +189,17 @@ impl PartialOrd for ObjectId {
 impl fmt::Display for ObjectId {
     ghost output = { λ id. Some (encode_lower id) };
 
-    fn fmt<W: fmt::Write>(&self, f: &mut fmt::Formatter<W>) -> fmt::Result {
-        let digits = digits_of(self);
+    fn fmt<W: fmt::Write>(&self, formatter: &mut fmt::Formatter<W>) -> fmt::Result {
+        let digits = hex_digits_of(self);
         match str::from_utf8(&digits) {
-            Ok(text) => f.write_str(text),
+            Ok(text) => formatter.write_str(text),
             Err(_) => unreachable!(),
         }
     }
 }
 
 // The value of each byte that is a hexadecimal digit, of either case, and 255 for the others.
-const DIGIT_VALUES: [u8; 256] = [
+const HEX_DIGIT_VALUES: [u8; 256] = [
     255, 255, 255, 255, 255, 255, 255, 255, 255, 255, 255, 255, 255, 255, 255, 255, 255, 255, 255,
     255, 255, 255, 255, 255, 255, 255, 255, 255, 255, 255, 255, 255, 255, 255, 255, 255, 255, 255,
     255, 255, 255, 255, 255, 255, 255, 255, 255, 255, 0, 1, 2, 3, 4, 5, 6, 7, 8, 9, 255, 255, 255,
@@ -220,12 +220,12 @@ const DIGIT_VALUES: [u8; 256] = [
 fn digit_value(byte: u8) -> u8
     ensures { below_16 result ≡ hex_digit_value byte }
 {
-    DIGIT_VALUES[byte as usize]
+    HEX_DIGIT_VALUES[byte as usize]
 }
 
 // The byte of two hexadecimal digits.
-fn byte_of(high: u8, low: u8) -> Option<u8>
-    ensures { result ≡ byte_of_digits (hex_digit_value high) (hex_digit_value low) }
+fn byte_of_digit_pair(high: u8, low: u8) -> Option<u8>
+    ensures { result ≡ byte_of_hex_digits (hex_digit_value high) (hex_digit_value low) }
 {
     let high = digit_value(high);
     let low = digit_value(low);
@@ -236,24 +236,24 @@ fn byte_of(high: u8, low: u8) -> Option<u8>
 }
 
 // The bytes of a string, if it is 24 hexadecimal digits.
-fn bytes_of(text: &[u8]) -> Option<[u8; 12]>
+fn parse_id_bytes(text: &[u8]) -> Option<[u8; 12]>
     ensures some { IfSome result (λ id. IsOidText text.now id) }
-    ensures every { (id : List ℕ) → IsOidText text.now id → result ≡ Some id }
+    ensures every_valid { (id : List ℕ) → IsOidText text.now id → result ≡ Some id }
 {
     if text.len() != 24 {
         return None;
     }
     let mut bytes = [0u8; 12];
-    'bytes: for at in 0..12 {
-        bytes[at] = byte_of(text[2 * at], text[2 * at + 1])?;
+    'bytes: for byte_index in 0..12 {
+        bytes[byte_index] = byte_of_digit_pair(text[2 * byte_index], text[2 * byte_index + 1])?;
     }
     Some(bytes)
 }
 
-// What the type says of the bytes.
-fn in_range(bytes: [u8; 12]) -> [u8; 12]
-    ensures same { result ≡ bytes }
-    ensures ranged { IsObjectId bytes }
+// Returns the bytes, with the fact that each is below 256.
+fn with_byte_bounds(bytes: [u8; 12]) -> [u8; 12]
+    ensures same_bytes { result ≡ bytes }
+    ensures within_type_range { IsObjectId bytes }
 {
     bytes
 }
@@ -304,19 +304,30 @@ fn is_not_hex_digit(byte: u8) -> bool
 }
 
 // The three parts, concatenated.
-fn concat_parts(a: &[u8], b: &[u8], c: &[u8]) -> [u8; 12]
-    requires first { length a.now ≡ 4 }
-    requires second { length b.now ≡ 5 }
-    requires third { length c.now ≡ 3 }
-    ensures { result ≡ a.now ++ b.now ++ c.now }
+fn concat_parts(seconds: &[u8], process_id: &[u8], counter: &[u8]) -> [u8; 12]
+    requires seconds_len { length seconds.now ≡ 4 }
+    requires process_id_len { length process_id.now ≡ 5 }
+    requires counter_len { length counter.now ≡ 3 }
+    ensures { result ≡ seconds.now ++ process_id.now ++ counter.now }
 {
     [
-        a[0], a[1], a[2], a[3], b[0], b[1], b[2], b[3], b[4], c[0], c[1], c[2],
+        seconds[0],
+        seconds[1],
+        seconds[2],
+        seconds[3],
+        process_id[0],
+        process_id[1],
+        process_id[2],
+        process_id[3],
+        process_id[4],
+        counter[0],
+        counter[1],
+        counter[2],
     ]
 }
 
 // The 24 digits of the bytes, on the stack.
-fn digits_of(id: &ObjectId) -> [u8; 24]
+fn hex_digits_of(id: &ObjectId) -> [u8; 24]
     ensures { result ≡ encode_lower id.now }
 {
     let mut digits = [0u8; 24];
@@ -328,7 +339,7 @@ fn digits_of(id: &ObjectId) -> [u8; 24]
 }
 
 impl From<AllocError> for Error {
-    ghost from_gives = { λ _ e. e ≡ oid_error.OutOfMemory };
+    ghost from_gives = { λ _ error. error ≡ oid_error.OutOfMemory };
 
     fn from(_refused: AllocError) -> Error {
         Error::OutOfMemory

@@ -25,9 +25,9 @@ const PADDING_MESSAGE: &str = "the padding of packed bits is above 7";
 pub struct PackedBitVector {
     bytes: Vec<u8>,
     padding: u8,
-    ghost small: { padding < 8 },
-    ghost none: { vec_len bytes ≡ 0 → padding ≡ 0 },
-    ghost zero_bits: { ignored_bits bytes.items padding ≡ 0 },
+    ghost padding_below_8: { padding < 8 },
+    ghost no_padding_without_bytes: { vec_len bytes ≡ 0 → padding ≡ 0 },
+    ghost ignored_bits_zero: { ignored_bits bytes.items padding ≡ 0 },
 }
 
 impl PackedBitVector {
@@ -40,8 +40,8 @@ impl PackedBitVector {
     /// - `Vector`: the padding is above 7, there is a padding without bytes, or an ignored bit is
     ///   not zero.
     pub fn new(bytes: Vec<u8>, padding: Option<u8>) -> Result<PackedBitVector>
-        ensures bytes { IfOk result (λ v. packed_bytes v ≡ bytes.items) }
-        ensures padding { IfOk result (λ v. packed_padding v ≡ unwrap_or padding 0) }
+        ensures bytes { IfOk result (λ bit_vector. packed_bytes bit_vector ≡ bytes.items) }
+        ensures padding { IfOk result (λ bit_vector. packed_padding bit_vector ≡ unwrap_or padding 0) }
 
         ensures refused { IsErr result ↔ ((7 < unwrap_or padding 0) ⊎ ((vec_len bytes ≡ 0) × (0 < unwrap_or padding 0))
             ⊎ (0 < ignored_bits bytes.items (unwrap_or padding 0))) }
@@ -68,8 +68,8 @@ impl PackedBitVector {
 
     // The vector of these bytes with the ignored bits zero. A padding is rejected as by `new`.
     pub(crate) fn with_cleared_bits(bytes: Vec<u8>, padding: u8) -> Result<PackedBitVector>
-        ensures bytes { IfOk result (λ v. packed_bytes v ≡ cleared_bytes bytes.items padding) }
-        ensures padding { IfOk result (λ v. packed_padding v ≡ padding) }
+        ensures bytes { IfOk result (λ bit_vector. packed_bytes bit_vector ≡ cleared_bytes bytes.items padding) }
+        ensures padding { IfOk result (λ bit_vector. packed_padding bit_vector ≡ padding) }
 
         ensures refused { IsErr result ↔ ((7 < padding) ⊎ ((vec_len bytes ≡ 0) × (0 < padding))) }
         ensures err { IfErr result IsVectorError }
@@ -92,9 +92,9 @@ impl PackedBitVector {
     /// Returns how many of the lowest bits of the last byte are ignored: 0 to 7.
     pub fn padding(&self) -> u8
         ensures value { result ≡ packed_padding self.now }
-        ensures small { result < 8 }
-        ensures none { packed_bytes self.now ≡ [] → result ≡ 0 }
-        ensures zero_bits { ignored_bits (packed_bytes self.now) result ≡ 0 }
+        ensures padding_below_8 { result < 8 }
+        ensures no_padding_without_bytes { packed_bytes self.now ≡ [] → result ≡ 0 }
+        ensures ignored_bits_zero { ignored_bits (packed_bytes self.now) result ≡ 0 }
     {
         let _len = self.bytes.len();
         self.padding
@@ -106,8 +106,8 @@ impl PackedBitVector {
     ///
     /// Returns `AllocError` if a request for memory is refused.
     pub fn clone(&self, alloc: Global) -> std::result::Result<PackedBitVector, AllocError>
-        ensures bytes { IfOk result (λ v. packed_bytes v ≡ packed_bytes self.now) }
-        ensures padding { IfOk result (λ v. packed_padding v ≡ packed_padding self.now) }
+        ensures bytes { IfOk result (λ bit_vector. packed_bytes bit_vector ≡ packed_bytes self.now) }
+        ensures padding { IfOk result (λ bit_vector. packed_padding bit_vector ≡ packed_padding self.now) }
     {
         Ok(PackedBitVector {
             bytes: Vec::from_slice(alloc, self.as_bytes())?,
@@ -122,7 +122,7 @@ fn ignored_bits_of(bytes: &[u8], padding: u8) -> u8
     ensures { result ≡ ignored_bits bytes.now padding }
 {
     match bytes.last() {
-        Some(last) => *last % (1 << padding),
+        Some(last_byte) => *last_byte % (1 << padding),
         None => 0,
     }
 }
@@ -134,8 +134,8 @@ fn with_zero_bits(mut bytes: Vec<u8>, padding: u8) -> Vec<u8>
     ensures len { vec_len result ≡ vec_len bytes }
 {
     if !bytes.is_empty() {
-        let last = bytes.len() - 1;
-        bytes[last] = cleared_byte(bytes[last], padding);
+        let last_index = bytes.len() - 1;
+        bytes[last_index] = cleared_byte(bytes[last_index], padding);
     }
     bytes
 }

@@ -2,7 +2,7 @@
 ghost use Rattle.std.specs.Prelude.{◌≡◌, ℕ, IfOk, List, Some, string_bytes};
 ghost use Rattle.std.specs.List.Sorted.{IsNonDecreasing, IsPermutation};
 ghost use Rattle.std.specs.Str.{chars, encode_utf8_all};
-ghost use Rattle.bson_types.specs.Regex.{sorted_text, ascending_numbers};
+ghost use Rattle.bson_types.specs.Regex.{sorted_regex_options, ascending_numbers};
 
 use std::alloc::{AllocError, Global};
 use std::fmt;
@@ -29,11 +29,13 @@ impl Regex {
     ///
     /// Returns `AllocError` if a request for memory is refused.
     pub fn new(alloc: Global, pattern: &str, options: &str) -> Result<Regex, AllocError>
-        ensures pattern { IfOk result (λ r. string_bytes r.pattern ≡ pattern.now) }
-        ensures options { IfOk result (λ r. string_bytes r.options ≡ sorted_text options.now) }
+        ensures pattern { IfOk result (λ regex. string_bytes regex.pattern ≡ pattern.now) }
+        ensures options { IfOk result (λ regex. string_bytes regex.options ≡ sorted_regex_options options.now) }
 
         // Sorting keeps the same characters, and none comes before a lower one.
-        ensures ascending { (xs : List ℕ) → let ys = ascending_numbers xs in IsPermutation xs ys × IsNonDecreasing ys }
+        ensures ascending { (given_numbers : List ℕ)
+            → let sorted_numbers = ascending_numbers given_numbers in IsPermutation given_numbers sorted_numbers
+            × IsNonDecreasing sorted_numbers }
     {
         Ok(Regex {
             pattern: String::from_str(alloc, pattern)?,
@@ -47,8 +49,8 @@ impl Regex {
     ///
     /// Returns `AllocError` if a request for memory is refused.
     pub fn clone(&self, alloc: Global) -> Result<Regex, AllocError>
-        ensures pattern { IfOk result (λ r. string_bytes r.pattern ≡ string_bytes self.now.pattern) }
-        ensures options { IfOk result (λ r. string_bytes r.options ≡ string_bytes self.now.options) }
+        ensures pattern { IfOk result (λ regex. string_bytes regex.pattern ≡ string_bytes self.now.pattern) }
+        ensures options { IfOk result (λ regex. string_bytes regex.options ≡ string_bytes self.now.options) }
     {
         Ok(Regex {
             pattern: String::from_str(alloc, self.pattern.as_str())?,
@@ -60,10 +62,10 @@ impl Regex {
 impl fmt::Display for Regex {
     ghost use Rattle.bson_types.specs.Regex.{regex_text};
 
-    ghost output = { λ r. Some (regex_text r) };
+    ghost output = { λ regex. Some (regex_text regex) };
 
-    fn fmt<W: fmt::Write>(&self, f: &mut fmt::Formatter<W>) -> fmt::Result {
-        write!(f, "/{}/{}", self.pattern, self.options)
+    fn fmt<W: fmt::Write>(&self, formatter: &mut fmt::Formatter<W>) -> fmt::Result {
+        write!(formatter, "/{}/{}", self.pattern, self.options)
     }
 }
 
@@ -73,19 +75,19 @@ impl fmt::Display for Regex {
 ///
 /// Returns `AllocError` if a request for memory is refused.
 pub fn sort_characters(alloc: Global, text: &str) -> Result<String, AllocError>
-    ensures { IfOk result (λ s. string_bytes s ≡ sorted_text text.now) }
+    ensures { IfOk result (λ sorted_text. string_bytes sorted_text ≡ sorted_regex_options text.now) }
 {
-    let characters = ascending_of(characters_of(alloc, text)?);
+    let characters = in_ascending_order(characters_of(alloc, text)?);
     string_of(alloc, characters)
 }
 
 fn characters_of(alloc: Global, text: &str) -> Result<Vec<char>, AllocError>
-    ensures { IfOk result (λ v. v.items ≡ chars text.now) }
+    ensures { IfOk result (λ characters. characters.items ≡ chars text.now) }
 {
     text.chars().collect(alloc)
 }
 
-fn ascending_of(mut characters: Vec<char>) -> Vec<char>
+fn in_ascending_order(mut characters: Vec<char>) -> Vec<char>
     ensures { result.items ≡ ascending_numbers characters.items }
 {
     characters.sort_unstable();
@@ -93,7 +95,7 @@ fn ascending_of(mut characters: Vec<char>) -> Vec<char>
 }
 
 fn string_of(alloc: Global, characters: Vec<char>) -> Result<String, AllocError>
-    ensures { IfOk result (λ s. string_bytes s ≡ encode_utf8_all characters.items) }
+    ensures { IfOk result (λ text. string_bytes text ≡ encode_utf8_all characters.items) }
 {
     characters.into_iter().collect(alloc)
 }

@@ -2,7 +2,7 @@
 ghost use Rattle.std.specs.Prelude.{◌≡◌, ◌↔◌, Some};
 ghost use Rattle.std.proofs.Common.{rules};
 ghost use Rattle.std.specs.Cmp.Rules.{comparing, hashing};
-ghost use Rattle.std.specs.Hash as fed;
+ghost use Rattle.std.specs.Hash as hash_writes;
 
 use std::fmt;
 use std::hash::{Hash, Hasher};
@@ -64,7 +64,7 @@ impl ElementType {
 
     /// Returns the type whose tag is the byte, or `None` if the byte is not a tag.
     pub fn from(tag: u8) -> Option<ElementType>
-        ensures { (t : ElementType) → (result ≡ Some t) ↔ (tag_of t ≡ tag) }
+        ensures { (element_type : ElementType) → (result ≡ Some element_type) ↔ (tag_of element_type ≡ tag) }
     {
         Some(match tag {
             0x01 => ElementType::Double,
@@ -163,7 +163,7 @@ pub enum BinarySubtype {
 impl From<u8> for BinarySubtype {
     ghost use Rattle.bson_types.specs.BinarySubtypes.{subtype_byte, subtype_of};
 
-    ghost from_gives = { λ b s. (s ≡ subtype_of b) × (subtype_byte s ≡ b) };
+    ghost from_gives = { λ byte subtype. (subtype ≡ subtype_of byte) × (subtype_byte subtype ≡ byte) };
 
     fn from(byte: u8) -> BinarySubtype {
         match byte {
@@ -186,7 +186,7 @@ impl From<u8> for BinarySubtype {
 impl From<BinarySubtype> for u8 {
     ghost use Rattle.bson_types.specs.BinarySubtypes.{subtype_byte};
 
-    ghost from_gives = { λ s b. b ≡ subtype_byte s };
+    ghost from_gives = { λ subtype byte. byte ≡ subtype_byte subtype };
 
     fn from(subtype: BinarySubtype) -> u8 {
         match subtype {
@@ -208,7 +208,7 @@ impl From<BinarySubtype> for u8 {
 impl Hash for BinarySubtype {
     ghost use Rattle.bson_types.specs.BinarySubtypes.{subtype_byte};
 
-    ghost hash_input = { λ s. fed.u8 (subtype_byte s) };
+    ghost hash_input = { λ subtype. hash_writes.u8 (subtype_byte subtype) };
 
     ghost respects_eq = { Prim.search (hashing, rules) };
 
@@ -218,8 +218,8 @@ impl Hash for BinarySubtype {
 }
 
 impl fmt::LowerHex for BinarySubtype {
-    fn fmt<W: fmt::Write>(&self, f: &mut fmt::Formatter<W>) -> fmt::Result {
-        fmt::LowerHex::fmt(&u8::from(*self), f)
+    fn fmt<W: fmt::Write>(&self, formatter: &mut fmt::Formatter<W>) -> fmt::Result {
+        fmt::LowerHex::fmt(&u8::from(*self), formatter)
     }
 }
 
@@ -227,7 +227,7 @@ impl fmt::LowerHex for BinarySubtype {
 impl fmt::HasDigits for BinarySubtype {
     ghost use Rattle.bson_types.specs.BinarySubtypes.{subtype_byte};
 
-    ghost word = { λ s. Some (subtype_byte s) };
+    ghost word = { λ subtype. Some (subtype_byte subtype) };
 
     fn bits(self) -> (u64, u64) {
         (0, u8::from(self) as u64)

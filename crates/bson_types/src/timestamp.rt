@@ -22,9 +22,9 @@ pub struct Timestamp {
 impl fmt::Display for Timestamp {
     ghost use Rattle.bson_types.specs.Timestamp.{timestamp_text};
 
-    ghost output = { λ t. Some (timestamp_text t) };
+    ghost output = { λ timestamp. Some (timestamp_text timestamp) };
 
-    fn fmt<W: fmt::Write>(&self, f: &mut fmt::Formatter<W>) -> fmt::Result {
-        write!(f, "Timestamp({}, {})", self.time, self.increment)
+    fn fmt<W: fmt::Write>(&self, formatter: &mut fmt::Formatter<W>) -> fmt::Result {
+        write!(formatter, "Timestamp({}, {})", self.time, self.increment)
     }
 }

@@ -80,9 +80,9 @@ pub struct Uuid {
 impl Model for Uuid {
     ghost Value = { List ℕ };
 
-    ghost view = { λ a. a.bytes };
+    ghost view = { λ id. id.bytes };
 
-    ghost inverse = { λ xs. record { bytes = xs } };
+    ghost inverse = { λ id_bytes. record { bytes = id_bytes } };
 }
 
 impl Uuid {
@@ -120,16 +120,16 @@ impl Uuid {
     /// Returns the 16 bytes.
     pub fn bytes(&self) -> [u8; 16]
         ensures value { result ≡ self.now }
-        ensures ranged { IsUuid self.now }
+        ensures within_type_range { IsUuid self.now }
     {
-        in_range(self.bytes)
+        with_byte_bounds(self.bytes)
     }
 }
 
-// What the type says of the bytes.
-fn in_range(bytes: [u8; 16]) -> [u8; 16]
-    ensures same { result ≡ bytes }
-    ensures ranged { IsUuid bytes }
+// Returns the bytes, with the fact that each is below 256.
+fn with_byte_bounds(bytes: [u8; 16]) -> [u8; 16]
+    ensures same_bytes { result ≡ bytes }
+    ensures within_type_range { IsUuid bytes }
 {
     bytes
 }
@@ -137,7 +137,7 @@ fn in_range(bytes: [u8; 16]) -> [u8; 16]
 impl fmt::Display for Uuid {
     ghost output = { λ id. Some (hyphenated_text id) };
 
-    fn fmt<W: fmt::Write>(&self, f: &mut fmt::Formatter<W>) -> fmt::Result {
-        fmt::Display::fmt(&uuid::Uuid::from_bytes(self.bytes()), f)
+    fn fmt<W: fmt::Write>(&self, formatter: &mut fmt::Formatter<W>) -> fmt::Result {
+        fmt::Display::fmt(&uuid::Uuid::from_bytes(self.bytes()), formatter)
     }
 }

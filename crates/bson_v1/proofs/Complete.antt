@@ -10,7 +10,7 @@ use Rattle.json.specs.Tree.{depth, json_tokens}
 use Rattle.json.specs.declared.error.Error.{Error}
 use Rattle.json.proofs.Printed.Trees.{value-json_tokens}
 use Rattle.serde_json.specs.Read.{max_depth}
-use Rattle.bson_tokens.specs.ReadOutcomes.{InvalidIfNotRead}
+use Rattle.bson_tokens.specs.ReadOutcomes.{NothingReadIfInvalid}
 use Rattle.bson_tokens.specs.Normalized.{normalized, IsNormalizedText}
 use Rattle.bson_tokens.specs.DuplicateKeys.{json_of}
 use Rattle.bson_tokens.specs.declared.arrangement.Arrangement.TheVariants.{FirstPositions}
@@ -37,19 +37,19 @@ written text out j ts read is text_is again =
 
 -- ---- of the text with each key once
 
-pub upgraded_of : (text resolved out : List ℕ) → IsNormalizedText FirstPositions text resolved → IsRewritten resolved out
+pub upgraded_of : (text normalized_input out : List ℕ) → IsNormalizedText FirstPositions text normalized_input → IsRewritten normalized_input out
     → IsUpgradedText text out
-upgraded_of text resolved out first then =
+upgraded_of text normalized_input out first then =
     let same : normalized FirstPositions first.tree ≡ then.tree =
     same_Some (normalized FirstPositions first.tree) then.tree (sym first.read_again ∙ then.is_tree) in
     record {
-      resolved = resolved;
-      is_resolved = first;
+      normalized_input = normalized_input;
+      text_is_normalized = first;
       compact = then.compact ∙ ap (λ j. print (json_tokens (upgraded j))) (sym same);
       read_again = subst (λ j. depth (upgraded j) ≤ max_depth → json_of out ≡ Some (upgraded j)) (sym same) then.read_again;
     }
 
-pub never_breaks : {X : Type 0} {Y : Type 0} (text resolved : List ℕ) (o : Option Y) (r : Result X Error)
-    → IsNormalizedText FirstPositions text resolved → IfErr r (InvalidIfNotRead (json_of resolved)) → IfErr r (InvalidIfNotRead o)
-never_breaks text resolved o (Ok x) first h = tt
-never_breaks text resolved o (Err e) first h = λ broken. let never = sym (h broken) ∙ first.read_again in cc
+pub never_breaks : {X : Type 0} {Y : Type 0} (text normalized_input : List ℕ) (o : Option Y) (r : Result X Error)
+    → IsNormalizedText FirstPositions text normalized_input → IfErr r (NothingReadIfInvalid (json_of normalized_input)) → IfErr r (NothingReadIfInvalid o)
+never_breaks text normalized_input o (Ok x) first h = tt
+never_breaks text normalized_input o (Err e) first h = λ broken. let never = sym (h broken) ∙ first.read_again in cc

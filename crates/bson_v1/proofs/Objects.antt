@@ -14,11 +14,11 @@ use Rattle.json.specs.Tree.{json_tokens, members_tokens}
 use Rattle.json.specs.declared.token.Token as found
 use Rattle.json.specs.declared.token.Token.TheVariants as first
 use Rattle.json.proofs.Grammar.{read_key_is, value_is, value-begin_object}
-use Rattle.bson_tokens.specs.NormalizerStates.{inside}
+use Rattle.bson_tokens.specs.NormalizerStates.{object_rest}
 use Rattle.bson_tokens.proofs.Offered.{last_member, no_member, one_member}
-use Rattle.bson_v1.specs.LeadingMembers.{IsStartOf, HasNoV1Shape, WritesRest, WritesScopeAndRest, WritesScope, begins_code, code_before, leading_tokens, with_leading_members}
-use Rattle.bson_v1.specs.LeadingMembers.{upgraded_rest, upgraded_scope_before, scope_or_value, scope_candidate, starts_with_code}
-use Rattle.bson_v1.specs.Upgraded.{is_code, is_scope, upgraded, upgraded_members, upgraded_object, upgraded_scope, v1_shape, other, upgraded_wrapper}
+use Rattle.bson_v1.specs.LeadingMembers.{IsObjectStart, HasNoV1Shape, WritesRemainingMembers, WritesScopeAndRest, WritesScope, starts_code_member, code_before_scope, leading_tokens, with_leading_members}
+use Rattle.bson_v1.specs.LeadingMembers.{upgraded_later_members, upgraded_scope_before, scope_or_value, scope_candidate, starts_with_code}
+use Rattle.bson_v1.specs.Upgraded.{is_code, is_scope, upgraded, upgraded_members, upgraded_object, upgraded_scope, v1_shape, not_v1, upgraded_wrapper}
 use Rattle.bson_v1.specs.WrittenTokens.{WritesMembers, WritesTokens, upgraded_members_tokens, upgraded_object_tokens}
 use Rattle.bson_v1.specs.declared.object_start.ObjectStart.TheVariants.{Incomplete}
 use Rattle.bson_v1.specs.declared.object_start.LeadingStrings.{LeadingStrings}
@@ -46,7 +46,7 @@ code_read k None = false
 code_read k (Some p) = is_code k p.0
 
 code_begins : (depth : ℕ) (k : List ℕ) (t : found.Token) (ts r : List Token) (j : Json)
-    → value depth (token_of t ∷ ts) ≡ Some (j, r) → is_code k j ≡ begins_code k t
+    → value depth (token_of t ∷ ts) ≡ Some (j, r) → is_code k j ≡ starts_code_member k t
 code_begins depth k (first.String s) ts r j read =
     ap (code_read k) (sym read ∙ value_is depth (token.string s.now ∷ ts))
 code_begins depth k first.BeginObject ts r j read = no_code k j (no_text_begins depth first.BeginObject ts r j (λ s e. cc) read)
@@ -62,7 +62,7 @@ code_begins depth k first.Bad ts r j read = no_code k j (no_text_begins depth fi
 -- ---- an object of no shape of v1
 
 open_other : (leading : LeadingStrings) (k : List ℕ) (t : found.Token) (depth : ℕ) (ts r : List Token) (j : Json) (ms : Members)
-    → HasNoV1Shape leading t → value depth (token_of t ∷ ts) ≡ Some (j, r) → v1_shape (with_leading_members leading (member k j ms)) ≡ other
+    → HasNoV1Shape leading t → value depth (token_of t ∷ ts) ≡ Some (j, r) → v1_shape (with_leading_members leading (member k j ms)) ≡ not_v1
 open_other Empty k t depth ts r j ms lookahead read = other_first k j ms (no_text_begins depth t ts r j lookahead read)
 open_other (One c s) k t depth ts r j ms lookahead read =
     other_second c.now k s.now j ms (no_text_begins depth t ts r j lookahead read)
@@ -78,7 +78,7 @@ same_branches f false true x y = refl
 same_branches f false false x y = refl
 
 rest_onto : (leading : LeadingStrings) (k : List ℕ) (j : Json) (ms : Members)
-    → upgraded_object (with_leading_members leading (member k j ms)) ≡ with_leading_members leading (upgraded_rest leading k j ms)
+    → upgraded_object (with_leading_members leading (member k j ms)) ≡ with_leading_members leading (upgraded_later_members leading k j ms)
 rest_onto Empty k j ms = refl
 rest_onto (One c s) k j ms =
     same_branches (member c.now (json.string s.now)) (is_code c.now (json.string s.now) && is_scope k)
@@ -113,22 +113,22 @@ object_tokens leading ns old begun named new begin strings is =
 
 -- the members of an object, from one on whose value begins with the token
 rest_read : (leading : LeadingStrings) (depth : ℕ) (k : List ℕ) (ts q r rest : List Token) (j : Json) (ms : Members)
-    → inside depth ts ≡ parse_map (with_leading_members leading) (inside depth (token.key k ∷ q)) → value depth q ≡ Some (j, r)
-    → inside depth r ≡ Some (ms, rest) → inside depth ts ≡ Some (with_leading_members leading (member k j ms), rest)
+    → object_rest depth ts ≡ parse_map (with_leading_members leading) (object_rest depth (token.key k ∷ q)) → value depth q ≡ Some (j, r)
+    → object_rest depth r ≡ Some (ms, rest) → object_rest depth ts ≡ Some (with_leading_members leading (member k j ms), rest)
 rest_read leading depth k ts q r rest j ms begins read more =
     begins ∙ ap (parse_map (with_leading_members leading))
     (one_member depth k (token.key k ∷ q) q r j refl read ∙ ap (parse_map (member k j)) more)
 
 pub open_passes : (leading : LeadingStrings) (depth : ℕ) (k : Bor (List ℕ)) (t : found.Token)
-    (ts q rest old begun named new : List Token) → IsStartOf (Incomplete leading k t) ts q
+    (ts q rest old begun named new : List Token) → IsObjectStart (Incomplete leading k t) ts q
     → begun ≡ old ++ token.begin_object ∷ [] → named ≡ begun ++ leading_tokens leading []
-    → WritesRest leading depth k.now (token_of t ∷ q) rest named new → WritesTokens upgraded_object_tokens (inside depth ts) rest old new
+    → WritesRemainingMembers leading depth k.now (token_of t ∷ q) rest named new → WritesTokens upgraded_object_tokens (object_rest depth ts) rest old new
 open_passes leading depth k t ts q rest old begun named new (lookahead, printable, begins) begin strings
     (j, ms, r, read, more, wrote) =
     let ns = with_leading_members leading (member k.now j ms) in (
       ns,
       rest_read leading depth k.now ts (token_of t ∷ q) r rest j ms (begins depth) read more,
-      object_tokens leading (upgraded_rest leading k.now j ms) old begun named new begin strings wrote
+      object_tokens leading (upgraded_later_members leading k.now j ms) old begun named new begin strings wrote
           ∙ ap (λ x. old ++ json_tokens (object x)) (sym (rest_onto leading k.now j ms))
           ∙ ap (λ x. old ++ json_tokens (upgraded_wrapper x (upgraded_object ns)))
           (sym (open_other leading k.now t depth q r j ms lookahead read)),
@@ -136,11 +136,11 @@ open_passes leading depth k t ts q rest old begun named new (lookahead, printabl
 
 -- ---- members
 
-is_no_scope : (leading : LeadingStrings) (k : List ℕ) (t : found.Token) (b : Bool) → code_before leading ≡ Some b
+is_no_scope : (leading : LeadingStrings) (k : List ℕ) (t : found.Token) (b : Bool) → code_before_scope leading ≡ Some b
     → is_scope k ≡ true → scope_candidate leading k t ≡ None → (depth : ℕ) (ts r : List Token) (j : Json)
     → value depth (token_of t ∷ ts) ≡ Some (j, r) → upgraded_scope j ≡ upgraded j
 is_no_scope leading k first.BeginObject b before scope none depth ts r j read =
-    let never : Some b ≡ None = sym before ∙ ap (λ x. cond x (code_before leading) None) (sym scope) ∙ none in cc
+    let never : Some b ≡ None = sym before ∙ ap (λ x. cond x (code_before_scope leading) None) (sym scope) ∙ none in cc
 is_no_scope leading k first.EndObject b before scope none depth ts r j read =
     scope_as_value j (no_object_begins depth first.EndObject ts r j (λ e. cc) read)
 is_no_scope leading k first.BeginArray b before scope none depth ts r j read =
@@ -185,13 +185,13 @@ first_rest k j (member l i ms) plain same =
 -- what is written of a member after one string
 second_rest : (c s : Bor (List ℕ)) (k : List ℕ) (j : Json) (ms : Members)
     → (bytes_eq c.now (codes "$code") ≡ true → is_scope k ≡ true → upgraded_scope j ≡ upgraded j)
-    → upgraded_rest (One c s) k j ms ≡ member k (upgraded j) (upgraded_members ms)
+    → upgraded_later_members (One c s) k j ms ≡ member k (upgraded j) (upgraded_members ms)
 second_rest c s k j ms same =
     both (bytes_eq c.now (codes "$code")) (is_scope k) (λ h. member k h (upgraded_members ms)) (upgraded_scope j) (upgraded j) same
 
 plain_rest : (leading : LeadingStrings) (k : List ℕ) (t : found.Token) (depth : ℕ) (ts r : List Token) (j : Json) (ms : Members)
     → HasNoV1Shape leading t → scope_candidate leading k t ≡ None → value depth (token_of t ∷ ts) ≡ Some (j, r)
-    → upgraded_rest leading k j ms ≡ member k (upgraded j) (upgraded_members ms)
+    → upgraded_later_members leading k j ms ≡ member k (upgraded j) (upgraded_members ms)
 plain_rest Empty k t depth ts r j ms lookahead none read =
     first_rest k j ms (no_code k j (no_text_begins depth t ts r j lookahead read))
     (λ scope. is_no_scope Empty k t false refl scope none depth ts r j read)
@@ -203,7 +203,7 @@ plain_rest (Two c s d u) k t depth ts r j ms lookahead none read = refl
 -- the member is no scope
 pub member_passes : (leading : LeadingStrings) (depth : ℕ) (k : List ℕ) (t : found.Token) (ts rest old new : List Token)
     → HasNoV1Shape leading t → scope_candidate leading k t ≡ None → WritesMembers depth k (token_of t ∷ ts) rest old new
-    → WritesRest leading depth k (token_of t ∷ ts) rest old new
+    → WritesRemainingMembers leading depth k (token_of t ∷ ts) rest old new
 member_passes leading depth k t ts rest old new lookahead none (j, ms, r, read, more, wrote) = (
   j,
   ms,
@@ -229,12 +229,12 @@ as_scope : (b : Bool) (k : List ℕ) (scope ns : Members)
 as_scope true k scope ns = refl
 as_scope false k scope ns = refl
 
-value_is_scope : (b : Bool) (scope : Members) → v1_shape scope ≡ other
+value_is_scope : (b : Bool) (scope : Members) → v1_shape scope ≡ not_v1
     → scope_or_value b scope ≡ object (upgraded_object scope)
 value_is_scope true scope plain = refl
 value_is_scope false scope plain = ap (λ x. upgraded_wrapper x (upgraded_object scope)) plain
 
-no_older_scope : (f : Bool) (scope ms : Members) → v1_shape scope ≡ other
+no_older_scope : (f : Bool) (scope ms : Members) → v1_shape scope ≡ not_v1
     → upgraded_scope_before f scope ms ≡ object (upgraded_object scope)
 no_older_scope true scope ms plain = refl
 no_older_scope false scope ms plain = value_is_scope (starts_with_code ms) scope plain
@@ -253,8 +253,8 @@ code_is c f is = code_if (bytes_eq c (codes "$code")) f is
 
 -- what is written of a scope, and of the members after it
 scope_rest : (leading : LeadingStrings) (k : List ℕ) (f : Bool) (scope ms : Members) → is_scope k ≡ true
-    → code_before leading ≡ Some f
-    → upgraded_rest leading k (object scope) ms ≡ member k (upgraded_scope_before f scope ms) (upgraded_members ms)
+    → code_before_scope leading ≡ Some f
+    → upgraded_later_members leading k (object scope) ms ≡ member k (upgraded_scope_before f scope ms) (upgraded_members ms)
 scope_rest Empty k true scope ms is before = cc
 scope_rest Empty k false scope no_members is before = refl
 scope_rest Empty k false scope (member l i ms) is before =
@@ -272,9 +272,9 @@ scope_rest (Two c s d t) k f scope ms is before = cc
 
 pub scope_passes : (leading : LeadingStrings) (depth : ℕ) (k : List ℕ) (t : found.Token) (f : Bool) (ts rest old new : List Token)
     → scope_candidate leading k t ≡ Some f → WritesScope f depth k ts rest old new
-    → WritesRest leading depth k (token_of t ∷ ts) rest old new
+    → WritesRemainingMembers leading depth k (token_of t ∷ ts) rest old new
 scope_passes leading depth k first.BeginObject f ts rest old new place (scope, ms, r, read, more, wrote) =
-    let known = scope_is k f (code_before leading) place in (
+    let known = scope_is k f (code_before_scope leading) place in (
       object scope,
       ms,
       r,
@@ -293,39 +293,39 @@ scope_passes leading depth k first.Null f ts rest old new place passes = cc
 scope_passes leading depth k first.Bad f ts rest old new place passes = cc
 
 module _ (depth : ℕ) (left : 0 < depth) where
-  scope_read : (ts r : List Token) (scope : Members) → inside (depth - 1) ts ≡ Some (scope, r)
+  scope_read : (ts r : List Token) (scope : Members) → object_rest (depth - 1) ts ≡ Some (scope, r)
       → value depth (token.begin_object ∷ ts) ≡ Some (object scope, r)
   scope_read ts r scope read = value-begin_object depth ts left ∙ ap (parse_map object) read
 
   -- the scope is invalid, or what is after it
-  pub broken_scope : (k : List ℕ) (ts : List Token) → inside (depth - 1) ts ≡ None
-      → inside depth (token.key k ∷ token.begin_object ∷ ts) ≡ None
+  pub broken_scope : (k : List ℕ) (ts : List Token) → object_rest (depth - 1) ts ≡ None
+      → object_rest depth (token.key k ∷ token.begin_object ∷ ts) ≡ None
   broken_scope k ts none =
       no_member depth k (token.key k ∷ token.begin_object ∷ ts) (token.begin_object ∷ ts) refl
       (value-begin_object depth ts left ∙ ap (parse_map object) none)
 
-  pub broken_behind : (k : List ℕ) (ts r : List Token) (scope : Members) → inside (depth - 1) ts ≡ Some (scope, r)
-      → inside depth r ≡ None → inside depth (token.key k ∷ token.begin_object ∷ ts) ≡ None
+  pub broken_behind : (k : List ℕ) (ts r : List Token) (scope : Members) → object_rest (depth - 1) ts ≡ Some (scope, r)
+      → object_rest depth r ≡ None → object_rest depth (token.key k ∷ token.begin_object ∷ ts) ≡ None
   broken_behind k ts r scope read none =
       one_member depth k (token.key k ∷ token.begin_object ∷ ts) (token.begin_object ∷ ts) r (object scope) refl
       (scope_read ts r scope read) ∙ ap (parse_map (member k (object scope))) none
 
   pub broken_rest : (leading : LeadingStrings) (k : List ℕ) (l : Bor (List ℕ)) (t : found.Token) (ts q : List Token)
-      → IsStartOf (Incomplete leading l t) ts q → inside (depth - 1) (token.key l.now ∷ token_of t ∷ q) ≡ None
-      → inside depth (token.key k ∷ token.begin_object ∷ ts) ≡ None
+      → IsObjectStart (Incomplete leading l t) ts q → object_rest (depth - 1) (token.key l.now ∷ token_of t ∷ q) ≡ None
+      → object_rest depth (token.key k ∷ token.begin_object ∷ ts) ≡ None
   broken_rest leading k l t ts q (lookahead, printable, begins) none =
       broken_scope k ts (begins (depth - 1) ∙ ap (parse_map (with_leading_members leading)) none)
 
   pub broken_after_rest : (leading : LeadingStrings) (k : List ℕ) (l : Bor (List ℕ)) (t : found.Token)
-      (ts q r strings inner : List Token) → IsStartOf (Incomplete leading l t) ts q
-      → WritesRest leading (depth - 1) l.now (token_of t ∷ q) r strings inner → inside depth r ≡ None
-      → inside depth (token.key k ∷ token.begin_object ∷ ts) ≡ None
+      (ts q r strings inner : List Token) → IsObjectStart (Incomplete leading l t) ts q
+      → WritesRemainingMembers leading (depth - 1) l.now (token_of t ∷ q) r strings inner → object_rest depth r ≡ None
+      → object_rest depth (token.key k ∷ token.begin_object ∷ ts) ≡ None
   broken_after_rest leading k l t ts q r strings inner (lookahead, printable, begins) (j, ns, p, read, more, wrote) none =
       broken_behind k ts r (with_leading_members leading (member l.now j ns))
       (rest_read leading (depth - 1) l.now ts (token_of t ∷ q) p r j ns (begins (depth - 1)) read more) none
 
   pub held_scope_passes : (f : Bool) (k : List ℕ) (ts r rest old named new : List Token) (scope : Members)
-      → inside (depth - 1) ts ≡ Some (scope, r) → named ≡ old ++ token.key k ∷ []
+      → object_rest (depth - 1) ts ≡ Some (scope, r) → named ≡ old ++ token.key k ∷ []
       → WritesScopeAndRest f depth scope r rest named new → WritesScope f depth k ts rest old new
   held_scope_passes f k ts r rest old named new scope read begun (ms, more, wrote) = (
     scope,
@@ -340,10 +340,10 @@ module _ (depth : ℕ) (left : 0 < depth) where
 
   -- it has no shape of v1, so what comes after it does not matter
   pub open_scope_passes : (f : Bool) (leading : LeadingStrings) (k : List ℕ) (l : Bor (List ℕ)) (t : found.Token)
-      (ts q r rest old named begun strings inner new : List Token) → IsStartOf (Incomplete leading l t) ts q
+      (ts q r rest old named begun strings inner new : List Token) → IsObjectStart (Incomplete leading l t) ts q
       → named ≡ old ++ token.key k ∷ [] → begun ≡ named ++ token.begin_object ∷ []
-      → strings ≡ begun ++ leading_tokens leading [] → WritesRest leading (depth - 1) l.now (token_of t ∷ q) r strings inner
-      → WritesTokens upgraded_members_tokens (inside depth r) rest inner new → WritesScope f depth k ts rest old new
+      → strings ≡ begun ++ leading_tokens leading [] → WritesRemainingMembers leading (depth - 1) l.now (token_of t ∷ q) r strings inner
+      → WritesTokens upgraded_members_tokens (object_rest depth r) rest inner new → WritesScope f depth k ts rest old new
   open_scope_passes f leading k l t ts q r rest old named begun strings inner new (lookahead, printable, begins) key begin
       held_is (j, ns, p, read, more, wrote) (ms, after, is) =
       let scope = with_leading_members leading (member l.now j ns) in
@@ -355,7 +355,7 @@ module _ (depth : ℕ) (left : 0 < depth) where
         scope_read ts r scope inside_is,
         after,
         is ∙ ap (λ o. o ++ upgraded_members_tokens ms)
-            (object_tokens leading (upgraded_rest leading l.now j ns) named begun strings inner begin held_is wrote
+            (object_tokens leading (upgraded_later_members leading l.now j ns) named begun strings inner begin held_is wrote
             ∙ ap (λ x. named ++ json_tokens (object x)) (sym (rest_onto leading l.now j ns)))
             ∙ append_assoc named (json_tokens (object (upgraded_object scope))) (upgraded_members_tokens ms)
             ∙ ap (λ o. o ++ (json_tokens (object (upgraded_object scope)) ++ upgraded_members_tokens ms)) key
@@ -364,7 +364,7 @@ module _ (depth : ℕ) (left : 0 < depth) where
       )
 
 pub too_deep_scope : (depth : ℕ) (k : List ℕ) (ts : List Token) → depth ≡ 0
-    → inside depth (token.key k ∷ token.begin_object ∷ ts) ≡ None
+    → object_rest depth (token.key k ∷ token.begin_object ∷ ts) ≡ None
 too_deep_scope depth k ts deep =
     no_member depth k (token.key k ∷ token.begin_object ∷ ts) (token.begin_object ∷ ts) refl
     (ap (λ d. value d (token.begin_object ∷ ts)) deep ∙ value_is 0 (token.begin_object ∷ ts))
@@ -387,7 +387,7 @@ scope_ends f depth scope ts r old shown new ended wrote is = (
 
 pub scope_goes_on : (f : Bool) (depth : ℕ) (l : List ℕ) (t : found.Token) (scope : Members)
     (ts q rest old shown new : List Token) → read_key ts ≡ Some (Some l, token_of t ∷ q)
-    → shown ≡ old ++ json_tokens (scope_or_value (f || begins_code l t) scope)
+    → shown ≡ old ++ json_tokens (scope_or_value (f || starts_code_member l t) scope)
     → WritesMembers depth l (token_of t ∷ q) rest shown new → WritesScopeAndRest f depth scope ts rest old new
 scope_goes_on f depth l t scope ts q rest old shown new named wrote (j, ms, r, read, more, is) =
     let all = member l j ms in (

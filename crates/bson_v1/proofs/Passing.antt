@@ -11,9 +11,9 @@ use Rattle.json.specs.Token.{Token}
 use Rattle.json.specs.Token as token
 use Rattle.json.specs.declared.token.Token as found
 use Rattle.json.proofs.Grammar.{value_is}
-use Rattle.bson_tokens.specs.ReadOutcomes.{InvalidIfNotRead}
+use Rattle.bson_tokens.specs.ReadOutcomes.{NothingReadIfInvalid}
 use Rattle.json.specs.declared.error.Error.{Error}
-use Rattle.bson_tokens.specs.NormalizerStates.{elements, inside}
+use Rattle.bson_tokens.specs.NormalizerStates.{array_rest, object_rest}
 use Rattle.bson_v1.specs.WrittenTokens.{WritesMembers, WritesTokens, upgraded_items_tokens, upgraded_members_tokens, upgraded_value_tokens}
 use Rattle.bson_tokens.proofs.Offered.{one_item, last_item, one_member, last_member}
 
@@ -37,8 +37,8 @@ all_breaks written old now (Some p) left e none = let never = e ∙ ap (whole wr
 
 -- a result says that the one is invalid, and so the other is
 pub breaks : {A B X : Type 0} (r : Result X Error) (a : Option A) (b : Option B) → (a ≡ None → b ≡ None)
-    → IfErr r (InvalidIfNotRead a) → IfErr r (InvalidIfNotRead b)
-breaks r a b so h = IfErr-weaker r (InvalidIfNotRead a) (InvalidIfNotRead b) (λ e none broken. so (none broken)) h
+    → IfErr r (NothingReadIfInvalid a) → IfErr r (NothingReadIfInvalid b)
+breaks r a b so h = IfErr-weaker r (NothingReadIfInvalid a) (NothingReadIfInvalid b) (λ e none broken. so (none broken)) h
 
 -- ---- arrays
 
@@ -48,17 +48,17 @@ item_behind j old None = refl
 item_behind j old (Some (js, r)) = ap (λ ts. Some (ts, r)) (sym (append_assoc old (upgraded_value_tokens j) (upgraded_items_tokens js)))
 
 pub item_passed : (depth : ℕ) (all : Option (List Token × List Token)) (ts r now later : List Token)
-    → all ≡ whole upgraded_items_tokens now (elements depth ts) → after_end_array ts ≡ None
-    → WritesTokens upgraded_value_tokens (value depth ts) r now later → all ≡ whole upgraded_items_tokens later (elements depth r)
+    → all ≡ whole upgraded_items_tokens now (array_rest depth ts) → after_end_array ts ≡ None
+    → WritesTokens upgraded_value_tokens (value depth ts) r now later → all ≡ whole upgraded_items_tokens later (array_rest depth r)
 item_passed depth all ts r now later so_far going (j, read, is) =
-    so_far ∙ ap (whole upgraded_items_tokens now) (one_item depth ts r j going read) ∙ item_behind j now (elements depth r)
-    ∙ ap (λ o. whole upgraded_items_tokens o (elements depth r)) (sym is)
+    so_far ∙ ap (whole upgraded_items_tokens now) (one_item depth ts r j going read) ∙ item_behind j now (array_rest depth r)
+    ∙ ap (λ o. whole upgraded_items_tokens o (array_rest depth r)) (sym is)
 
 pub items_passed : (depth : ℕ) (start ts r old now later : List Token)
-    → whole upgraded_items_tokens old (elements depth start) ≡ whole upgraded_items_tokens now (elements depth ts) → after_end_array ts ≡ Some r
-    → later ≡ now ++ token.end_array ∷ [] → WritesTokens upgraded_items_tokens (elements depth start) r old later
+    → whole upgraded_items_tokens old (array_rest depth start) ≡ whole upgraded_items_tokens now (array_rest depth ts) → after_end_array ts ≡ Some r
+    → later ≡ now ++ token.end_array ∷ [] → WritesTokens upgraded_items_tokens (array_rest depth start) r old later
 items_passed depth start ts r old now later so_far ended is =
-    passes upgraded_items_tokens (elements depth start) r old later
+    passes upgraded_items_tokens (array_rest depth start) r old later
     (so_far ∙ ap (whole upgraded_items_tokens now) (last_item depth ts r ended) ∙ ap (λ o. Some (o, r)) (sym is))
 
 -- ---- members
@@ -79,22 +79,22 @@ member_behind k j old named later (Some (ms, r)) begun object_start =
     ap (λ ts. Some (ts, r)) (sym (key_first k j ms old named later (later ++ upgraded_members_tokens ms) begun object_start refl))
 
 pub member_passed : (depth : ℕ) (all : Option (List Token × List Token)) (k : List ℕ)
-    (ts s r now named later : List Token) → all ≡ whole upgraded_members_tokens now (inside depth ts)
+    (ts s r now named later : List Token) → all ≡ whole upgraded_members_tokens now (object_rest depth ts)
     → read_key ts ≡ Some (Some k, s) → named ≡ now ++ token.key k ∷ []
-    → WritesTokens upgraded_value_tokens (value depth s) r named later → all ≡ whole upgraded_members_tokens later (inside depth r)
+    → WritesTokens upgraded_value_tokens (value depth s) r named later → all ≡ whole upgraded_members_tokens later (object_rest depth r)
 member_passed depth all k ts s r now named later so_far key begun (j, read, is) =
     so_far ∙ ap (whole upgraded_members_tokens now) (one_member depth k ts s r j key read)
-    ∙ member_behind k j now named later (inside depth r) begun is
+    ∙ member_behind k j now named later (object_rest depth r) begun is
 
 pub members_passed : (depth : ℕ) (start ts r old now later : List Token)
-    → whole upgraded_members_tokens old (inside depth start) ≡ whole upgraded_members_tokens now (inside depth ts) → read_key ts ≡ Some (None, r)
-    → later ≡ now ++ token.end_object ∷ [] → WritesTokens upgraded_members_tokens (inside depth start) r old later
+    → whole upgraded_members_tokens old (object_rest depth start) ≡ whole upgraded_members_tokens now (object_rest depth ts) → read_key ts ≡ Some (None, r)
+    → later ≡ now ++ token.end_object ∷ [] → WritesTokens upgraded_members_tokens (object_rest depth start) r old later
 members_passed depth start ts r old now later so_far ended is =
-    passes upgraded_members_tokens (inside depth start) r old later
+    passes upgraded_members_tokens (object_rest depth start) r old later
     (so_far ∙ ap (whole upgraded_members_tokens now) (last_member depth ts r ended) ∙ ap (λ o. Some (o, r)) (sym is))
 
 pub first_member : (depth : ℕ) (k : List ℕ) (ts r rest old named later new : List Token)
     → named ≡ old ++ token.key k ∷ [] → WritesTokens upgraded_value_tokens (value depth ts) r named later
-    → WritesTokens upgraded_members_tokens (inside depth r) rest later new → WritesMembers depth k ts rest old new
+    → WritesTokens upgraded_members_tokens (object_rest depth r) rest later new → WritesMembers depth k ts rest old new
 first_member depth k ts r rest old named later new begun (j, read, object_start) (ms, more, is) =
     (j, ms, r, read, more, key_first k j ms old named later new begun object_start is)

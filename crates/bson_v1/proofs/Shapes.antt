@@ -8,7 +8,7 @@ use Rattle.json.specs.declared.token.Token as found
 use Rattle.json.specs.declared.token.Token.TheVariants as first
 use Rattle.json.proofs.Grammar.{value_is}
 use Rattle.bson_v1.specs.LeadingMembers.{IsNotString}
-use Rattle.bson_v1.specs.Upgraded.{v1_shape, other, shape_of_one, shape_of_two}
+use Rattle.bson_v1.specs.Upgraded.{v1_shape, not_v1, shape_of_one_member, shape_of_two_members}
 
 abbrev pub is_text : Json → Bool
 is_text (json.string s) = true
@@ -71,7 +71,7 @@ pub no_object_begins : (depth : ℕ) (t : found.Token) (ts r : List Token) (j : 
     → value depth (token_of t ∷ ts) ≡ Some (j, r) → is_object j ≡ false
 no_object_begins depth t ts r j is read = sym (ap object_read read) ∙ no_object depth t ts is
 
-lone_other : (k : List ℕ) (j : Json) → is_text j ≡ false → shape_of_one k j ≡ other
+lone_other : (k : List ℕ) (j : Json) → is_text j ≡ false → shape_of_one_member k j ≡ not_v1
 lone_other k json.null plain = refl
 lone_other k (json.boolean b) plain = refl
 lone_other k (json.number s) plain = refl
@@ -79,7 +79,7 @@ lone_other k (json.string s) plain = cc
 lone_other k (json.array js) plain = refl
 lone_other k (json.object ms) plain = refl
 
-first_other : (k l : List ℕ) (j i : Json) → is_text j ≡ false → shape_of_two k j l i ≡ other
+first_other : (k l : List ℕ) (j i : Json) → is_text j ≡ false → shape_of_two_members k j l i ≡ not_v1
 first_other k l json.null i plain = refl
 first_other k l (json.boolean b) i plain = refl
 first_other k l (json.number s) i plain = refl
@@ -87,7 +87,7 @@ first_other k l (json.string s) i plain = cc
 first_other k l (json.array js) i plain = refl
 first_other k l (json.object ms) i plain = refl
 
-second_other : (k l s : List ℕ) (i : Json) → is_text i ≡ false → shape_of_two k (json.string s) l i ≡ other
+second_other : (k l s : List ℕ) (i : Json) → is_text i ≡ false → shape_of_two_members k (json.string s) l i ≡ not_v1
 second_other k l s json.null plain = refl
 second_other k l s (json.boolean b) plain = refl
 second_other k l s (json.number t) plain = refl
@@ -96,12 +96,12 @@ second_other k l s (json.array js) plain = refl
 second_other k l s (json.object ms) plain = refl
 
 -- the first member is no text, or the second
-pub other_first : (k : List ℕ) (j : Json) (ms : Members) → is_text j ≡ false → v1_shape (member k j ms) ≡ other
+pub other_first : (k : List ℕ) (j : Json) (ms : Members) → is_text j ≡ false → v1_shape (member k j ms) ≡ not_v1
 other_first k j no_members plain = lone_other k j plain
 other_first k j (member l i no_members) plain = first_other k l j i plain
 other_first k j (member l i (member m h ms)) plain = refl
 
 pub other_second : (k l s : List ℕ) (i : Json) (ms : Members) → is_text i ≡ false
-    → v1_shape (member k (json.string s) (member l i ms)) ≡ other
+    → v1_shape (member k (json.string s) (member l i ms)) ≡ not_v1
 other_second k l s i no_members plain = second_other k l s i plain
 other_second k l s i (member m h ms) plain = refl

@@ -9,7 +9,7 @@ use Rattle.json.specs.declared.token.Token as found
 use Rattle.json.specs.declared.token.Token.TheVariants.{BeginObject, EndObject, BeginArray, EndArray, Key, String, Number}
 use Rattle.json.specs.declared.token.Token.TheVariants.{Bool, Null, Bad}
 use Rattle.json.proofs.Grammar.{value_is, value-begin_array, value-begin_object}
-use Rattle.bson_tokens.specs.NormalizerStates.{elements, inside}
+use Rattle.bson_tokens.specs.NormalizerStates.{array_rest, object_rest}
 use Rattle.bson_v1.specs.WrittenTokens.{WritesTokens, upgraded_items_tokens, upgraded_object_tokens, upgraded_value_tokens}
 
 module _ (depth : ℕ) (t : found.Token) (ts : List Token) where
@@ -50,11 +50,11 @@ module _ (depth : ℕ) (t : found.Token) (ts : List Token) where
 
   -- it opens a list
   pub array_opened : t ≡ BeginArray → 0 < depth
-      → value depth (token_of t ∷ ts) ≡ parse_map array (elements (depth - 1) ts)
+      → value depth (token_of t ∷ ts) ≡ parse_map array (array_rest (depth - 1) ts)
   array_opened e left = ap (λ k. value depth (token_of k ∷ ts)) e ∙ value-begin_array depth ts left
 
   pub array_passes : (rest old begun new : List Token) → t ≡ BeginArray → 0 < depth
-      → begun ≡ old ++ token.begin_array ∷ [] → WritesTokens upgraded_items_tokens (elements (depth - 1) ts) rest begun new
+      → begun ≡ old ++ token.begin_array ∷ [] → WritesTokens upgraded_items_tokens (array_rest (depth - 1) ts) rest begun new
       → WritesTokens upgraded_value_tokens (value depth (token_of t ∷ ts)) rest old new
   array_passes rest old begun new e left begin (js, read, is) = (
     array js,
@@ -69,11 +69,11 @@ module _ (depth : ℕ) (t : found.Token) (ts : List Token) where
 
   -- it opens an object
   pub object_opened : t ≡ BeginObject → 0 < depth
-      → value depth (token_of t ∷ ts) ≡ parse_map object (inside (depth - 1) ts)
+      → value depth (token_of t ∷ ts) ≡ parse_map object (object_rest (depth - 1) ts)
   object_opened e left = ap (λ k. value depth (token_of k ∷ ts)) e ∙ value-begin_object depth ts left
 
   pub object_passes : (rest old new : List Token) → t ≡ BeginObject → 0 < depth
-      → WritesTokens upgraded_object_tokens (inside (depth - 1) ts) rest old new
+      → WritesTokens upgraded_object_tokens (object_rest (depth - 1) ts) rest old new
       → WritesTokens upgraded_value_tokens (value depth (token_of t ∷ ts)) rest old new
   object_passes rest old new e left (ms, read, is) =
       (object ms, object_opened e left ∙ ap (parse_map object) read, is)

@@ -13,19 +13,19 @@ use Rattle.bson_model.specs.OrderedTexts.{HasMeaningInOrder, MeansByDefault}
 use Rattle.bson_tokens.specs.Normalized.{normalized, IsNormalizedText}
 use Rattle.bson_tokens.specs.declared.arrangement.Arrangement.TheVariants.{FirstPositions}
 use Rattle.bson_tokens.proofs.Offered.{meant, meant_in_order}
-use Rattle.bson_v1.specs.Upgraded.{binary, regex, date, other, v1_shape, shape_of_strings, shape_of_two, shape_of_one, upgraded_wrapper, is_code, is_scope}
+use Rattle.bson_v1.specs.Upgraded.{binary, regex, date, not_v1, v1_shape, shape_of_two_strings, shape_of_two_members, shape_of_one_member, upgraded_wrapper, is_code, is_scope}
 use Rattle.bson_v1.specs.Upgraded.{upgraded, upgraded_items, upgraded_members, upgraded_object, upgraded_scope, ends_in_offset}
 use Rattle.bson_v1.specs.Upgraded.{with_colon, binary_json, regex_json, date_json}
 use Rattle.bson_v1.specs.Text.{IsUpgradedText}
-use Rattle.bson_v1.specs.Version1.{IsNotVersion1, IsTextOfVersion2, IsVersion1, IsVersion2, AllVersion2, HasVersion2}
-use Rattle.bson_v1.specs.Version1.{EachVersion2, strings_at}
+use Rattle.bson_v1.specs.Version1.{IsNotVersion1, IsTextOfVersion2, IsVersion1, IsVersion2, ItemsAreVersion2, MembersAreVersion2}
+use Rattle.bson_v1.specs.Version1.{EachMemberIsVersion2, two_string_members}
 use Rattle.bson_v1.specs.Version1 as v1
 
 pub shape_renewed : (ms : Members) (t : Json) → IsVersion1 ms t → upgraded (json.object ms) ≡ t
 shape_renewed x u (v1.binary s t) = refl
-shape_renewed x u (v1.binary_turned s t) = refl
+shape_renewed x u (v1.binary_type_first s t) = refl
 shape_renewed x u (v1.regex s t) = refl
-shape_renewed x u (v1.regex_turned s t) = refl
+shape_renewed x u (v1.regex_options_first s t) = refl
 shape_renewed x u (v1.date s ends) = refl
 
 same_key : (k l : List ℕ) → bytes_eq k l ≡ true → k ≡ l
@@ -34,10 +34,10 @@ same_key k l h = (bytes_eq-Decides k l).0 h
 -- ---- objects of no shape
 
 no_pair : (k s l t : List ℕ) (m n : List ℕ) (u : Json) → bytes_eq k m ≡ true → bytes_eq l n ≡ true
-    → IsVersion1 (strings_at m s n t) u → IsNotVersion1 (strings_at k s l t) → ⊥
+    → IsVersion1 (two_string_members m s n t) u → IsNotVersion1 (two_string_members k s l t) → ⊥
 no_pair k s l t m n u first second is none =
-    none u (subst (λ x. IsVersion1 (strings_at x s l t) u) (sym (same_key k m first))
-    (subst (λ x. IsVersion1 (strings_at m s x t) u) (sym (same_key l n second)) is))
+    none u (subst (λ x. IsVersion1 (two_string_members x s l t) u) (sym (same_key k m first))
+    (subst (λ x. IsVersion1 (two_string_members m s x t) u) (sym (same_key l n second)) is))
 
 plain_cond : {A : Type 0} (b : Bool) (x y : A) → (b ≡ true → ⊥) → cond b x y ≡ y
 plain_cond true x y never = absurd (never refl)
@@ -48,20 +48,20 @@ skip true true x y never = absurd (never refl refl)
 skip true false x y never = refl
 skip false b x y never = refl
 
-two_stay : (k s l t : List ℕ) → IsNotVersion1 (strings_at k s l t) → shape_of_strings k s l t ≡ other
+two_stay : (k s l t : List ℕ) → IsNotVersion1 (two_string_members k s l t) → shape_of_two_strings k s l t ≡ not_v1
 two_stay k s l t none =
     skip (bytes_eq k (codes "$binary")) (bytes_eq l (codes "$type")) (binary s t) _
     (λ p q. no_pair k s l t (codes "$binary") (codes "$type") (binary_json s t) p q (v1.binary s t) none)
     ∙ skip (bytes_eq k (codes "$type")) (bytes_eq l (codes "$binary")) (binary t s) _
-    (λ p q. no_pair k s l t (codes "$type") (codes "$binary") (binary_json t s) p q (v1.binary_turned t s) none)
+    (λ p q. no_pair k s l t (codes "$type") (codes "$binary") (binary_json t s) p q (v1.binary_type_first t s) none)
     ∙ skip (bytes_eq k (codes "$regex")) (bytes_eq l (codes "$options")) (regex s t) _
     (λ p q. no_pair k s l t (codes "$regex") (codes "$options") (regex_json s t) p q (v1.regex s t) none)
-    ∙ skip (bytes_eq k (codes "$options")) (bytes_eq l (codes "$regex")) (regex t s) other
-    (λ p q. no_pair k s l t (codes "$options") (codes "$regex") (regex_json t s) p q (v1.regex_turned t s) none)
+    ∙ skip (bytes_eq k (codes "$options")) (bytes_eq l (codes "$regex")) (regex t s) not_v1
+    (λ p q. no_pair k s l t (codes "$options") (codes "$regex") (regex_json t s) p q (v1.regex_options_first t s) none)
 
 date_stays : (k s : List ℕ) (b : Bool) → bytes_eq k (codes "$date") ≡ b
     → IsNotVersion1 (member k (json.string s) no_members)
-    → upgraded_wrapper (cond b (date s) other) (member k (json.string s) no_members) ≡ json.object (member k (json.string s) no_members)
+    → upgraded_wrapper (cond b (date s) not_v1) (member k (json.string s) no_members) ≡ json.object (member k (json.string s) no_members)
 date_stays k s false is none = refl
 date_stays k s true is none =
     let same = same_key k (codes "$date") is in
@@ -71,7 +71,7 @@ date_stays k s true is none =
     (subst (λ x. IsVersion1 (member x (json.string s) no_members) (date_json s)) (sym same) (v1.date s ends))))
     ∙ ap (λ x. json.object (member x (json.string s) no_members)) (sym same)
 
-pair_stays : (k l : List ℕ) (j i : Json) → IsNotVersion1 (member k j (member l i no_members)) → shape_of_two k j l i ≡ other
+pair_stays : (k l : List ℕ) (j i : Json) → IsNotVersion1 (member k j (member l i no_members)) → shape_of_two_members k j l i ≡ not_v1
 pair_stays k l json.null i none = refl
 pair_stays k l (json.boolean b) i none = refl
 pair_stays k l (json.number n) i none = refl
@@ -126,13 +126,13 @@ mutual
   scope_stays x (v1.array js all) = ap json.array (items_stay js all)
   scope_stays x (v1.object ms none inner) = ap json.object (object_stays ms inner)
 
-  items_stay : (js : Items) → AllVersion2 js → upgraded_items js ≡ js
+  items_stay : (js : Items) → ItemsAreVersion2 js → upgraded_items js ≡ js
   items_stay x v1.none = refl
-  items_stay x (v1.more j js first all) =
+  items_stay x (v1.next_item j js first all) =
       ap (λ h. item h (upgraded_items js)) (stays j first) ∙ ap (item j) (items_stay js all)
 
-  object_stays : (ms : Members) → HasVersion2 ms → upgraded_object ms ≡ ms
-  object_stays x (v1.ordinary ms each) = ordinary_stays ms each
+  object_stays : (ms : Members) → MembersAreVersion2 ms → upgraded_object ms ≡ ms
+  object_stays x (v1.no_scope ms each) = ordinary_stays ms each
   object_stays x (v1.scope_last s scope ms inner each) =
       two (codes "$code") (codes "$scope") _ (json.string s) _ (json.object scope) _ ms refl
       (ap json.object (object_stays scope inner)) (members_stay ms each)
@@ -140,19 +140,19 @@ mutual
       two (codes "$scope") (codes "$code") _ (json.object scope) _ (json.string s) _ ms
       (ap json.object (object_stays scope inner)) refl (members_stay ms each)
 
-  ordinary_stays : (ms : Members) → EachVersion2 ms → upgraded_object ms ≡ ms
+  ordinary_stays : (ms : Members) → EachMemberIsVersion2 ms → upgraded_object ms ≡ ms
   ordinary_stays x v1.no_more = refl
-  ordinary_stays x (v1.another k j ms first v1.no_more) = ap (λ h. member k h no_members) (stays j first)
-  ordinary_stays x (v1.another k j ms first (v1.another l i ns second each)) =
+  ordinary_stays x (v1.next_member k j ms first v1.no_more) = ap (λ h. member k h no_members) (stays j first)
+  ordinary_stays x (v1.next_member k j ms first (v1.next_member l i ns second each)) =
       let rest = members_stay ns each in
       each_same (is_code k j && is_scope l) (is_scope k && is_code l i) _ _ _ (member k j (member l i ns))
       (two k l _ j _ i _ ns (stays j first) (scope_stays i second) rest)
       (two k l _ j _ i _ ns (scope_stays j first) (stays i second) rest)
       (two k l _ j _ i _ ns (stays j first) (stays i second) rest)
 
-  members_stay : (ms : Members) → EachVersion2 ms → upgraded_members ms ≡ ms
+  members_stay : (ms : Members) → EachMemberIsVersion2 ms → upgraded_members ms ≡ ms
   members_stay x v1.no_more = refl
-  members_stay x (v1.another k j ms first each) =
+  members_stay x (v1.next_member k j ms first each) =
       ap (λ h. member k h (upgraded_members ms)) (stays j first) ∙ ap (member k j) (members_stay ms each)
 
 -- ---- texts
@@ -160,10 +160,10 @@ mutual
 resolved_again : (text written : List ℕ) → IsUpgradedText text written → IsTextOfVersion2 text
     → IsNormalizedText FirstPositions text written
 resolved_again text written is newer =
-    let j = is.is_resolved.tree in
-    let same = is.compact ∙ ap (λ x. print (json_tokens x)) (stays (normalized FirstPositions j) (newer j is.is_resolved.is_tree))
-    ∙ sym is.is_resolved.compact in
-    subst (IsNormalizedText FirstPositions text) (sym same) is.is_resolved
+    let j = is.text_is_normalized.tree in
+    let same = is.compact ∙ ap (λ x. print (json_tokens x)) (stays (normalized FirstPositions j) (newer j is.text_is_normalized.is_tree))
+    ∙ sym is.text_is_normalized.compact in
+    subst (IsNormalizedText FirstPositions text) (sym same) is.text_is_normalized
 
 pub kept_in_order : (D : Doubles) (text written : List ℕ) (v : Value) → IsUpgradedText text written
     → IsTextOfVersion2 text → (HasMeaningInOrder D written v ↔ HasMeaningInOrder D text v)

@@ -12,11 +12,11 @@ use Rattle.bson_v1.specs.Upgraded.{upgraded}
 -- the compact text of the tree of v2 that the text's tree denotes, with the last value of each of its keys; it is
 -- read as that tree if it nests no deeper than a text may
 pub record IsUpgradedText (text written : List ℕ) : Type 0 where
-  pub resolved : List ℕ
-  pub is_resolved : IsNormalizedText FirstPositions text resolved
-  pub compact : written ≡ print (json_tokens (upgraded (normalized FirstPositions is_resolved.tree)))
-  pub read_again : depth (upgraded (normalized FirstPositions is_resolved.tree)) ≤ max_depth
-      → json_of written ≡ Some (upgraded (normalized FirstPositions is_resolved.tree))
+  pub normalized_input : List ℕ
+  pub text_is_normalized : IsNormalizedText FirstPositions text normalized_input
+  pub compact : written ≡ print (json_tokens (upgraded (normalized FirstPositions text_is_normalized.tree)))
+  pub read_again : depth (upgraded (normalized FirstPositions text_is_normalized.tree)) ≤ max_depth
+      → json_of written ≡ Some (upgraded (normalized FirstPositions text_is_normalized.tree))
 
 -- ---- for private clauses
 

@@ -8,88 +8,95 @@ use Rattle.json.specs.Json as json
 
 -- ---- dates
 
-abbrev pub is_sign : ℕ → Bool
-is_sign x = (x == 43) || (x == 45)
+abbrev pub is_sign : (byte : ℕ) → Bool
+is_sign byte = (byte == 43) || (byte == 45)
 
-abbrev pub is_digit : ℕ → Bool
-is_digit x = nat_le 48 x && nat_le x 57
+abbrev pub is_digit : (byte : ℕ) → Bool
+is_digit byte = nat_le 48 byte && nat_le byte 57
 
 -- a sign and four digits are at the end, as in 2020-06-01T00:42:40+0200
-abbrev pub ends_in_offset : List ℕ → Bool
+abbrev pub ends_in_offset : (text : List ℕ) → Bool
 ends_in_offset text =
-    nat_le 5 (length text) && is_sign (slice_index text (length text - 5)) && is_digit (slice_index text (length text - 4))
+    nat_le 5 (length text) && is_sign (slice_index text (length text - 5))
+    && is_digit (slice_index text (length text - 4))
     && is_digit (slice_index text (length text - 3)) && is_digit (slice_index text (length text - 2))
     && is_digit (slice_index text (length text - 1))
 
 -- the text, with a colon in this offset, as RFC 3339 (section 5.6) has it
-abbrev pub with_colon : List ℕ → List ℕ
-with_colon text = if ends_in_offset text then take (length text - 2) text ++ codes ":" ++ drop (length text - 2) text else text
+abbrev pub with_colon : (text : List ℕ) → List ℕ
+with_colon text =
+    if ends_in_offset text then take (length text - 2) text ++ codes ":" ++ drop (length text - 2) text else text
 
 -- ---- the shapes of v1
 
 -- what an object of v1 denotes: a binary of this base64 text and subtype, a regular expression of this pattern and
 -- these options, a date of this text; or itself
-pub data Shape : Type 0 where
-  binary : List ℕ → List ℕ → Shape
-  regex : List ℕ → List ℕ → Shape
-  date : List ℕ → Shape
-  other : Shape
+pub data V1Shape : Type 0 where
+  binary : (base64 sub_type : List ℕ) → V1Shape
+  regex : (pattern options : List ℕ) → V1Shape
+  date : (text : List ℕ) → V1Shape
+  not_v1 : V1Shape
 
 -- the shape of two keys whose values are texts, in either order
-abbrev pub shape_of_strings : List ℕ → List ℕ → List ℕ → List ℕ → Shape
-shape_of_strings key text second_key second_text =
+abbrev pub shape_of_two_strings : (key text second_key second_text : List ℕ) → V1Shape
+shape_of_two_strings key text second_key second_text =
     if bytes_eq key (codes "$binary") && bytes_eq second_key (codes "$type") then binary text second_text
     else if bytes_eq key (codes "$type") && bytes_eq second_key (codes "$binary") then binary second_text text
     else if bytes_eq key (codes "$regex") && bytes_eq second_key (codes "$options") then regex text second_text
     else if bytes_eq key (codes "$options") && bytes_eq second_key (codes "$regex") then regex second_text text
-    else other
+    else not_v1
 
-abbrev pub shape_of_two : List ℕ → Json → List ℕ → Json → Shape
-shape_of_two key (json.string text) second_key (json.string second_text) = shape_of_strings key text second_key second_text
-shape_of_two key _ second_key _ = other
+abbrev pub shape_of_two_members : (key : List ℕ) → Json → (second_key : List ℕ) → Json → V1Shape
+shape_of_two_members key (json.string text) second_key (json.string second_text) =
+    shape_of_two_strings key text second_key second_text
+shape_of_two_members key _ second_key _ = not_v1
 
-abbrev pub shape_of_one : List ℕ → Json → Shape
-shape_of_one key (json.string text) = if bytes_eq key (codes "$date") then date text else other
-shape_of_one key _ = other
+abbrev pub shape_of_one_member : (key : List ℕ) → Json → V1Shape
+shape_of_one_member key (json.string text) = if bytes_eq key (codes "$date") then date text else not_v1
+shape_of_one_member key _ = not_v1
 
-abbrev pub v1_shape : Members → Shape
-v1_shape no_members = other
-v1_shape (member key value no_members) = shape_of_one key value
-v1_shape (member key value (member second_key second_value no_members)) = shape_of_two key value second_key second_value
-v1_shape (member key value (member second_key second_value (member m h ms))) = other
+abbrev pub v1_shape : Members → V1Shape
+v1_shape no_members = not_v1
+v1_shape (member key value no_members) = shape_of_one_member key value
+v1_shape (member key value (member second_key second_value no_members)) =
+    shape_of_two_members key value second_key second_value
+v1_shape (member key value (member second_key second_value (member third_key third_value json_members))) = not_v1
 
 -- ---- what they denote
 
-abbrev pub object_of_member : List ℕ → Json → Json
+abbrev pub object_of_member : (key : List ℕ) → Json → Json
 object_of_member key value = json.object (member key value no_members)
 
-abbrev pub object_of_two_texts : List ℕ → List ℕ → List ℕ → List ℕ → Json
-object_of_two_texts key text second_key second_text = json.object (member key (json.string text) (member second_key (json.string second_text) no_members))
+abbrev pub object_of_two_texts : (key text second_key second_text : List ℕ) → Json
+object_of_two_texts key text second_key second_text =
+    json.object (member key (json.string text) (member second_key (json.string second_text) no_members))
 
-abbrev pub binary_json : List ℕ → List ℕ → Json
-binary_json base64 sub_type = object_of_member (codes "$binary") (object_of_two_texts (codes "base64") base64 (codes "subType") sub_type)
+abbrev pub binary_json : (base64 sub_type : List ℕ) → Json
+binary_json base64 sub_type =
+    object_of_member (codes "$binary") (object_of_two_texts (codes "base64") base64 (codes "subType") sub_type)
 
-abbrev pub regex_json : List ℕ → List ℕ → Json
+abbrev pub regex_json : (pattern options : List ℕ) → Json
 regex_json pattern options =
-    object_of_member (codes "$regularExpression") (object_of_two_texts (codes "pattern") pattern (codes "options") options)
+    object_of_member (codes "$regularExpression")
+    (object_of_two_texts (codes "pattern") pattern (codes "options") options)
 
-abbrev pub date_json : List ℕ → Json
+abbrev pub date_json : (text : List ℕ) → Json
 date_json text = object_of_member (codes "$date") (json.string (with_colon text))
 
-abbrev pub upgraded_wrapper : Shape → Members → Json
-upgraded_wrapper (binary base64 sub_type) ms = binary_json base64 sub_type
-upgraded_wrapper (regex pattern options) ms = regex_json pattern options
-upgraded_wrapper (date text) ms = date_json text
-upgraded_wrapper other ms = json.object ms
+abbrev pub upgraded_wrapper : V1Shape → Members → Json
+upgraded_wrapper (binary base64 sub_type) json_members = binary_json base64 sub_type
+upgraded_wrapper (regex pattern options) json_members = regex_json pattern options
+upgraded_wrapper (date text) json_members = date_json text
+upgraded_wrapper not_v1 json_members = json.object json_members
 
 -- ---- scopes
 
 -- code is a string at `$code`
-abbrev pub is_code : List ℕ → Json → Bool
+abbrev pub is_code : (key : List ℕ) → (value : Json) → Bool
 is_code key (json.string text) = bytes_eq key (codes "$code")
 is_code key _ = false
 
-abbrev pub is_scope : List ℕ → Bool
+abbrev pub is_scope : (key : List ℕ) → Bool
 is_scope key = bytes_eq key (codes "$scope")
 
 -- ---- whole trees
@@ -98,34 +105,37 @@ is_scope key = bytes_eq key (codes "$scope")
 abbrev mutual
   pub upgraded : Json → Json
   upgraded json.null = json.null
-  upgraded (json.boolean b) = json.boolean b
+  upgraded (json.boolean truth) = json.boolean truth
   upgraded (json.number text) = json.number text
   upgraded (json.string text) = json.string text
-  upgraded (json.array js) = json.array (upgraded_items js)
-  upgraded (json.object ms) = upgraded_wrapper (v1_shape ms) (upgraded_object ms)
+  upgraded (json.array json_items) = json.array (upgraded_items json_items)
+  upgraded (json.object json_members) = upgraded_wrapper (v1_shape json_members) (upgraded_object json_members)
 
   -- what is at `$scope` next to code
   pub upgraded_scope : Json → Json
   upgraded_scope json.null = json.null
-  upgraded_scope (json.boolean b) = json.boolean b
+  upgraded_scope (json.boolean truth) = json.boolean truth
   upgraded_scope (json.number text) = json.number text
   upgraded_scope (json.string text) = json.string text
-  upgraded_scope (json.array js) = json.array (upgraded_items js)
-  upgraded_scope (json.object ms) = json.object (upgraded_object ms)
+  upgraded_scope (json.array json_items) = json.array (upgraded_items json_items)
+  upgraded_scope (json.object json_members) = json.object (upgraded_object json_members)
 
   -- the members of an object of no shape of v1, which may begin with code and its scope, in either order
   pub upgraded_object : Members → Members
   upgraded_object no_members = no_members
   upgraded_object (member key value no_members) = member key (upgraded value) no_members
-  upgraded_object (member key value (member second_key second_value ms)) =
-      if is_code key value && is_scope second_key then member key (upgraded value) (member second_key (upgraded_scope second_value) (upgraded_members ms))
-      else if is_scope key && is_code second_key second_value then member key (upgraded_scope value) (member second_key (upgraded second_value) (upgraded_members ms))
-      else member key (upgraded value) (member second_key (upgraded second_value) (upgraded_members ms))
+  upgraded_object (member key value (member second_key second_value json_members)) =
+      if is_code key value && is_scope second_key
+      then member key (upgraded value)
+      (member second_key (upgraded_scope second_value) (upgraded_members json_members))
+      else if is_scope key && is_code second_key second_value
+      then member key (upgraded_scope value) (member second_key (upgraded second_value) (upgraded_members json_members))
+      else member key (upgraded value) (member second_key (upgraded second_value) (upgraded_members json_members))
 
   pub upgraded_items : Items → Items
   upgraded_items no_items = no_items
-  upgraded_items (item value js) = item (upgraded value) (upgraded_items js)
+  upgraded_items (item value json_items) = item (upgraded value) (upgraded_items json_items)
 
   pub upgraded_members : Members → Members
   upgraded_members no_members = no_members
-  upgraded_members (member key value ms) = member key (upgraded value) (upgraded_members ms)
+  upgraded_members (member key value json_members) = member key (upgraded value) (upgraded_members json_members)

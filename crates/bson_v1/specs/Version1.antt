@@ -10,51 +10,60 @@ use Rattle.bson_tokens.specs.declared.arrangement.Arrangement.TheVariants.{First
 use Rattle.bson_v1.specs.Upgraded.{binary_json, date_json, ends_in_offset, regex_json}
 
 -- two members that are strings
-abbrev pub strings_at : List ℕ → List ℕ → List ℕ → List ℕ → Members
-strings_at k s l t = member k (json.string s) (member l (json.string t) no_members)
+abbrev pub two_string_members : (first_key first_text second_key second_text : List ℕ) → Members
+two_string_members first_key first_text second_key second_text =
+    member first_key (json.string first_text) (member second_key (json.string second_text) no_members)
 
 -- the members are those of an object of v1, which denotes the tree of v2
 pub data IsVersion1 : Members → Json → Type 0 where
   binary : (base64 sub_type : List ℕ)
-      → IsVersion1 (strings_at (codes "$binary") base64 (codes "$type") sub_type) (binary_json base64 sub_type)
-  binary_turned : (base64 sub_type : List ℕ)
-      → IsVersion1 (strings_at (codes "$type") sub_type (codes "$binary") base64) (binary_json base64 sub_type)
+      → IsVersion1 (two_string_members (codes "$binary") base64 (codes "$type") sub_type) (binary_json base64 sub_type)
+  binary_type_first : (base64 sub_type : List ℕ)
+      → IsVersion1 (two_string_members (codes "$type") sub_type (codes "$binary") base64) (binary_json base64 sub_type)
   regex : (pattern options : List ℕ)
-      → IsVersion1 (strings_at (codes "$regex") pattern (codes "$options") options) (regex_json pattern options)
-  regex_turned : (pattern options : List ℕ)
-      → IsVersion1 (strings_at (codes "$options") options (codes "$regex") pattern) (regex_json pattern options)
-  date : (s : List ℕ) → ends_in_offset s ≡ true
-      → IsVersion1 (member (codes "$date") (json.string s) no_members) (date_json s)
+      → IsVersion1 (two_string_members (codes "$regex") pattern (codes "$options") options) (regex_json pattern options)
+  regex_options_first : (pattern options : List ℕ)
+      → IsVersion1 (two_string_members (codes "$options") options (codes "$regex") pattern) (regex_json pattern options)
+  date : (text_bytes : List ℕ) → ends_in_offset text_bytes ≡ true
+      → IsVersion1 (member (codes "$date") (json.string text_bytes) no_members) (date_json text_bytes)
 
 abbrev pub IsNotVersion1 : Members → Type 0
-IsNotVersion1 ms = (t : Json) → IsVersion1 ms t → ⊥
+IsNotVersion1 json_members = (v2_value : Json) → IsVersion1 json_members v2_value → ⊥
 
 mutual
   -- no object of the tree has a shape of v1, except scopes
   pub data IsVersion2 : Json → Type 0 where
     null : IsVersion2 json.null
-    boolean : (b : Bool) → IsVersion2 (json.boolean b)
-    number : (s : List ℕ) → IsVersion2 (json.number s)
-    string : (s : List ℕ) → IsVersion2 (json.string s)
-    array : (js : Items) → AllVersion2 js → IsVersion2 (json.array js)
-    object : (ms : Members) → IsNotVersion1 ms → HasVersion2 ms → IsVersion2 (json.object ms)
+    boolean : (truth : Bool) → IsVersion2 (json.boolean truth)
+    number : (text_bytes : List ℕ) → IsVersion2 (json.number text_bytes)
+    string : (text_bytes : List ℕ) → IsVersion2 (json.string text_bytes)
+    array : (json_items : Items) → ItemsAreVersion2 json_items → IsVersion2 (json.array json_items)
+    object : (json_members : Members) → IsNotVersion1 json_members → MembersAreVersion2 json_members
+        → IsVersion2 (json.object json_members)
 
-  pub data AllVersion2 : Items → Type 0 where
-    none : AllVersion2 no_items
-    more : (j : Json) (js : Items) → IsVersion2 j → AllVersion2 js → AllVersion2 (item j js)
+  pub data ItemsAreVersion2 : Items → Type 0 where
+    none : ItemsAreVersion2 no_items
+    next_item : (json_value : Json) (json_items : Items) → IsVersion2 json_value → ItemsAreVersion2 json_items
+        → ItemsAreVersion2 (item json_value json_items)
 
   -- the same of what an object contains, whatever its own keys are
-  pub data HasVersion2 : Members → Type 0 where
-    ordinary : (ms : Members) → EachVersion2 ms → HasVersion2 ms
-    scope_last : (s : List ℕ) (scope ms : Members) → HasVersion2 scope → EachVersion2 ms
-        → HasVersion2 (member (codes "$code") (json.string s) (member (codes "$scope") (json.object scope) ms))
-    scope_first : (s : List ℕ) (scope ms : Members) → HasVersion2 scope → EachVersion2 ms
-        → HasVersion2 (member (codes "$scope") (json.object scope) (member (codes "$code") (json.string s) ms))
+  pub data MembersAreVersion2 : Members → Type 0 where
+    no_scope : (json_members : Members) → EachMemberIsVersion2 json_members → MembersAreVersion2 json_members
+    scope_last : (text_bytes : List ℕ) (scope json_members : Members) → MembersAreVersion2 scope
+        → EachMemberIsVersion2 json_members
+        → MembersAreVersion2
+        (member (codes "$code") (json.string text_bytes) (member (codes "$scope") (json.object scope) json_members))
+    scope_first : (text_bytes : List ℕ) (scope json_members : Members) → MembersAreVersion2 scope
+        → EachMemberIsVersion2 json_members
+        → MembersAreVersion2
+        (member (codes "$scope") (json.object scope) (member (codes "$code") (json.string text_bytes) json_members))
 
-  pub data EachVersion2 : Members → Type 0 where
-    no_more : EachVersion2 no_members
-    another : (k : List ℕ) (j : Json) (ms : Members) → IsVersion2 j → EachVersion2 ms → EachVersion2 (member k j ms)
+  pub data EachMemberIsVersion2 : Members → Type 0 where
+    no_more : EachMemberIsVersion2 no_members
+    next_member : (member_key : List ℕ) (json_value : Json) (json_members : Members) → IsVersion2 json_value
+        → EachMemberIsVersion2 json_members → EachMemberIsVersion2 (member member_key json_value json_members)
 
 -- each key of the text's objects has its last value, and then the tree is one of v2
-abbrev pub IsTextOfVersion2 : List ℕ → Type 0
-IsTextOfVersion2 text = (j : Json) → json_of text ≡ Some j → IsVersion2 (normalized FirstPositions j)
+abbrev pub IsTextOfVersion2 : (text : List ℕ) → Type 0
+IsTextOfVersion2 text = (json_value : Json) → json_of text ≡ Some json_value
+    → IsVersion2 (normalized FirstPositions json_value)

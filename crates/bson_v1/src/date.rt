@@ -6,13 +6,13 @@ use std::alloc::{AllocError, Global};
 
 /// The text, with a colon in an offset of four digits at its end.
 pub(crate) fn with_colon(alloc: Global, text: &str) -> Result<String, AllocError>
-    ensures { IfOk result (λ s. string_bytes s ≡ with_colon text.now) }
+    ensures { IfOk result (λ colon_text. string_bytes colon_text ≡ with_colon text.now) }
 {
     if !ends_in_offset(text.as_bytes()) {
         return String::from_str(alloc, text);
     }
-    let at = text.len() - 2;
-    let (hours, minutes) = (&text[..at], &text[at..]);
+    let minutes_start = text.len() - 2;
+    let (hours, minutes) = (&text[..minutes_start], &text[minutes_start..]);
     format!(in alloc; "{hours}:{minutes}")
 }
 

@@ -7,9 +7,9 @@ ghost use Rattle.json.specs.Reads.{token_of};
 ghost use Rattle.json.specs.Token as token;
 ghost use Rattle.serde_json.specs.Read.{read};
 ghost use Rattle.bson_tokens.specs.DuplicateKeys.{json_of};
-ghost use Rattle.bson_tokens.specs.ReadOutcomes.{InvalidIfNotRead};
-ghost use Rattle.bson_tokens.specs.NormalizerStates.{elements, inside};
-ghost use Rattle.bson_v1.specs.LeadingMembers.{HasNoV1Shape, WritesRest, WritesScopeAndRest, WritesScope, with_leading_members};
+ghost use Rattle.bson_tokens.specs.ReadOutcomes.{NothingReadIfInvalid};
+ghost use Rattle.bson_tokens.specs.NormalizerStates.{array_rest, object_rest};
+ghost use Rattle.bson_v1.specs.LeadingMembers.{HasNoV1Shape, WritesRemainingMembers, WritesScopeAndRest, WritesScope, with_leading_members};
 ghost use Rattle.bson_v1.specs.WrittenTokens.{WritesMembers, WritesTokens};
 ghost use Rattle.bson_v1.specs.WrittenTokens.{upgraded_items_tokens, upgraded_members_tokens, upgraded_object_tokens, upgraded_value_tokens};
 ghost use Rattle.bson_v1.specs.Text.{IsUpgradedText, IsRewritten};
@@ -49,34 +49,34 @@ use std::alloc::Global;
 /// ```
 pub fn upgraded_text(alloc: Global, text: &str) -> Result<String, Error>
     ensures ok { IfOk result (λ written. IsUpgradedText text.now (string_bytes written)) }
-    ensures broken { IfErr result (InvalidIfNotRead (read text.now)) }
+    ensures broken { IfErr result (NothingReadIfInvalid (read text.now)) }
 {
-    let resolved = normalize_text(alloc, Arrangement::FirstPositions, text)?;
-    rewrite(alloc, resolved.as_str())
+    let normalized_input = normalize_text(alloc, Arrangement::FirstPositions, text)?;
+    rewrite_normalized(alloc, normalized_input.as_str())
 }
 
 // The text in place of one in which each key occurs once.
-fn rewrite(alloc: Global, text: &str) -> Result<String, Error>
+fn rewrite_normalized(alloc: Global, text: &str) -> Result<String, Error>
     ensures ok { IfOk result (λ written. IsRewritten text.now (string_bytes written)) }
-    ensures broken { IfErr result (InvalidIfNotRead (json_of text.now)) }
+    ensures broken { IfErr result (NothingReadIfInvalid (json_of text.now)) }
 {
     let mut scratch = Scratch::new(alloc);
     let mut reader = Reader::new(text, &mut scratch)?;
-    let mut out = Writer::new(Vec::with_capacity(alloc, text.len())?);
-    write_value(alloc, &mut reader, MAX_DEPTH, &mut out)?;
+    let mut writer = Writer::new(Vec::with_capacity(alloc, text.len())?);
+    write_value(alloc, &mut reader, MAX_DEPTH, &mut writer)?;
     if reader.next().is_some() {
         return Err(Error::Invalid);
     }
-    Ok(into_text(out))
+    Ok(into_text(writer))
 }
 
 // The text that was written.
-fn into_text(out: Writer) -> String
-    requires { out.before ≡ [] }
-    ensures text { string_bytes result ≡ print out.tokens }
-    ensures again { tokens (print out.tokens) ≡ out.tokens }
+fn into_text(writer: Writer) -> String
+    requires { writer.before ≡ [] }
+    ensures text { string_bytes result ≡ print writer.tokens }
+    ensures tokens_read_again { tokens (print writer.tokens) ≡ writer.tokens }
 {
-    let Ok(text) = String::from_utf8(out.into_inner()) else {
+    let Ok(text) = String::from_utf8(writer.into_inner()) else {
         unreachable!();
     };
     text
@@ -87,47 +87,50 @@ fn write_value<'a>(
     alloc: Global,
     reader: &mut Reader<'a>,
     depth: usize,
-    out: &mut Writer,
+    writer: &mut Writer,
 ) -> Result<(), Error>
     ensures ok { OnOk result
-        (WritesTokens upgraded_value_tokens (value depth reader.old) reader.new out.old.tokens out.new.tokens) }
-    ensures broken { IfErr result (InvalidIfNotRead (value depth reader.old)) }
-    ensures before { OnOk result (out.new.before ≡ out.old.before) }
+        (WritesTokens upgraded_value_tokens (value depth reader.old) reader.new writer.old.tokens writer.new.tokens) }
+    ensures broken { IfErr result (NothingReadIfInvalid (value depth reader.old)) }
+    ensures keeps_earlier_bytes { OnOk result (writer.new.before ≡ writer.old.before) }
 {
-    let first = reader.next().ok_or(Error::Invalid)?;
-    write_started_value(alloc, first, reader, depth, out)
+    let first_token = reader.next().ok_or(Error::Invalid)?;
+    write_started_value(alloc, first_token, reader, depth, writer)
 }
 
 // The value whose first token was read.
 #[cycle(write)]
 fn write_started_value<'a>(
     alloc: Global,
-    first: Token<'a>,
+    first_token: Token<'a>,
     reader: &mut Reader<'a>,
     depth: usize,
-    out: &mut Writer,
+    writer: &mut Writer,
 ) -> Result<(), Error>
-    requires { first ≢ Token.Bad → IsPrintable (token_of first) }
-    ensures ok { OnOk result (WritesTokens upgraded_value_tokens (value depth (token_of first.entry ∷ reader.old)) reader.new
-        out.old.tokens out.new.tokens) }
-    ensures broken { IfErr result (InvalidIfNotRead (value depth (token_of first.entry ∷ reader.old))) }
-    ensures before { OnOk result (out.new.before ≡ out.old.before) }
+    requires { first_token ≢ Token.Bad → IsPrintable (token_of first_token) }
+    ensures ok { OnOk result
+        (WritesTokens upgraded_value_tokens (value depth (token_of first_token.entry ∷ reader.old)) reader.new
+        writer.old.tokens writer.new.tokens) }
+    ensures broken { IfErr result (NothingReadIfInvalid (value depth (token_of first_token.entry ∷ reader.old))) }
+    ensures keeps_earlier_bytes { OnOk result (writer.new.before ≡ writer.old.before) }
 {
-    match first {
-        Token::String(_) | Token::Number(_) | Token::Bool(_) | Token::Null => Ok(out.token(first)?),
+    match first_token {
+        Token::String(_) | Token::Number(_) | Token::Bool(_) | Token::Null => Ok(writer.token(
+            first_token,
+        )?),
         Token::EndObject | Token::EndArray | Token::Key(_) | Token::Bad => Err(Error::Invalid),
         Token::BeginArray => {
             if depth == 0 {
                 return Err(Error::Invalid);
             }
-            out.begin_array()?;
-            write_items(alloc, reader, depth - 1, out)
+            writer.begin_array()?;
+            write_items(alloc, reader, depth - 1, writer)
         }
         Token::BeginObject => {
             if depth == 0 {
                 return Err(Error::Invalid);
             }
-            write_object(alloc, reader, depth - 1, out)
+            write_object(alloc, reader, depth - 1, writer)
         }
     }
 }
@@ -138,17 +141,18 @@ fn write_items<'a>(
     alloc: Global,
     reader: &mut Reader<'a>,
     depth: usize,
-    out: &mut Writer,
+    writer: &mut Writer,
 ) -> Result<(), Error>
     ensures ok { OnOk result
-        (WritesTokens upgraded_items_tokens (elements depth reader.old) reader.new out.old.tokens out.new.tokens) }
-    ensures broken { IfErr result (InvalidIfNotRead (elements depth reader.old)) }
-    ensures before { OnOk result (out.new.before ≡ out.old.before) }
+        (WritesTokens upgraded_items_tokens
+        (array_rest depth reader.old) reader.new writer.old.tokens writer.new.tokens) }
+    ensures broken { IfErr result (NothingReadIfInvalid (array_rest depth reader.old)) }
+    ensures keeps_earlier_bytes { OnOk result (writer.new.before ≡ writer.old.before) }
 {
     'items: while !reader.take_end_array() {
-        write_value(alloc, reader, depth, out)?;
+        write_value(alloc, reader, depth, writer)?;
     }
-    Ok(out.end_array()?)
+    Ok(writer.end_array()?)
 }
 
 // An object whose brace was read. While it may have a shape of v1, its members are buffered: no
@@ -158,19 +162,20 @@ fn write_object<'a>(
     alloc: Global,
     reader: &mut Reader<'a>,
     depth: usize,
-    out: &mut Writer,
+    writer: &mut Writer,
 ) -> Result<(), Error>
     ensures ok { OnOk result
-        (WritesTokens upgraded_object_tokens (inside depth reader.old) reader.new out.old.tokens out.new.tokens) }
-    ensures broken { IfErr result (InvalidIfNotRead (inside depth reader.old)) }
-    ensures before { OnOk result (out.new.before ≡ out.old.before) }
+        (WritesTokens upgraded_object_tokens
+        (object_rest depth reader.old) reader.new writer.old.tokens writer.new.tokens) }
+    ensures broken { IfErr result (NothingReadIfInvalid (object_rest depth reader.old)) }
+    ensures keeps_earlier_bytes { OnOk result (writer.new.before ≡ writer.old.before) }
 {
     match read_start(reader)? {
-        ObjectStart::Complete(leading) => Ok(write_from_v1(alloc, leading, out)?),
-        ObjectStart::Incomplete(leading, key, first) => {
-            out.begin_object()?;
-            write_leading_strings(leading, out)?;
-            write_rest(alloc, leading, key, first, reader, depth, out)
+        ObjectStart::Complete(leading) => Ok(write_from_v1(alloc, leading, writer)?),
+        ObjectStart::Incomplete(leading, key, first_token) => {
+            writer.begin_object()?;
+            write_leading_strings(leading, writer)?;
+            write_later_members(alloc, leading, key, first_token, reader, depth, writer)
         }
     }
 }
@@ -178,26 +183,27 @@ fn write_object<'a>(
 // The member of this key, of whose value the first token was read, and those after it, in an object
 // that begins with the strings and has no shape of v1.
 #[cycle(write)]
-fn write_rest<'a>(
+fn write_later_members<'a>(
     alloc: Global,
     leading: LeadingStrings<'a>,
     key: &'a str,
-    first: Token<'a>,
+    first_token: Token<'a>,
     reader: &mut Reader<'a>,
     depth: usize,
-    out: &mut Writer,
+    writer: &mut Writer,
 ) -> Result<(), Error>
-    requires printable { first ≢ Token.Bad → IsPrintable (token_of first) }
-    requires shape { HasNoV1Shape leading first }
-    ensures ok { OnOk result (WritesRest leading.entry depth key.now (token_of first.entry ∷ reader.old) reader.new
-        out.old.tokens out.new.tokens) }
+    requires printable { first_token ≢ Token.Bad → IsPrintable (token_of first_token) }
+    requires shape { HasNoV1Shape leading first_token }
+    ensures ok { OnOk result
+        (WritesRemainingMembers leading.entry depth key.now (token_of first_token.entry ∷ reader.old) reader.new
+        writer.old.tokens writer.new.tokens) }
     ensures broken { IfErr result
-        (InvalidIfNotRead (inside depth (token.key key.now ∷ token_of first.entry ∷ reader.old))) }
-    ensures before { OnOk result (out.new.before ≡ out.old.before) }
+        (NothingReadIfInvalid (object_rest depth (token.key key.now ∷ token_of first_token.entry ∷ reader.old))) }
+    ensures keeps_earlier_bytes { OnOk result (writer.new.before ≡ writer.old.before) }
 {
-    match scope_candidate(leading, key, first) {
-        Some(after_code) => write_scope(alloc, after_code, key, reader, depth, out),
-        None => write_member(alloc, key, first, reader, depth, out),
+    match scope_candidate(leading, key, first_token) {
+        Some(after_code) => write_scope(alloc, after_code, key, reader, depth, writer),
+        None => write_member(alloc, key, first_token, reader, depth, writer),
     }
 }
 
@@ -210,27 +216,35 @@ fn write_scope<'a>(
     key: &'a str,
     reader: &mut Reader<'a>,
     depth: usize,
-    out: &mut Writer,
+    writer: &mut Writer,
 ) -> Result<(), Error>
     ensures ok { OnOk result (WritesScope after_code depth key.now reader.old reader.new
-        out.old.tokens out.new.tokens) }
+        writer.old.tokens writer.new.tokens) }
     ensures broken { IfErr result
-        (InvalidIfNotRead (inside depth (token.key key.now ∷ token.begin_object ∷ reader.old))) }
-    ensures before { OnOk result (out.new.before ≡ out.old.before) }
+        (NothingReadIfInvalid (object_rest depth (token.key key.now ∷ token.begin_object ∷ reader.old))) }
+    ensures keeps_earlier_bytes { OnOk result (writer.new.before ≡ writer.old.before) }
 {
     if depth == 0 {
         return Err(Error::Invalid);
     }
-    out.key(key)?;
+    writer.key(key)?;
     match read_start(reader)? {
         ObjectStart::Complete(leading) => write_complete_scope(
-            alloc, after_code, leading, reader, depth, out,
+            alloc, after_code, leading, reader, depth, writer,
         ),
-        ObjectStart::Incomplete(leading, inner, first) => {
-            out.begin_object()?;
-            write_leading_strings(leading, out)?;
-            write_rest(alloc, leading, inner, first, reader, depth - 1, out)?;
-            write_members(alloc, reader, depth, out)
+        ObjectStart::Incomplete(leading, inner_key, first_token) => {
+            writer.begin_object()?;
+            write_leading_strings(leading, writer)?;
+            write_later_members(
+                alloc,
+                leading,
+                inner_key,
+                first_token,
+                reader,
+                depth - 1,
+                writer,
+            )?;
+            write_members(alloc, reader, depth, writer)
         }
     }
 }
@@ -243,19 +257,25 @@ fn write_complete_scope<'a>(
     leading: LeadingStrings<'a>,
     reader: &mut Reader<'a>,
     depth: usize,
-    out: &mut Writer,
+    writer: &mut Writer,
 ) -> Result<(), Error>
-    ensures ok { OnOk result (WritesScopeAndRest after_code depth (with_leading_members leading.entry no_members) reader.old reader.new
-        out.old.tokens out.new.tokens) }
-    ensures broken { IfErr result (InvalidIfNotRead (inside depth reader.old)) }
-    ensures before { OnOk result (out.new.before ≡ out.old.before) }
+    ensures ok { OnOk result
+        (WritesScopeAndRest after_code depth (with_leading_members leading.entry no_members) reader.old reader.new
+        writer.old.tokens writer.new.tokens) }
+    ensures broken { IfErr result (NothingReadIfInvalid (object_rest depth reader.old)) }
+    ensures keeps_earlier_bytes { OnOk result (writer.new.before ≡ writer.old.before) }
 {
-    let Some((key, first)) = next_member(reader)? else {
-        write_scope_or_value(alloc, after_code, leading, out)?;
-        return Ok(out.end_object()?);
+    let Some((key, first_token)) = next_member(reader)? else {
+        write_scope_or_value(alloc, after_code, leading, writer)?;
+        return Ok(writer.end_object()?);
     };
-    write_scope_or_value(alloc, is_scope(after_code, key, first), leading, out)?;
-    write_member(alloc, key, first, reader, depth, out)
+    write_scope_or_value(
+        alloc,
+        is_scope(after_code, key, first_token),
+        leading,
+        writer,
+    )?;
+    write_member(alloc, key, first_token, reader, depth, writer)
 }
 
 // Writes the member of this key, of whose value the first token was read, and those after it.
@@ -263,21 +283,21 @@ fn write_complete_scope<'a>(
 fn write_member<'a>(
     alloc: Global,
     key: &'a str,
-    first: Token<'a>,
+    first_token: Token<'a>,
     reader: &mut Reader<'a>,
     depth: usize,
-    out: &mut Writer,
+    writer: &mut Writer,
 ) -> Result<(), Error>
-    requires { first ≢ Token.Bad → IsPrintable (token_of first) }
-    ensures ok { OnOk result (WritesMembers depth key.now (token_of first.entry ∷ reader.old) reader.new
-        out.old.tokens out.new.tokens) }
+    requires { first_token ≢ Token.Bad → IsPrintable (token_of first_token) }
+    ensures ok { OnOk result (WritesMembers depth key.now (token_of first_token.entry ∷ reader.old) reader.new
+        writer.old.tokens writer.new.tokens) }
     ensures broken { IfErr result
-        (InvalidIfNotRead (inside depth (token.key key.now ∷ token_of first.entry ∷ reader.old))) }
-    ensures before { OnOk result (out.new.before ≡ out.old.before) }
+        (NothingReadIfInvalid (object_rest depth (token.key key.now ∷ token_of first_token.entry ∷ reader.old))) }
+    ensures keeps_earlier_bytes { OnOk result (writer.new.before ≡ writer.old.before) }
 {
-    out.key(key)?;
-    write_started_value(alloc, first, reader, depth, out)?;
-    write_members(alloc, reader, depth, out)
+    writer.key(key)?;
+    write_started_value(alloc, first_token, reader, depth, writer)?;
+    write_members(alloc, reader, depth, writer)
 }
 
 // The members to the end of their object, and that end.
@@ -286,16 +306,17 @@ fn write_members<'a>(
     alloc: Global,
     reader: &mut Reader<'a>,
     depth: usize,
-    out: &mut Writer,
+    writer: &mut Writer,
 ) -> Result<(), Error>
     ensures ok { OnOk result
-        (WritesTokens upgraded_members_tokens (inside depth reader.old) reader.new out.old.tokens out.new.tokens) }
-    ensures broken { IfErr result (InvalidIfNotRead (inside depth reader.old)) }
-    ensures before { OnOk result (out.new.before ≡ out.old.before) }
+        (WritesTokens upgraded_members_tokens
+        (object_rest depth reader.old) reader.new writer.old.tokens writer.new.tokens) }
+    ensures broken { IfErr result (NothingReadIfInvalid (object_rest depth reader.old)) }
+    ensures keeps_earlier_bytes { OnOk result (writer.new.before ≡ writer.old.before) }
 {
     'members: while let Some(key) = reader.next_key()? {
-        out.key(key)?;
-        write_value(alloc, reader, depth, out)?;
+        writer.key(key)?;
+        write_value(alloc, reader, depth, writer)?;
     }
-    Ok(out.end_object()?)
+    Ok(writer.end_object()?)
 }

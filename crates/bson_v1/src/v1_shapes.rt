@@ -16,23 +16,25 @@ use std::alloc::{AllocError, Global};
 pub(crate) fn write_from_v1(
     alloc: Global,
     leading: LeadingStrings<'_>,
-    out: &mut Writer,
+    writer: &mut Writer,
 ) -> Result<(), AllocError>
-    ensures ok { OnOk result (out.new.tokens ≡ out.old.tokens ++ upgraded_object_tokens (with_leading_members leading.entry no_members)) }
-    ensures before { out.new.before ≡ out.old.before }
+    ensures ok { OnOk result
+        (writer.new.tokens
+        ≡ writer.old.tokens ++ upgraded_object_tokens (with_leading_members leading.entry no_members)) }
+    ensures keeps_earlier_bytes { writer.new.before ≡ writer.old.before }
 {
     match leading {
         LeadingStrings::Empty => {
-            out.begin_object()?;
-            out.end_object()
+            writer.begin_object()?;
+            writer.end_object()
         }
-        LeadingStrings::One(key, text) => write_single_key(alloc, key, text, out),
-        LeadingStrings::Two(key, text, second_key, second_text) => write_pair(
+        LeadingStrings::One(key, text) => write_date_or_member(alloc, key, text, writer),
+        LeadingStrings::Two(key, text, second_key, second_text) => write_object_of_pair(
             key,
             text,
             second_key,
             second_text,
-            out,
+            writer,
         ),
     }
 }
@@ -43,101 +45,107 @@ pub(crate) fn write_scope_or_value(
     alloc: Global,
     is_scope: bool,
     leading: LeadingStrings<'_>,
-    out: &mut Writer,
+    writer: &mut Writer,
 ) -> Result<(), AllocError>
-    ensures ok { OnOk result (out.new.tokens
-        ≡ out.old.tokens ++ json_tokens (scope_or_value is_scope (with_leading_members leading.entry no_members))) }
-    ensures before { out.new.before ≡ out.old.before }
+    ensures ok { OnOk result (writer.new.tokens
+        ≡ writer.old.tokens ++ json_tokens (scope_or_value is_scope (with_leading_members leading.entry no_members))) }
+    ensures keeps_earlier_bytes { writer.new.before ≡ writer.old.before }
 {
     if !is_scope {
-        return write_from_v1(alloc, leading, out);
+        return write_from_v1(alloc, leading, writer);
     }
-    out.begin_object()?;
-    write_leading_strings(leading, out)?;
-    out.end_object()
+    writer.begin_object()?;
+    write_leading_strings(leading, writer)?;
+    writer.end_object()
 }
 
 /// Writes the members with which an object begins.
 pub(crate) fn write_leading_strings(
     leading: LeadingStrings<'_>,
-    out: &mut Writer,
+    writer: &mut Writer,
 ) -> Result<(), AllocError>
-    ensures ok { OnOk result (out.new.tokens ≡ out.old.tokens ++ leading_tokens leading.entry []) }
-    ensures before { out.new.before ≡ out.old.before }
+    ensures ok { OnOk result (writer.new.tokens ≡ writer.old.tokens ++ leading_tokens leading.entry []) }
+    ensures keeps_earlier_bytes { writer.new.before ≡ writer.old.before }
 {
     match leading {
         LeadingStrings::Empty => Ok(()),
-        LeadingStrings::One(key, text) => write_text(key, text, out),
+        LeadingStrings::One(key, text) => write_text(key, text, writer),
         LeadingStrings::Two(key, text, second_key, second_text) => {
-            write_text(key, text, out)?;
-            write_text(second_key, second_text, out)
+            write_text(key, text, writer)?;
+            write_text(second_key, second_text, writer)
         }
     }
 }
 
 // Writes what the object of this member alone denotes: a date, or itself.
-fn write_single_key(
+fn write_date_or_member(
     alloc: Global,
     key: &str,
     text: &str,
-    out: &mut Writer,
+    writer: &mut Writer,
 ) -> Result<(), AllocError>
-    ensures ok { OnOk result (out.new.tokens ≡ out.old.tokens ++ upgraded_value_tokens (object_of_member key.now (string text.now))) }
-    ensures before { out.new.before ≡ out.old.before }
+    ensures ok { OnOk result
+        (writer.new.tokens ≡ writer.old.tokens ++ upgraded_value_tokens (object_of_member key.now (string text.now))) }
+    ensures keeps_earlier_bytes { writer.new.before ≡ writer.old.before }
 {
     if key == "$date" {
-        let moment = with_colon(alloc, text)?;
-        return write_one("$date", &moment, out);
+        let date_text = with_colon(alloc, text)?;
+        return write_object_of_member("$date", &date_text, writer);
     }
-    write_one(key, text, out)
+    write_object_of_member(key, text, writer)
 }
 
-fn write_one(key: &str, text: &str, out: &mut Writer) -> Result<(), AllocError>
-    ensures ok { OnOk result (out.new.tokens ≡ out.old.tokens ++ json_tokens (object_of_member key.now (string text.now))) }
-    ensures before { out.new.before ≡ out.old.before }
+fn write_object_of_member(key: &str, text: &str, writer: &mut Writer) -> Result<(), AllocError>
+    ensures ok { OnOk result
+        (writer.new.tokens ≡ writer.old.tokens ++ json_tokens (object_of_member key.now (string text.now))) }
+    ensures keeps_earlier_bytes { writer.new.before ≡ writer.old.before }
 {
-    out.begin_object()?;
-    write_text(key, text, out)?;
-    out.end_object()
+    writer.begin_object()?;
+    write_text(key, text, writer)?;
+    writer.end_object()
 }
 
 // Writes what the object of these two members denotes.
-fn write_pair(
+fn write_object_of_pair(
     key: &str,
     text: &str,
     second_key: &str,
     second_text: &str,
-    out: &mut Writer,
+    writer: &mut Writer,
 ) -> Result<(), AllocError>
     ensures ok { OnOk result
-        (out.new.tokens ≡ out.old.tokens ++ upgraded_value_tokens (object_of_two_texts key.now text.now second_key.now second_text.now)) }
-    ensures before { out.new.before ≡ out.old.before }
+        (writer.new.tokens
+        ≡ writer.old.tokens
+        ++ upgraded_value_tokens (object_of_two_texts key.now text.now second_key.now second_text.now)) }
+    ensures keeps_earlier_bytes { writer.new.before ≡ writer.old.before }
 {
     if key == "$binary" && second_key == "$type" {
-        return write_binary(text, second_text, out);
+        return write_binary(text, second_text, writer);
     }
     if key == "$type" && second_key == "$binary" {
-        return write_binary(second_text, text, out);
+        return write_binary(second_text, text, writer);
     }
     if key == "$regex" && second_key == "$options" {
-        return write_regex(text, second_text, out);
+        return write_regex(text, second_text, writer);
     }
     if key == "$options" && second_key == "$regex" {
-        return write_regex(second_text, text, out);
+        return write_regex(second_text, text, writer);
     }
-    write_texts(key, text, second_key, second_text, out)
+    write_object_of_texts(key, text, second_key, second_text, writer)
 }
 
-fn write_binary(base64: &str, sub_type: &str, out: &mut Writer) -> Result<(), AllocError>
-    ensures ok { OnOk result (out.new.tokens ≡ out.old.tokens ++ json_tokens (binary_json base64.now sub_type.now)) }
-    ensures before { out.new.before ≡ out.old.before }
+fn write_binary(base64: &str, sub_type: &str, writer: &mut Writer) -> Result<(), AllocError>
+    ensures ok { OnOk result
+        (writer.new.tokens ≡ writer.old.tokens ++ json_tokens (binary_json base64.now sub_type.now)) }
+    ensures keeps_earlier_bytes { writer.new.before ≡ writer.old.before }
 {
-    write_wrapper("$binary", "base64", base64, "subType", sub_type, out)
+    write_wrapper("$binary", "base64", base64, "subType", sub_type, writer)
 }
 
-fn write_regex(pattern: &str, options: &str, out: &mut Writer) -> Result<(), AllocError>
-    ensures ok { OnOk result (out.new.tokens ≡ out.old.tokens ++ json_tokens (regex_json pattern.now options.now)) }
-    ensures before { out.new.before ≡ out.old.before }
+fn write_regex(pattern: &str, options: &str, writer: &mut Writer) -> Result<(), AllocError>
+    ensures ok { OnOk result
+        (writer.new.tokens ≡ writer.old.tokens ++ json_tokens (regex_json pattern.now options.now)) }
+    ensures keeps_earlier_bytes { writer.new.before ≡ writer.old.before }
 {
     write_wrapper(
         "$regularExpression",
@@ -145,7 +153,7 @@ fn write_regex(pattern: &str, options: &str, out: &mut Writer) -> Result<(), All
         pattern,
         "options",
         options,
-        out,
+        writer,
     )
 }
 
@@ -156,40 +164,41 @@ fn write_wrapper(
     text: &str,
     second_key: &str,
     second_text: &str,
-    out: &mut Writer,
+    writer: &mut Writer,
 ) -> Result<(), AllocError>
-    ensures ok { OnOk result (out.new.tokens ≡ out.old.tokens
-        ++ json_tokens (object_of_member wrapper.now (object_of_two_texts key.now text.now second_key.now second_text.now))) }
-    ensures before { out.new.before ≡ out.old.before }
+    ensures ok { OnOk result (writer.new.tokens ≡ writer.old.tokens
+        ++ json_tokens
+        (object_of_member wrapper.now (object_of_two_texts key.now text.now second_key.now second_text.now))) }
+    ensures keeps_earlier_bytes { writer.new.before ≡ writer.old.before }
 {
-    out.begin_object()?;
-    out.key(wrapper)?;
-    write_texts(key, text, second_key, second_text, out)?;
-    out.end_object()
+    writer.begin_object()?;
+    writer.key(wrapper)?;
+    write_object_of_texts(key, text, second_key, second_text, writer)?;
+    writer.end_object()
 }
 
-fn write_texts(
+fn write_object_of_texts(
     key: &str,
     text: &str,
     second_key: &str,
     second_text: &str,
-    out: &mut Writer,
+    writer: &mut Writer,
 ) -> Result<(), AllocError>
-    ensures ok { OnOk result (out.new.tokens ≡ out.old.tokens
+    ensures ok { OnOk result (writer.new.tokens ≡ writer.old.tokens
         ++ json_tokens (object_of_two_texts key.now text.now second_key.now second_text.now)) }
-    ensures before { out.new.before ≡ out.old.before }
+    ensures keeps_earlier_bytes { writer.new.before ≡ writer.old.before }
 {
-    out.begin_object()?;
-    write_text(key, text, out)?;
-    write_text(second_key, second_text, out)?;
-    out.end_object()
+    writer.begin_object()?;
+    write_text(key, text, writer)?;
+    write_text(second_key, second_text, writer)?;
+    writer.end_object()
 }
 
 // Writes a member that is a string.
-fn write_text(key: &str, text: &str, out: &mut Writer) -> Result<(), AllocError>
-    ensures ok { OnOk result (out.new.tokens ≡ out.old.tokens ++ token.key key.now ∷ token.string text.now ∷ []) }
-    ensures before { out.new.before ≡ out.old.before }
+fn write_text(key: &str, text: &str, writer: &mut Writer) -> Result<(), AllocError>
+    ensures ok { OnOk result (writer.new.tokens ≡ writer.old.tokens ++ token.key key.now ∷ token.string text.now ∷ []) }
+    ensures keeps_earlier_bytes { writer.new.before ≡ writer.old.before }
 {
-    out.key(key)?;
-    out.string(text)
+    writer.key(key)?;
+    writer.string(text)
 }

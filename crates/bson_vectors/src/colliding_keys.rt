@@ -10,7 +10,7 @@ use std::test::Fail;
 /// Keys of one hash under the hasher that std's maps have, which starts from a fixed, public state.
 /// The first 16 bytes lead it to a state that the next 8 undo, so that what comes after them is
 /// multiplied by zero; the last 16 go in by themselves, and are alike.
-const COLLIDING: [&str; 4] = [
+const COLLIDING_KEYS: [&str; 4] = [
     "k000000000002398]rCpp7mg00000000TTTTTTTTTTTTTTTT",
     "k000000000002398]rCpp7mg00000001TTTTTTTTTTTTTTTT",
     "k000000000002398]rCpp7mg00001000TTTTTTTTTTTTTTTT",
@@ -18,7 +18,7 @@ const COLLIDING: [&str; 4] = [
 ];
 
 /// Keys like these, whose hashes differ.
-const ORDINARY: [&str; 4] = [
+const ORDINARY_KEYS: [&str; 4] = [
     "k000000000002398]rCpp7mh00000000TTTTTTTTTTTTTTTT",
     "k000000000002398]rCpp7mh00000001TTTTTTTTTTTTTTTT",
     "k000000000002398]rCpp7mh00001000TTTTTTTTTTTTTTTT",
@@ -26,27 +26,33 @@ const ORDINARY: [&str; 4] = [
 ];
 
 fn hash_in_a_map(key: &str) -> u64 {
-    let mut state = FoldHasher::default();
-    key.hash(&mut state);
-    state.finish()
+    let mut hasher = FoldHasher::default();
+    key.hash(&mut hasher);
+    hasher.finish()
 }
 
 #[test]
 fn chosen_keys_have_one_hash(rt: HostRuntime) -> Result<(), Fail> {
-    for at in 1..4 {
-        assert_eq!(rt; hash_in_a_map(COLLIDING[at]), hash_in_a_map(COLLIDING[0]));
-        assert_ne!(rt; hash_in_a_map(ORDINARY[at]), hash_in_a_map(ORDINARY[0]));
+    for key_index in 1..4 {
+        assert_eq!(rt;
+            hash_in_a_map(COLLIDING_KEYS[key_index]),
+            hash_in_a_map(COLLIDING_KEYS[0])
+        );
+        assert_ne!(rt;
+            hash_in_a_map(ORDINARY_KEYS[key_index]),
+            hash_in_a_map(ORDINARY_KEYS[0])
+        );
     }
     Ok(())
 }
 
-const TWELVE: [&str; 12] = ["l", "k", "j", "i", "h", "g", "f", "e", "d", "c", "b", "a"];
+const TWELVE_KEYS: [&str; 12] = ["l", "k", "j", "i", "h", "g", "f", "e", "d", "c", "b", "a"];
 
 #[test]
 fn an_index_gives_the_keys_in_ascending_order(rt: HostRuntime) -> Result<(), Fail> {
     let alloc = rt.alloc();
     let mut store: SmallPairs<Bson> = SmallPairs::new(alloc);
-    for key in TWELVE {
+    for key in TWELVE_KEYS {
         let key = String::from_str(alloc, key)?;
         if store.find(key.as_str()).is_none() {
             drop(store.push(key, Bson::Null));
@@ -59,11 +65,15 @@ fn an_index_gives_the_keys_in_ascending_order(rt: HostRuntime) -> Result<(), Fai
             .next()
             .is_some_and(|pair| pair.0.as_str() == "l")
     );
-    let mut left = store.by_key();
-    for back in 0..12 {
-        let key = TWELVE[11 - back];
-        assert!(rt; left.next().is_some_and(|pair| pair.0.as_str() == key));
+    let mut remaining_pairs = store.by_key();
+    for reverse_index in 0..12 {
+        let key = TWELVE_KEYS[11 - reverse_index];
+        assert!(rt;
+            remaining_pairs
+                .next()
+                .is_some_and(|pair| pair.0.as_str() == key)
+        );
     }
-    assert!(rt; left.next().is_none());
+    assert!(rt; remaining_pairs.next().is_none());
     Ok(())
 }

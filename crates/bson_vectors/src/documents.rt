@@ -9,69 +9,74 @@ use std::process::Abort;
 use std::test::Fail;
 use std::vec::IntoIter;
 
-fn is_pair(found: Option<(&String, &Bson)>, key: &str, value: i32) -> bool {
-    match found {
-        Some((found, number)) => found.as_str() == key && number.as_i32() == Some(value),
+fn is_pair(pair: Option<(&String, &Bson)>, key: &str, value: i32) -> bool {
+    match pair {
+        Some((found_key, number)) => found_key.as_str() == key && number.as_i32() == Some(value),
         None => false,
     }
 }
 
-fn has(document: &Document, key: &str, value: i32) -> bool {
+fn has_pair(document: &Document, key: &str, value: i32) -> bool {
     document.get_i32(key) == Ok(value)
 }
 
 /// Returns whether the document has exactly these pairs in this order, and finds each key.
 fn has_exactly(document: &Document, pairs: &[(&str, i32)]) -> bool {
-    let mut left = document.iter();
+    let mut remaining_pairs = document.iter();
     for &(key, value) in pairs {
-        if !is_pair(left.next(), key, value) || !has(document, key, value) {
+        if !is_pair(remaining_pairs.next(), key, value) || !has_pair(document, key, value) {
             return false;
         }
     }
-    left.next().is_none() && document.len() == pairs.len()
+    remaining_pairs.next().is_none() && document.len() == pairs.len()
 }
 
 /// Whether the document has exactly `a` with the value, and then the other pairs in their order,
 /// and finds each key.
-fn has_a_then(document: &Document, value: i32, others: &[(String, i32)]) -> bool {
-    let mut left = document.iter();
-    if !is_pair(left.next(), "a", value) || !has(document, "a", value) {
+fn has_a_then(document: &Document, value: i32, other_pairs: &[(String, i32)]) -> bool {
+    let mut remaining_pairs = document.iter();
+    if !is_pair(remaining_pairs.next(), "a", value) || !has_pair(document, "a", value) {
         return false;
     }
-    for (key, number) in others {
-        if !is_pair(left.next(), key.as_str(), *number) || !has(document, key.as_str(), *number) {
+    for (key, number) in other_pairs {
+        if !is_pair(remaining_pairs.next(), key.as_str(), *number)
+            || !has_pair(document, key.as_str(), *number)
+        {
             return false;
         }
     }
-    left.next().is_none() && document.len() == others.len() + 1
+    remaining_pairs.next().is_none() && document.len() == other_pairs.len() + 1
 }
 
 /// Returns k1 to k40 with their numbers.
 fn numbered_pairs(alloc: Global) -> Result<Vec<(String, i32)>, AllocError> {
-    let mut all = Vec::new(alloc);
+    let mut numbered = Vec::new(alloc);
     for number in 1..41 {
-        all.push((format!(in alloc; "k{number}")?, number))?;
+        numbered.push((format!(in alloc; "k{number}")?, number))?;
     }
-    Ok(all)
+    Ok(numbered)
 }
 
 /// Returns a with 9, then the others.
-fn items(alloc: Global, others: &[(String, i32)]) -> Result<Vec<(String, Bson)>, AllocError> {
-    let mut all = Vec::new(alloc);
-    all.push((String::from_str(alloc, "a")?, Bson::Int32(9)))?;
-    for (key, number) in others {
-        all.push((key.clone()?, Bson::Int32(*number)))?;
+fn owned_items(
+    alloc: Global,
+    other_pairs: &[(String, i32)],
+) -> Result<Vec<(String, Bson)>, AllocError> {
+    let mut owned_pairs = Vec::new(alloc);
+    owned_pairs.push((String::from_str(alloc, "a")?, Bson::Int32(9)))?;
+    for (key, number) in other_pairs {
+        owned_pairs.push((key.clone()?, Bson::Int32(*number)))?;
     }
-    Ok(all)
+    Ok(owned_pairs)
 }
 
 /// Returns the index of the key in the pairs.
-fn place_of(pairs: &[(String, i32)], key: &str) -> Option<usize>
-    ensures { IfSome result (λ at. at < length pairs.now) }
+fn index_of_key(pairs: &[(String, i32)], key: &str) -> Option<usize>
+    ensures { IfSome result (λ found_index. found_index < length pairs.now) }
 {
-    for at in 0..pairs.len() {
-        if pairs[at].0.as_str() == key {
-            return Some(at);
+    for found_index in 0..pairs.len() {
+        if pairs[found_index].0.as_str() == key {
+            return Some(found_index);
         }
     }
     None
@@ -86,9 +91,9 @@ fn returns_pair(returned: &Result<Option<Bson>, Refused>, key: &str, value: i32)
 }
 
 /// Returns whether inserting an existing key replaces its value, and returns the old one.
-fn replaces(document: &mut Document, key: String, value: i32, old: i32) -> bool {
+fn replaces_value(document: &mut Document, key: String, value: i32, old_value: i32) -> bool {
     match document.insert(key, Bson::Int32(value)) {
-        Ok(Some(number)) => number.as_i32() == Some(old),
+        Ok(Some(number)) => number.as_i32() == Some(old_value),
         _ => false,
     }
 }
@@ -98,30 +103,30 @@ fn replaces(document: &mut Document, key: String, value: i32, old: i32) -> bool 
 #[test]
 fn refused_insert(rt: HostRuntime) -> Result<(), Fail> {
     let alloc = rt.alloc();
-    let others = numbered_pairs(alloc)?;
-    let again = String::from_str(alloc, "a")?;
+    let other_pairs = numbered_pairs(alloc)?;
+    let existing_key = String::from_str(alloc, "a")?;
     let mut document = document_of(alloc, &[("a", 1)])?;
-    let mut done = 0;
-    for i in 0..others.len() {
-        let (key, value) = &others[i];
-        let owned = key.clone()?;
-        let result = document.insert(owned, Bson::Int32(*value));
+    let mut inserted_count = 0;
+    for pair_index in 0..other_pairs.len() {
+        let (key, value) = &other_pairs[pair_index];
+        let owned_key = key.clone()?;
+        let result = document.insert(owned_key, Bson::Int32(*value));
         if result.is_err() {
             assert!(rt; returns_pair(&result, key.as_str(), *value));
             break;
         }
-        done = i + 1;
+        inserted_count = pair_index + 1;
     }
-    assert!(rt; done <= others.len());
-    assert!(rt; has_a_then(&document, 1, &others[..done]));
-    assert!(rt; replaces(&mut document, again, 3, 1));
-    assert!(rt; has_a_then(&document, 3, &others[..done]));
-    finish(done == others.len())
+    assert!(rt; inserted_count <= other_pairs.len());
+    assert!(rt; has_a_then(&document, 1, &other_pairs[..inserted_count]));
+    assert!(rt; replaces_value(&mut document, existing_key, 3, 1));
+    assert!(rt; has_a_then(&document, 3, &other_pairs[..inserted_count]));
+    end_test(inserted_count == other_pairs.len())
 }
 
 /// Ends a test: `Ok` if the call under test succeeded, and out of memory if an allocation failed.
-fn finish(did_all: bool) -> Result<(), Fail> {
-    if did_all {
+fn end_test(all_passed: bool) -> Result<(), Fail> {
+    if all_passed {
         Ok(())
     } else {
         Err(Fail::from(AllocError))
@@ -129,32 +134,38 @@ fn finish(did_all: bool) -> Result<(), Fail> {
 }
 
 /// Returns whether the items that remain are exactly these.
-fn remaining_are(rest: &mut IntoIter<(String, Bson)>, others: &[(String, i32)]) -> bool {
-    for (key, number) in others {
-        if !is_owned_pair(rest.next(), key.as_str(), *number) {
+fn remaining_are(
+    remaining_items: &mut IntoIter<(String, Bson)>,
+    other_pairs: &[(String, i32)],
+) -> bool {
+    for (key, number) in other_pairs {
+        if !is_owned_pair(remaining_items.next(), key.as_str(), *number) {
             return false;
         }
     }
-    rest.next().is_none()
+    remaining_items.next().is_none()
 }
 
 /// Returns whether the refused pair is `a` 9 or one of the others, and those after it remain.
 fn returns_refused(
     refused: &Refused,
-    rest: &mut IntoIter<(String, Bson)>,
-    others: &[(String, i32)],
+    remaining_items: &mut IntoIter<(String, Bson)>,
+    other_pairs: &[(String, i32)],
 ) -> bool {
     let value = refused.value.as_i32();
-    match place_of(others, refused.key.as_str()) {
-        Some(at) => value == Some(others[at].1) && remaining_are(rest, &others[at + 1..]),
-        None => refused.key.as_str() == "a" && value == Some(9) && remaining_are(rest, others),
+    match index_of_key(other_pairs, refused.key.as_str()) {
+        Some(found_index) => value == Some(other_pairs[found_index].1)
+            && remaining_are(remaining_items, &other_pairs[found_index + 1..]),
+        None => refused.key.as_str() == "a"
+            && value == Some(9)
+            && remaining_are(remaining_items, other_pairs),
     }
 }
 
 /// Whether the document has `a` 9 and exactly the others before the refused pair.
-fn has_pairs_before(document: &Document, refused: &Refused, others: &[(String, i32)]) -> bool {
-    match place_of(others, refused.key.as_str()) {
-        Some(done) => has_a_then(document, 9, &others[..done]),
+fn has_pairs_before(document: &Document, refused: &Refused, other_pairs: &[(String, i32)]) -> bool {
+    match index_of_key(other_pairs, refused.key.as_str()) {
+        Some(inserted_count) => has_a_then(document, 9, &other_pairs[..inserted_count]),
         None => false,
     }
 }
@@ -163,18 +174,20 @@ fn has_pairs_before(document: &Document, refused: &Refused, others: &[(String, i
 #[test]
 fn refused_extend(rt: HostRuntime) -> Result<(), Fail> {
     let alloc = rt.alloc();
-    let others = numbered_pairs(alloc)?;
-    let mut rest = items(alloc, &others)?.into_iter();
+    let other_pairs = numbered_pairs(alloc)?;
+    let mut remaining_items = owned_items(alloc, &other_pairs)?.into_iter();
     let mut document = document_of(alloc, &[("a", 1)])?;
-    match document.extend(&mut rest) {
+    match document.extend(&mut remaining_items) {
         Ok(()) => {
-            assert!(rt; remaining_are(&mut rest, &[]) && has_a_then(&document, 9, &others));
-            finish(true)
+            assert!(rt;
+                remaining_are(&mut remaining_items, &[]) && has_a_then(&document, 9, &other_pairs)
+            );
+            end_test(true)
         }
         Err(refused) => {
-            assert!(rt; returns_refused(&refused, &mut rest, &others));
-            assert!(rt; has_pairs_before(&document, &refused, &others));
-            finish(false)
+            assert!(rt; returns_refused(&refused, &mut remaining_items, &other_pairs));
+            assert!(rt; has_pairs_before(&document, &refused, &other_pairs));
+            end_test(false)
         }
     }
 }
@@ -183,16 +196,18 @@ fn refused_extend(rt: HostRuntime) -> Result<(), Fail> {
 #[test]
 fn refused_from_pairs(rt: HostRuntime) -> Result<(), Fail> {
     let alloc = rt.alloc();
-    let others = numbered_pairs(alloc)?;
-    let mut rest = items(alloc, &others)?.into_iter();
-    match Document::from_pairs(alloc, &mut rest) {
+    let other_pairs = numbered_pairs(alloc)?;
+    let mut remaining_items = owned_items(alloc, &other_pairs)?.into_iter();
+    match Document::from_pairs(alloc, &mut remaining_items) {
         Ok(document) => {
-            assert!(rt; remaining_are(&mut rest, &[]) && has_a_then(&document, 9, &others));
-            finish(true)
+            assert!(rt;
+                remaining_are(&mut remaining_items, &[]) && has_a_then(&document, 9, &other_pairs)
+            );
+            end_test(true)
         }
         Err(refused) => {
-            assert!(rt; returns_refused(&refused, &mut rest, &others));
-            finish(false)
+            assert!(rt; returns_refused(&refused, &mut remaining_items, &other_pairs));
+            end_test(false)
         }
     }
 }
@@ -201,39 +216,39 @@ fn refused_from_pairs(rt: HostRuntime) -> Result<(), Fail> {
 #[test]
 fn refused_entry(rt: HostRuntime) -> Result<(), Fail> {
     let alloc = rt.alloc();
-    let first = String::from_str(alloc, "a")?;
-    let second = String::from_str(alloc, "b")?;
+    let first_key = String::from_str(alloc, "a")?;
+    let second_key = String::from_str(alloc, "b")?;
     let mut document = Document::new(alloc);
-    let made = document
-        .entry(first)
+    let was_inserted = document
+        .entry(first_key)
         .or_insert_with(|| Bson::Int32(1))
         .is_ok();
-    if !made {
+    if !was_inserted {
         assert!(rt; has_exactly(&document, &[]));
-        return finish(false);
+        return end_test(false);
     }
-    let made = document.entry(second).or_insert(Bson::Int32(2)).is_ok();
-    if !made {
+    let was_inserted = document.entry(second_key).or_insert(Bson::Int32(2)).is_ok();
+    if !was_inserted {
         assert!(rt; has_exactly(&document, &[("a", 1)]));
-        return finish(false);
+        return end_test(false);
     }
     assert!(rt; has_exactly(&document, &[("a", 1), ("b", 2)]));
     Ok(())
 }
 
-/// An occupied entry takes no memory, calls nothing and lends the value that is there.
+/// An occupied entry allocates no memory, calls nothing and lends the value that is there.
 #[test]
 fn refused_no_allocation_at_an_occupied_entry(rt: HostRuntime) -> Result<(), Fail> {
     let alloc = rt.alloc();
     let key = String::from_str(alloc, "a")?;
     let mut document = document_of(alloc, &[("a", 1)])?;
-    let mut called = false;
+    let mut closure_called = false;
     let result = document.entry(key).or_insert_with(|| {
-        called = true;
+        closure_called = true;
         Bson::Null
     });
     assert!(rt; matches!(result, Ok(value) if value.as_i32() == Some(1)));
-    assert!(rt; !called);
+    assert!(rt; !closure_called);
     assert!(rt; has_exactly(&document, &[("a", 1)]));
     Ok(())
 }
@@ -269,7 +284,7 @@ fn what_a_vacant_entry_lends_is_written(rt: HostRuntime) -> Result<(), Fail> {
     Ok(())
 }
 
-/// Look-ups, walks, writes and removals take no memory.
+/// Look-ups, walks, writes and removals allocate no memory.
 #[test]
 fn refused_no_allocation_in_a_document(rt: HostRuntime) -> Result<(), Fail> {
     let mut document = document_of(rt.alloc(), &[("a", 1), ("b", 2), ("c", 3)])?;
@@ -310,7 +325,7 @@ fn walks_go_in_order_to_the_end(rt: HostRuntime) -> Result<(), Fail> {
 
 fn is_owned_pair(pair: Option<(String, Bson)>, key: &str, value: i32) -> bool {
     match pair {
-        Some((found, number)) => found.as_str() == key && number.as_i32() == Some(value),
+        Some((found_key, number)) => found_key.as_str() == key && number.as_i32() == Some(value),
         None => false,
     }
 }
@@ -320,17 +335,23 @@ fn is_owned_pair(pair: Option<(String, Bson)>, key: &str, value: i32) -> bool {
 fn what_a_getter_lends_is_written(rt: HostRuntime) -> Result<(), Fail> {
     let alloc = rt.alloc();
     let mut document = document_of(alloc, &[("a", 1)])?;
-    let inner = Bson::Document(Document::new(alloc));
-    let _ = document.insert(String::from_str(alloc, "b")?, inner);
-    if let Ok(inner) = document.get_document_mut("b") {
-        insert_pair(inner, String::from_str(alloc, "c")?, Bson::Int32(3))?;
+    let inner_document = Bson::Document(Document::new(alloc));
+    let _ = document.insert(String::from_str(alloc, "b")?, inner_document);
+    if let Ok(inner_document) = document.get_document_mut("b") {
+        insert_pair(
+            inner_document,
+            String::from_str(alloc, "c")?,
+            Bson::Int32(3),
+        )?;
     }
     if let Ok(number) = document.get_i32_mut("a") {
         *number = 2;
     }
-    assert!(rt; has(&document, "a", 2));
+    assert!(rt; has_pair(&document, "a", 2));
     assert!(rt; document.len() == 2);
-    assert!(rt; matches!(document.get_document("b"), Ok(inner) if has_exactly(inner, &[("c", 3)])));
+    assert!(rt;
+        matches!(document.get_document("b"), Ok(inner_document) if has_exactly(inner_document, &[("c", 3)]))
+    );
     Ok(())
 }
 

@@ -30,16 +30,18 @@ const PAIRS: [(&str, u32); 20] = [
 
 /// Returns whether the store has exactly these pairs in this order, and finds each key at its index.
 fn has_exactly<S: PairStore<u32>>(store: &S, pairs: &[(&str, u32)]) -> bool {
-    let mut same = store.len() == pairs.len();
-    for i in 0..store.len().min(pairs.len()) {
-        let (key, value) = pairs[i];
-        same = same && store.key_at(i).as_str() == key && *store.value_at(i) == value;
-        same = same && store.find(key) == Some(i);
+    let mut all_equal = store.len() == pairs.len();
+    for pair_index in 0..store.len().min(pairs.len()) {
+        let (key, value) = pairs[pair_index];
+        all_equal = all_equal
+            && store.key_at(pair_index).as_str() == key
+            && *store.value_at(pair_index) == value;
+        all_equal = all_equal && store.find(key) == Some(pair_index);
     }
-    same
+    all_equal
 }
 
-fn fill<S: PairStore<u32>>(
+fn fill_store<S: PairStore<u32>>(
     alloc: Global,
     store: &mut S,
     pairs: &[(&str, u32)],
@@ -59,18 +61,18 @@ fn check_pushes<S: PairStore<u32>>(
     store: &mut S,
 ) -> Result<(), Fail> {
     let mut was_refused = false;
-    for i in 0..PAIRS.len() {
-        let (key, value) = PAIRS[i];
-        let owned = String::from_str(alloc, key)?;
-        assert!(rt; store.find(owned.as_str()).is_none());
-        if let Err((back, same)) = store.push(owned, value) {
+    for pair_index in 0..PAIRS.len() {
+        let (key, value) = PAIRS[pair_index];
+        let owned_key = String::from_str(alloc, key)?;
+        assert!(rt; store.find(owned_key.as_str()).is_none());
+        if let Err((returned_key, returned_value)) = store.push(owned_key, value) {
             was_refused = true;
-            assert!(rt; back.as_str() == key && same == value);
-            assert!(rt; has_exactly(store, &PAIRS[..i]));
-            assert!(rt; store.find(back.as_str()).is_none());
-            assert!(rt; store.push(back, same).is_ok());
+            assert!(rt; returned_key.as_str() == key && returned_value == value);
+            assert!(rt; has_exactly(store, &PAIRS[..pair_index]));
+            assert!(rt; store.find(returned_key.as_str()).is_none());
+            assert!(rt; store.push(returned_key, returned_value).is_ok());
         }
-        assert!(rt; has_exactly(store, &PAIRS[..i + 1]));
+        assert!(rt; has_exactly(store, &PAIRS[..pair_index + 1]));
     }
     if was_refused {
         Err(Fail::from(AllocError))
@@ -94,29 +96,33 @@ fn refused_push_to_a_small_store(rt: HostRuntime) -> Result<(), Fail> {
 }
 
 /// The first nineteen pairs.
-fn entries(alloc: Global) -> Result<Vec<Pair<u32>>, AllocError> {
-    let mut all = Vec::new(alloc);
+fn nineteen_pairs(alloc: Global) -> Result<Vec<Pair<u32>>, AllocError> {
+    let mut first_pairs = Vec::new(alloc);
     for &(key, value) in &PAIRS[..19] {
         let key = String::from_str(alloc, key)?;
-        all.push(Pair { key, value })?;
+        first_pairs.push(Pair { key, value })?;
     }
-    Ok(all)
+    Ok(first_pairs)
 }
 
-/// Entries whose keys don't ascend are found by their sorted indexes. A failed put returns the pair
+/// Entries whose keys don't ascend are found by their sorted indexes. A failed insertion returns the pair
 /// and leaves them unchanged; two keys are then removed, which allocates no memory.
 #[test]
 fn refused_from_entries(rt: HostRuntime) -> Result<(), Fail> {
     let alloc = rt.alloc();
-    let mut store = SmallPairs::from_entries(alloc, entries(alloc)?)?;
+    let mut store = SmallPairs::from_entries(alloc, nineteen_pairs(alloc)?)?;
     assert!(rt; has_exactly(&store, &PAIRS[..19]));
     let (key, value) = PAIRS[19];
-    if let Err((back, same)) = put(&mut store, String::from_str(alloc, key)?, value) {
-        assert!(rt; back.as_str() == key && same == value);
+    if let Err((returned_key, returned_value)) = put(
+        &mut store,
+        String::from_str(alloc, key)?,
+        value,
+    ) {
+        assert!(rt; returned_key.as_str() == key && returned_value == value);
         assert!(rt; has_exactly(&store, &PAIRS[..19]));
-        for i in 0..2 {
-            assert!(rt; take(&mut store, PAIRS[i].0) == Some(PAIRS[i].1));
-            assert!(rt; has_exactly(&store, &PAIRS[i + 1..19]));
+        for pair_index in 0..2 {
+            assert!(rt; take(&mut store, PAIRS[pair_index].0) == Some(PAIRS[pair_index].1));
+            assert!(rt; has_exactly(&store, &PAIRS[pair_index + 1..19]));
         }
         return Err(Fail::from(AllocError));
     }
@@ -130,11 +136,11 @@ fn check_removals<S: PairStore<u32>>(
     alloc: Global,
     store: &mut S,
 ) -> Result<(), Fail> {
-    fill(alloc, store, &PAIRS)?;
-    for i in 0..9 {
-        let (key, value) = PAIRS[i];
+    fill_store(alloc, store, &PAIRS)?;
+    for pair_index in 0..9 {
+        let (key, value) = PAIRS[pair_index];
         assert!(rt; take(store, key) == Some(value));
-        assert!(rt; has_exactly(store, &PAIRS[i + 1..]));
+        assert!(rt; has_exactly(store, &PAIRS[pair_index + 1..]));
     }
     store.clear();
     assert!(rt; has_exactly(store, &[]));
@@ -150,15 +156,15 @@ fn refused_no_allocation_in_removals(rt: HostRuntime) -> Result<(), Fail> {
 
 /// Put k1 1 to k17 17, Put k9 10, Take k1 twice, Clear.
 fn commands(alloc: Global) -> Result<Vec<Command<u32>>, AllocError> {
-    let mut all = Vec::new(alloc);
+    let mut command_list = Vec::new(alloc);
     for &(key, value) in &PAIRS[..17] {
-        all.push(Command::Put(String::from_str(alloc, key)?, value))?;
+        command_list.push(Command::Put(String::from_str(alloc, key)?, value))?;
     }
-    all.push(Command::Put(String::from_str(alloc, "k9")?, 10))?;
-    all.push(Command::Take(String::from_str(alloc, "k1")?))?;
-    all.push(Command::Take(String::from_str(alloc, "k1")?))?;
-    all.push(Command::Clear)?;
-    Ok(all)
+    command_list.push(Command::Put(String::from_str(alloc, "k9")?, 10))?;
+    command_list.push(Command::Take(String::from_str(alloc, "k1")?))?;
+    command_list.push(Command::Take(String::from_str(alloc, "k1")?))?;
+    command_list.push(Command::Clear)?;
+    Ok(command_list)
 }
 
 const REPLIES: [Option<u32>; 21] = [
@@ -216,17 +222,17 @@ fn refused_replay(rt: HostRuntime) -> Result<(), Fail> {
 #[test]
 fn pairs_by_value_keep_their_order(rt: HostRuntime) -> Result<(), Fail> {
     let alloc = rt.alloc();
-    let mut indexed = IndexedPairs::new(alloc);
-    let mut small = SmallPairs::new(alloc);
-    fill(indexed.allocator(), &mut indexed, &PAIRS)?;
-    fill(small.allocator(), &mut small, &PAIRS)?;
-    let mut others = small.into_pairs();
-    let mut expected = PAIRS.iter();
-    for (key, value) in indexed.into_pairs() {
-        assert!(rt; expected.next() == Some(&(key.as_str(), value)));
-        assert!(rt; others.next() == Some((key, value)));
+    let mut indexed_store = IndexedPairs::new(alloc);
+    let mut small_store = SmallPairs::new(alloc);
+    fill_store(indexed_store.allocator(), &mut indexed_store, &PAIRS)?;
+    fill_store(small_store.allocator(), &mut small_store, &PAIRS)?;
+    let mut small_pairs = small_store.into_pairs();
+    let mut expected_pairs = PAIRS.iter();
+    for (key, value) in indexed_store.into_pairs() {
+        assert!(rt; expected_pairs.next() == Some(&(key.as_str(), value)));
+        assert!(rt; small_pairs.next() == Some((key, value)));
     }
-    assert!(rt; expected.next().is_none());
-    assert!(rt; others.next().is_none());
+    assert!(rt; expected_pairs.next().is_none());
+    assert!(rt; small_pairs.next().is_none());
     Ok(())
 }

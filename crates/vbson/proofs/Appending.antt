@@ -4,11 +4,11 @@ use Rattle.std.specs.Str.{is_utf8}
 use Rattle.std.proofs.Common.{IsUtf8, Bool, false, true, cond, eqb, Option, None, Some, [], ◌∷◌, refl}
 use Rattle.std.specs.Prelude.{is_none, min, option_map}
 use Rattle.std.proofs.lemmas.Bool.{eqb-false, false_from_ne_true, ne_eqb}
-use Rattle.bson_bytes.specs.Grammar.{NoZero}
+use Rattle.bson_bytes.specs.Grammar.{HasNoNulByte}
 use Rattle.bson_bytes.specs.PutSteps.{has_no_nul}
 use Rattle.bson_bytes.specs.Reading.{prepend_byte, split_at_nul}
 use Rattle.std.proofs.lemmas.Str.{IsUtf8-from_is_utf8}
-use Rattle.vbson.specs.Builder.{IsAppended, IsTooSmall, written_bytes}
+use Rattle.vbson.specs.Builder.{IsAppended, IsBuilderTooSmall, written_bytes}
 use Rattle.vbson.specs.declared.builder.Builder.{Builder}
 
 -- what follows the first i bytes is the same, so what follows more is
@@ -22,7 +22,7 @@ both p q a b c s t =
       fits = omega (arith, t.fits, s.len, s.size, length-append p q);
       written_bytes = t.written_bytes ∙ ap (λ (x : List ℕ). x ++ q) s.written_bytes ∙ append_assoc (written_bytes a) p q;
       len = omega (arith, t.len, s.len, length-append p q);
-      rest = t.rest ∙ drop_more b.len (length q) c.len b.bytes.now a.bytes.now t.len s.rest;
+      rest_unchanged = t.rest_unchanged ∙ drop_more b.len (length q) c.len b.bytes.now a.bytes.now t.len s.rest_unchanged;
       size = t.size ∙ s.size;
     }
 
@@ -39,21 +39,21 @@ unsplit b k false e = (refl, kept (split_at_nul k) e)
     kept None h = refl
     kept (Some p) h = absurd cc
 
-no_zero : (k : List ℕ) → has_no_nul k ≡ true → NoZero k
+no_zero : (k : List ℕ) → has_no_nul k ≡ true → HasNoNulByte k
 no_zero [] e = tt
 no_zero (b ∷ k) e = let parts = unsplit b k (eqb b 0) e in (eqb-false b 0 parts.0, no_zero k parts.1)
 
-unsplit_again : (k : List ℕ) → NoZero k → split_at_nul k ≡ None
+unsplit_again : (k : List ℕ) → HasNoNulByte k → split_at_nul k ≡ None
 unsplit_again [] h = refl
 unsplit_again (b ∷ k) h = rw (ne_eqb b 0 h.0, unsplit_again k h.1) refl
 
-pub free_from : (k : List ℕ) → true ≡ has_no_nul k → NoZero k
+pub free_from : (k : List ℕ) → true ≡ has_no_nul k → HasNoNulByte k
 free_from k e = no_zero k (sym e)
 
-pub zero_from : (k : List ℕ) → false ≡ has_no_nul k → NoZero k → ⊥
+pub zero_from : (k : List ℕ) → false ≡ has_no_nul k → HasNoNulByte k → ⊥
 zero_from k e free = let is : false ≡ true = e ∙ ap is_none (unsplit_again k free) in absurd cc
 
-pub too_small : (n size : ℕ) (a b : Builder) → size ≡ min n (2 ^ 64 - 1) → IsTooSmall size a b → IsTooSmall n a b
+pub too_small : (n size : ℕ) (a b : Builder) → size ≡ min n (2 ^ 64 - 1) → IsBuilderTooSmall size a b → IsBuilderTooSmall n a b
 too_small n size a b is t =
     record {
       too_short = omega (arith, is, t.too_short);

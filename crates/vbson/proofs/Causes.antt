@@ -5,7 +5,7 @@ use Rattle.bson.specs.TextMeaning.{IsTextOf}
 use Rattle.bson_tree.specs.Faults.{Fault as TreeFault}
 use Rattle.bson.specs.declared.extjson.options.Options.{Options}
 use Rattle.bson_tree.proofs.Offered.{first_fault}
-use Rattle.bson_tree.specs.Place.{IsFirstFaultIn, IsReason}
+use Rattle.bson_tree.specs.Place.{IsFirstFaultIn, IsReasonOfFault}
 use Rattle.bson_tree.specs.declared.place.Reason.{Reason}
 use Rattle.bson_tree.specs.declared.place.Reason.TheVariants.{BadObjectId, WrongShape}
 use Rattle.bson_tree.specs.declared.place.Place.{Place}
@@ -13,19 +13,19 @@ use Rattle.bson_convert.specs.Convert.{IsRejectedIn}
 use Rattle.bson_convert.specs.declared.error.Error.{Error}
 use Rattle.bson_convert.specs.declared.error.Error.TheVariants.{CannotRead, NotJson, NotExtendedJson, NoBytes, OutOfMemory}
 use Rattle.bson_convert.specs.declared.error.Error.TheVariants.{CannotWrite, NotCanonical}
-use Rattle.bson_run.specs.Encode.{HasNoBytesBy, IsEncodeErrorBy}
+use Rattle.bson_run.specs.Encode.{TextHasNoBsonBytes, IsEncodeErrorBy}
 use Rattle.bson_convert.specs.declared.encode_error.NoBytes as without
 use Rattle.bson_convert.specs.declared.encode_error.NoBytes.TheVariants.{NoDocument, ZeroInKey, ZeroInRegex, TooLong}
 use Rattle.vbson.specs.Convert.{IsInvalidExtendedJson, IsInvalidShape, IsBadObjectId, IsCauseOfStatus, IsTextError, status_of_reason, status_of}
-use Rattle.vbson.specs.Convert.{status_of_no_bytes}
+use Rattle.vbson.specs.Convert.{status_of_encode_error}
 use Rattle.vbson.specs.Documents.{IsEncodeFailure}
 use Rattle.bson.specs.declared.extjson.key_order.KeyOrder.{KeyOrder}
 
-is_bad_id : (f : TreeFault) (r : Reason) → IsReason f r → status_of_reason r ≡ 3 → IsBadObjectId f
+is_bad_id : (f : TreeFault) (r : Reason) → IsReasonOfFault f r → status_of_reason r ≡ 3 → IsBadObjectId f
 is_bad_id f (BadObjectId e) h is = (h.0, h.1)
 is_bad_id f (WrongShape message) h is = absurd (omega arith)
 
-is_bad : (f : TreeFault) (r : Reason) → IsReason f r → status_of_reason r ≡ 4 → IsInvalidShape f
+is_bad : (f : TreeFault) (r : Reason) → IsReasonOfFault f r → status_of_reason r ≡ 4 → IsInvalidShape f
 is_bad f (BadObjectId e) h is = absurd (omega arith)
 is_bad f (WrongShape message) h is = h
 
@@ -104,7 +104,7 @@ refused o OutOfMemory text h = no_meaning o 5 text (causes o OutOfMemory text h)
 refused o CannotWrite text h = absurd h
 
 without_bytes : (o : Options) (why : without.NoBytes) (text : List ℕ)
-    → HasNoBytesBy o.key_order o why text → IsEncodeFailure o (status_of_no_bytes why) text
+    → TextHasNoBsonBytes o.key_order o why text → IsEncodeFailure o (status_of_encode_error why) text
 without_bytes o NoDocument text h = record {
   cause = no_cause o 10 text (omega arith);
   no_document = λ is. h;

@@ -10,7 +10,7 @@ use Rattle.bson.specs.Form.TheVariants as form
 use Rattle.bson.specs.OrderedTexts.{HasMeaningInOrder}
 use Rattle.bson.specs.TextMeaning.{HasTextMeaningIn}
 use Rattle.bson.specs.TextMeaning as meaning
-use Rattle.bson.specs.Texts.{IsTextBy, IsTextInOrder}
+use Rattle.bson.specs.Texts.{IsTextInKeyOrder, IsTextInOrder}
 use Rattle.bson.specs.View.{bson_view, document_view}
 use Rattle.bson.specs.declared.bson.Bson.{the_lemmas}
 use Rattle.bson.specs.declared.bson.Bson.TheVariants.{Document as held}
@@ -18,7 +18,7 @@ use Rattle.bson.specs.declared.document.Document.{Document}
 use Rattle.bson.specs.declared.extjson.options.Options.{Options}
 use Rattle.bson.specs.OrderedTrees.{read_in_order}
 use Rattle.bson.specs.MeansInOrder.{MeansInOrder}
-use Rattle.bson_codec.specs.ReadDocuments.{IsRead}
+use Rattle.bson_codec.specs.ReadDocuments.{IsReadAsDocument}
 use Rattle.bson_codec.specs.DocumentText.{IsDocumentTextOf}
 use Rattle.bson_model.specs.Means.{MeansIn}
 use Rattle.bson_model.specs.Normal.{writable_in}
@@ -26,21 +26,21 @@ use Rattle.bson_model.specs.Sorted.{sorted}
 use Rattle.bson_model.specs.Value.{Value, Pairs, document}
 use Rattle.bson_convert.specs.declared.mode.Mode.{Mode}
 use Rattle.bson_convert.specs.declared.mode.Mode.TheVariants.{Canonical, Relaxed, Show}
-use Rattle.vbson.specs.Documents.{Decodes, HasNoTextIn, IsOneDocument, IsDecodeFailure, depth, streaming_form, direct_form_by, form_of_mode}
+use Rattle.vbson.specs.Documents.{Decodes, PairsHaveNoTextIn, IsOneDocument, IsDecodeFailure, depth, streaming_form, streaming_form_in_order, form_of_mode}
 use Rattle.bson.specs.declared.extjson.key_order.KeyOrder.{KeyOrder}
 use Rattle.bson.specs.declared.extjson.key_order.KeyOrder.TheVariants.{Ascending, AsGiven}
 
 -- ---- bytes
 
-unwritable : (o : Options) (mode : Mode) (ps : Pairs) → HasNoTextIn o mode ps
+unwritable : (o : Options) (mode : Mode) (ps : Pairs) → PairsHaveNoTextIn o mode ps
     → writable_in o.doubles (document ps) ≡ true → ⊥
 unwritable o Canonical ps none writes = true≢false (sym writes ∙ none)
 unwritable o Relaxed ps none writes = true≢false (sym writes ∙ none)
 unwritable o Show ps none writes = none
 
 -- the one document that the bytes are has no text, or memory ran out
-pub undecoded : (o : Options) (mode : Mode) (status : ℕ) (bytes : List ℕ) (ps : Pairs) → IsRead depth bytes ps
-    → ((qs : Pairs) → IsRead depth bytes qs → ps ≡ qs) → (status ≡ 5) ⊎ ((status ≡ 7) × HasNoTextIn o mode ps)
+pub undecoded : (o : Options) (mode : Mode) (status : ℕ) (bytes : List ℕ) (ps : Pairs) → IsReadAsDocument depth bytes ps
+    → ((qs : Pairs) → IsReadAsDocument depth bytes qs → ps ≡ qs) → (status ≡ 5) ⊎ ((status ≡ 7) × PairsHaveNoTextIn o mode ps)
     → IsDecodeFailure o mode status bytes
 undecoded o mode status bytes ps is one (inl five) = record {
   no_document = λ ten other. absurd (omega (arith, five, ten));
@@ -82,9 +82,9 @@ unread o mode status bytes (inr (ten, none)) =
 
 -- the text that is written while the bytes are read is that of the document
 module _ (o : Options) (bytes text : List ℕ) (given : o.key_order ≡ AsGiven) (finite : o.doubles ≡ Finite) where
-  under_options : (f : Form) (v : Value) → IsTextInOrder Finite f v text → IsTextBy o.key_order o.doubles f v text
+  under_options : (f : Form) (v : Value) → IsTextInOrder Finite f v text → IsTextInKeyOrder o.key_order o.doubles f v text
   under_options f v is =
-      subst (λ k. IsTextBy k o.doubles f v text) (sym given) (subst (λ D. IsTextInOrder D f v text) (sym finite) is)
+      subst (λ k. IsTextInKeyOrder k o.doubles f v text) (sym given) (subst (λ D. IsTextInOrder D f v text) (sym finite) is)
 
   in_form : (mode : Mode) (f : Form) → form_of_mode mode ≡ Some f → IsDocumentTextOf f depth bytes text → Decodes o mode bytes text
   in_form Canonical f is it =
@@ -106,7 +106,7 @@ module _ (o : Options) (bytes text : List ℕ) (given : o.key_order ≡ AsGiven)
   in_form Show f is it = absurd cc
 
 by_options : (o : Options) (order : KeyOrder) (D : Doubles) (mode : Mode) (f : Form) (bytes text : List ℕ)
-    → o.key_order ≡ order → o.doubles ≡ D → direct_form_by order D mode ≡ Some f → IsDocumentTextOf f depth bytes text
+    → o.key_order ≡ order → o.doubles ≡ D → streaming_form_in_order order D mode ≡ Some f → IsDocumentTextOf f depth bytes text
     → Decodes o mode bytes text
 by_options o Ascending D mode f bytes text given is form it = absurd cc
 by_options o AsGiven Special mode f bytes text given is form it = absurd cc

@@ -30,7 +30,7 @@ cut_block run block output_before output held diagnostics all after fault number
       diagnostics = diagnostics;
       refused = refused;
       fault = fault;
-      cut = subst (λ x. EndsInside run block x diagnostics fault number refused start) (wrote output_before output out written none)
+      is_truncated = subst (λ x. EndsInside run block x diagnostics fault number refused start) (wrote output_before output out written none)
           (subst (λ x. EndsInside run block out x fault number refused start) (wrote held diagnostics diagnostics_after reports_appended also) inside);
       last_diagnostic = last_diagnostic;
     })
@@ -40,7 +40,7 @@ pub gives_utf8 : (run : Run) (block output all_diagnostics : List ℕ) (count co
     → IsOutputOfDocuments run block output all_diagnostics count consumed → IsUtf8 output × IsUtf8 all_diagnostics
 gives_utf8 run block output all_diagnostics count consumed (inl all) = dump_utf8 all.documents
 gives_utf8 run block output all_diagnostics count consumed (inr it) =
-    let before = dump_utf8 it.cut.documents in
+    let before = dump_utf8 it.is_truncated.documents in
     let diagnostics_before = diagnostic_utf8 count consumed it.fault in
     (before.0, subst IsUtf8 (sym it.last_diagnostic) (IsUtf8-append it.diagnostics _ before.1 diagnostics_before))
 

@@ -7,7 +7,7 @@ use Rattle.bson_bytes.specs.Grammar.{IsLength, document_of_elements, little_endi
 use Rattle.bson_bytes.specs.Writing.{name_bytes, type_of, value_bytes, elements_bytes, array_elements_bytes}
 use Rattle.bson_model.specs.HashInput.{items_count}
 use Rattle.bson_model.specs.Value.{Value, Values, no_values, value, Pairs, no_pairs, pair}
-use Rattle.vbson.specs.Builder.{IsAppended, AppendsBytes, IsFramed, IsOpenDocument, IsOpenArray, append_pair, append_value, written_bytes, length_placeholder}
+use Rattle.vbson.specs.Builder.{IsAppended, AppendsBytes, IsDocumentEnded, IsUnfinishedDocument, IsUnfinishedArray, append_pair, append_value, written_bytes, length_placeholder}
 use Rattle.vbson.specs.declared.builder.Builder.{Builder}
 
 -- three lists as one
@@ -32,14 +32,14 @@ items_and n m (value w vs) v is =
 pub more : (front list e : List ℕ) (a b : Builder) → written_bytes a ≡ front ++ (length_placeholder ++ list) → AppendsBytes e a b → written_bytes b ≡ front ++ (length_placeholder ++ (list ++ e))
 more front list e a b h s = s ∙ ap (λ (x : List ℕ). x ++ e) h ∙ regrouped front length_placeholder list e
 
-pub and_more : (front : List ℕ) (ps : Pairs) (k : List ℕ) (v : Value) (a b : Builder) → IsOpenDocument front ps a
-    → AppendsBytes (name_bytes (type_of v) k ++ value_bytes v) a b → IsOpenDocument front (append_pair ps k v) b
+pub and_more : (front : List ℕ) (ps : Pairs) (k : List ℕ) (v : Value) (a b : Builder) → IsUnfinishedDocument front ps a
+    → AppendsBytes (name_bytes (type_of v) k ++ value_bytes v) a b → IsUnfinishedDocument front (append_pair ps k v) b
 and_more front ps k v a b h s =
     more front (elements_bytes ps) (name_bytes (type_of v) k ++ value_bytes v) a b h s
     ∙ ap (λ (x : List ℕ). front ++ (length_placeholder ++ x)) (sym (list_and ps k v))
 
-pub and_item : (front : List ℕ) (vs : Values) (v : Value) (a b : Builder) → IsOpenArray front vs a
-    → AppendsBytes (name_bytes (type_of v) (decimal (items_count vs)) ++ value_bytes v) a b → IsOpenArray front (append_value vs v) b
+pub and_item : (front : List ℕ) (vs : Values) (v : Value) (a b : Builder) → IsUnfinishedArray front vs a
+    → AppendsBytes (name_bytes (type_of v) (decimal (items_count vs)) ++ value_bytes v) a b → IsUnfinishedArray front (append_value vs v) b
 and_item front vs v a b h s =
     more front (array_elements_bytes 0 vs) (name_bytes (type_of v) (decimal (items_count vs)) ++ value_bytes v) a b h s
     ∙ ap (λ (x : List ℕ). front ++ (length_placeholder ++ x)) (sym (items_and 0 (items_count vs) vs v (omega arith)))
@@ -51,8 +51,8 @@ begun front name a b h s = s ∙ ap (λ (x : List ℕ). x ++ (name ++ length_pla
 pub is_ended : (start : ℕ) (a m b : Builder) → start + 4 ≤ a.len → a.len - start + 1 < 2 ^ 31 → IsAppended (0 ∷ []) a m
     → written_bytes b ≡ take start (written_bytes m) ++ (little_endian w32 (m.len - start) ++ drop (start + 4) (written_bytes m))
     → drop m.len b.bytes.now ≡ drop m.len m.bytes.now → length b.bytes.now ≡ length m.bytes.now → b.len ≡ m.len
-    → IsFramed start a b
-is_ended start a m b starts counts s is rest size len =
+    → IsDocumentEnded start a b
+is_ended start a m b starts counts s is rest_unchanged size len =
     let count : length (written_bytes a) ≡ a.len = length-take-le a.len a.bytes.now (omega (arith, s.fits)) in
     let list = drop (start + 4) (written_bytes a) in
     let first : take start (written_bytes m) ≡ take start (written_bytes a) =
@@ -68,13 +68,13 @@ is_ended start a m b starts counts s is rest size len =
           ∙ ap (λ (x : List ℕ). take start (written_bytes a) ++ (little_endian w32 (m.len - start) ++ x)) second
           ∙ ap (λ n. take start (written_bytes a) ++ (little_endian w32 n ++ (list ++ 0 ∷ []))) third;
       len = len ∙ s.len;
-      rest = ap (λ n. drop n b.bytes.now) len ∙ rest ∙ s.rest ∙ ap (λ n. drop n a.bytes.now) (sym len);
+      rest_unchanged = ap (λ n. drop n b.bytes.now) len ∙ rest_unchanged ∙ s.rest_unchanged ∙ ap (λ n. drop n a.bytes.now) (sym len);
       size = size ∙ s.size;
     }
 
 -- the bytes before the end are the first bytes and the list
 pub ended : (front list : List ℕ) (start : ℕ) (a b : Builder) → start ≡ length front → written_bytes a ≡ front ++ (length_placeholder ++ list)
-    → IsFramed start a b → written_bytes b ≡ front ++ document_of_elements list
+    → IsDocumentEnded start a b → written_bytes b ≡ front ++ document_of_elements list
 ended front list start a b is h s =
     let first : take start (written_bytes a) ≡ front = ap (take start) h ∙ take_at front (length_placeholder ++ list) start (sym is) in
     let second : drop (start + 4) (written_bytes a) ≡ list =
@@ -82,7 +82,7 @@ ended front list start a b is h s =
     s.written_bytes ∙ ap (λ (x : List ℕ). x ++ document_of_elements (drop (start + 4) (written_bytes a))) first ∙ ap (λ (x : List ℕ). front ++ document_of_elements x) second
 
 pub sized : (front list : List ℕ) (start : ℕ) (a b : Builder) → start ≡ length front → written_bytes a ≡ front ++ (length_placeholder ++ list)
-    → IsFramed start a b → IsLength (length list + 5)
+    → IsDocumentEnded start a b → IsLength (length list + 5)
 sized front list start a b is h s =
     let count = length-take-le a.len a.bytes.now (omega (arith, s.fits)) in
     omega (arith, is, s.counts, s.starts, count, ap length h, length-append front (length_placeholder ++ list), length-append length_placeholder list)

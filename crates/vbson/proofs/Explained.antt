@@ -16,44 +16,44 @@ use Rattle.bson_model.specs.Means.{MeansIn}
 use Rattle.bson_tree.specs.Place.{PathSegment}
 use Rattle.bson_tree.specs.declared.place.Reason.{Reason}
 use Rattle.bson_tree.specs.declared.place.Reason.TheVariants.{BadObjectId, WrongShape}
-use Rattle.bson_run.specs.ErrorMessages.{IsExplanation, IsNotTextError}
+use Rattle.bson_run.specs.ErrorMessages.{IsExplanation, HasNoPosition}
 use Rattle.bson_run.specs.declared.explain.Explanation.{Explanation}
 use Rattle.bson_run.specs.declared.explain.Explanation.TheVariants as explained
 use Rattle.bson_run.specs.declared.task.Preprocessing.{Preprocessing}
 use Rattle.vbson.proofs.Preprocessed.{meant, not_read, rejected_key}
-use Rattle.vbson.specs.Convert.{options_of_flags, status_of_reason}
-use Rattle.vbson.specs.Explain.{Explains, ExplainsWithoutPreprocessing, ExplainsError, HasTooLongPath, IsRejectedFor, IsTooLong, IsUnexplained, ExplainsRejection, explanation_code}
-use Rattle.vbson.specs.Reading.{IsReadAs, IsPreprocessingFault, MeansUnder, preprocessing_of}
+use Rattle.vbson.specs.Convert.{options_of_call, status_of_reason}
+use Rattle.vbson.specs.Explain.{Explains, ExplainsWithoutPreprocessing, ExplainsError, HasTooLongPath, IsRejectedFor, ErrorPathIsTooLong, IsUnexplained, ExplainsRejection, explanation_code}
+use Rattle.vbson.specs.Reading.{TextIsReadAs, IsPreprocessingFault, MeansUnder, preprocessing_of}
 use Rattle.vbson.specs.declared.explain.Rejection.{Rejection}
 use Rattle.vbson.specs.declared.options.CallOptions.{CallOptions}
 
 -- ---- of what is read in the place of the text, and of a text that preprocessing rejects
 
-pub of_read : (options : CallOptions) (text read : List ℕ) (out : Rejection) → IsReadAs (preprocessing_of options) text read
-    → ExplainsWithoutPreprocessing (options_of_flags options) read out → Explains options text out
-of_read options text read out is (inl h) = inl ((h.0.0, record { read = read; read_as = is; meaning = h.0.1 }), h.1)
+pub of_read : (options : CallOptions) (text read : List ℕ) (out : Rejection) → TextIsReadAs (preprocessing_of options) text read
+    → ExplainsWithoutPreprocessing (options_of_call options) read out → Explains options text out
+of_read options text read out is (inl h) = inl ((h.0.0, record { read_text = read; read_as = is; meaning = h.0.1 }), h.1)
 of_read options text read out is (inr h) =
-    inr (record { fault = h.0; read = read; refused = inl (is, h.1); reported = h.2; error = h.3 })
+    inr (record { fault = h.0; read_text = read; refused = inl (is, h.1); reported = h.2; error = h.3 })
 
-pub long_of_read : (options : CallOptions) (text read : List ℕ) (e : PathError) → IsReadAs (preprocessing_of options) text read
-    → IsUnexplained e (λ fault. IsRejectedIn (options_of_flags options) fault read) → e ≢ sizes.OutOfMemory → IsTooLong options text
+pub long_of_read : (options : CallOptions) (text read : List ℕ) (e : PathError) → TextIsReadAs (preprocessing_of options) text read
+    → IsUnexplained e (λ fault. IsRejectedIn (options_of_call options) fault read) → e ≢ sizes.OutOfMemory → ErrorPathIsTooLong options text
 long_of_read options text read e is h reported =
-    let it = h reported in record { fault = it.0; read = read; refused = inl (is, it.1); too_long = it.2 }
+    let it = h reported in record { fault = it.0; read_text = read; refused = inl (is, it.1); too_long = it.2 }
 
 pub refused_first : (options : CallOptions) (fault : Error) (text : List ℕ) (out : Rejection) → IsPreprocessingFault (preprocessing_of options) fault text
     → fault ≢ errors.OutOfMemory → ExplainsError text fault out → Explains options text out
 refused_first options fault text out h reported is =
-    inr (record { fault = fault; read = text; refused = inr (refl, h); reported = reported; error = is })
+    inr (record { fault = fault; read_text = text; refused = inr (refl, h); reported = reported; error = is })
 
 pub long_first : (options : CallOptions) (fault : Error) (text : List ℕ) (e : PathError) → IsPreprocessingFault (preprocessing_of options) fault text
-    → (e ≢ sizes.OutOfMemory → HasTooLongPath fault) → e ≢ sizes.OutOfMemory → IsTooLong options text
+    → (e ≢ sizes.OutOfMemory → HasTooLongPath fault) → e ≢ sizes.OutOfMemory → ErrorPathIsTooLong options text
 long_first options fault text e h too_long reported =
-    record { fault = fault; read = text; refused = inr (refl, h); too_long = too_long reported }
+    record { fault = fault; read_text = text; refused = inr (refl, h); too_long = too_long reported }
 
 -- ---- the code
 
 of_text : (o : Options) (fault : Error) (bytes : List ℕ) → IsRejectedIn o fault bytes → fault ≢ errors.OutOfMemory
-    → IsNotTextError fault → ⊥
+    → HasNoPosition fault → ⊥
 of_text o errors.CannotRead bytes h reported none = h
 of_text o errors.NotJson bytes h reported none = none
 of_text o (errors.NotExtendedJson place) bytes h reported none = none
@@ -63,7 +63,7 @@ of_text o errors.OutOfMemory bytes h reported none = reported refl
 of_text o errors.CannotWrite bytes h reported none = h
 
 of_unread : (preprocessing : Option Preprocessing) (fault : Error) (text : List ℕ) → IsPreprocessingFault preprocessing fault text
-    → fault ≢ errors.OutOfMemory → IsNotTextError fault → ⊥
+    → fault ≢ errors.OutOfMemory → HasNoPosition fault → ⊥
 of_unread None fault text h reported none = h
 of_unread (Some selected) errors.CannotRead text h reported none = h
 of_unread (Some selected) errors.NotJson text h reported none = none
@@ -74,15 +74,15 @@ of_unread (Some selected) errors.OutOfMemory text h reported none = reported ref
 of_unread (Some selected) errors.CannotWrite text h reported none = h
 
 of_rejected : (options : CallOptions) (text read : List ℕ) (fault : Error) → IsRejectedFor options text read fault → fault ≢ errors.OutOfMemory
-    → IsNotTextError fault → ⊥
-of_rejected options text read fault (inl h) reported none = of_text (options_of_flags options) fault read h.1 reported none
+    → HasNoPosition fault → ⊥
+of_rejected options text read fault (inl h) reported none = of_text (options_of_call options) fault read h.1 reported none
 of_rejected options text read fault (inr h) reported none = of_unread (preprocessing_of options) fault text h.1 reported none
 
 reason_code : (reason : Reason) (n : ℕ) → n ≡ status_of_reason reason → n ≡ 0 → ⊥
 reason_code (BadObjectId e) n is zero = absurd (omega (arith, is, zero))
 reason_code (WrongShape message) n is zero = absurd (omega (arith, is, zero))
 
-some_code : (text : List ℕ) (fault : Error) (it : Explanation) (n : ℕ) → IsExplanation text fault it → (IsNotTextError fault → ⊥)
+some_code : (text : List ℕ) (fault : Error) (it : Explanation) (n : ℕ) → IsExplanation text fault it → (HasNoPosition fault → ⊥)
     → n ≡ explanation_code it → n ≡ 0 → ⊥
 some_code text fault (explained.Syntax stop) n h reported is zero = absurd (omega (arith, is, zero))
 some_code text fault (explained.Value place reason) n h reported is zero = reason_code place.now.reason n is zero
@@ -92,8 +92,8 @@ some_code text fault explained.Other n h reported is zero = reported h
 -- a text that is refused has a code
 refuses_code : (options : CallOptions) (text : List ℕ) (out : Rejection) → ExplainsRejection options text out → out.code ≡ 0 → ⊥
 refuses_code options text out h zero =
-    some_code h.read h.fault h.error.explanation out.code h.error.is_explanation
-    (of_rejected options text h.read h.fault h.refused h.reported) h.error.error_report.code zero
+    some_code h.read_text h.fault h.error.explanation out.code h.error.is_explanation
+    (of_rejected options text h.read_text h.fault h.refused h.reported) h.error.error_report.code zero
 
 pub accepted_from : (options : CallOptions) (text : List ℕ) (out : Rejection) → Explains options text out → out.code ≡ 0
     → (value : Value) × MeansUnder options text value
@@ -123,13 +123,13 @@ not_rejected : ((j : Json) (path : List PathSegment) → DuplicateAt j path → 
     (text read : List ℕ) (fault : Error) (value : Value) → MeansUnder options text value → IsRejectedFor options text read fault
     → fault ≢ errors.OutOfMemory → ⊥
 not_rejected twice options text read fault value means (inl h) reported =
-    not_refused (options_of_flags options) fault read value (meant options text read value h.0 means) h.1 reported
+    not_refused (options_of_call options) fault read value (meant options text read value h.0 means) h.1 reported
 not_rejected twice options text read fault value means (inr h) reported =
-    not_read twice (preprocessing_of options) text means.read (rejected_key (preprocessing_of options) fault text h.1 reported)
+    not_read twice (preprocessing_of options) text means.read_text (rejected_key (preprocessing_of options) fault text h.1 reported)
     means.read_as
 
 pub accepts_from : ((j : Json) (path : List PathSegment) → DuplicateAt j path → ¬ HasUniqueKeys j) → (options : CallOptions)
     (text : List ℕ) (out : Rejection) (value : Value) → MeansUnder options text value → Explains options text out → out.code ≡ 0
 accepts_from twice options text out value means (inl h) = h.1.code
 accepts_from twice options text out value means (inr h) =
-    absurd (not_rejected twice options text h.read h.fault value means h.refused h.reported)
+    absurd (not_rejected twice options text h.read_text h.fault value means h.refused h.reported)

@@ -1,12 +1,12 @@
--- The elements of a path, put one after the other.
+-- The elements of a path, written one after the other.
 use Rattle.std.proofs.Common.{◌≡◌, ℕ, List, [], ◌∷◌, Ok, Err, refl, sym, ap, ◌∙◌, length, subst, arith}
 use Rattle.std.specs.Prelude.{decimal, map}
 use Rattle.std.proofs.lemmas.List.{length-map}
 use Rattle.bson_tree.specs.Place.{segment_of}
 use Rattle.bson_tree.specs.declared.place.Segment.{Segment}
 use Rattle.bson_model.specs.Value.{Pairs, no_pairs, pair}
-use Rattle.bson_bytes.specs.PutSteps.{PutResult, then, put_name, put_value, put_elements, put_length_placeholder, put_end, put_document, StopsFor}
-use Rattle.bson_bytes.specs.Writing.{type_of, FitsDocument, zero_in_key, zero_in_regex, too_long}
+use Rattle.bson_bytes.specs.PutSteps.{PutResult, then, put_name, put_value, put_elements, put_length_placeholder, put_nul_and_length, put_document, StopsFor}
+use Rattle.bson_bytes.specs.Writing.{type_of, FitsDocument, nul_in_key, nul_in_regex, too_long}
 use Rattle.bson_bytes.specs.declared.error.Error.{Error}
 use Rattle.bson_bytes.specs.declared.error.Error.TheVariants as errors
 use Rattle.bson_bytes.proofs.Offered.{told_err, document_fits}
@@ -40,8 +40,8 @@ stops_then errors.Size r f h = rw h refl
 -- what fits is refused for memory alone
 pub only_memory : (e : Error) (ps : Pairs) → FitsDocument ps → StopsFor e (put_document ps []) → e ≡ errors.OutOfMemory
 only_memory errors.OutOfMemory ps fits h = refl
-only_memory errors.Key ps fits h = absurd (document_fits ps zero_in_key fits (told_err ps zero_in_key h))
-only_memory errors.Regex ps fits h = absurd (document_fits ps zero_in_regex fits (told_err ps zero_in_regex h))
+only_memory errors.Key ps fits h = absurd (document_fits ps nul_in_key fits (told_err ps nul_in_key h))
+only_memory errors.Regex ps fits h = absurd (document_fits ps nul_in_regex fits (told_err ps nul_in_regex h))
 only_memory errors.Size ps fits h = absurd (document_fits ps too_long fits (told_err ps too_long h))
 
 -- ---- a path
@@ -81,8 +81,8 @@ segment_put segments outer segment out a is put =
 
 -- ---- a document
 
-pub document_put : (ps : Pairs) (out : List ℕ) → put_elements ps (put_length_placeholder []) ≡ Ok out → put_document ps [] ≡ put_end 0 out
-document_put ps out put = ap (λ (r : PutResult). then r (put_end 0)) put
+pub document_put : (ps : Pairs) (out : List ℕ) → put_elements ps (put_length_placeholder []) ≡ Ok out → put_document ps [] ≡ put_nul_and_length 0 out
+document_put ps out put = ap (λ (r : PutResult). then r (put_nul_and_length 0)) put
 
 pub document_stops : (e : Error) (ps : Pairs) → StopsFor e (put_elements ps (put_length_placeholder [])) → StopsFor e (put_document ps [])
-document_stops e ps h = stops_then e (put_elements ps (put_length_placeholder [])) (put_end 0) h
+document_stops e ps h = stops_then e (put_elements ps (put_length_placeholder [])) (put_nul_and_length 0) h

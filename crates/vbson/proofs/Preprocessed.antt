@@ -8,7 +8,7 @@ use Rattle.bson_tokens.specs.DuplicateKeys.{DuplicateAt}
 use Rattle.bson_tree.specs.Place.{PathSegment}
 use Rattle.bson_scalar.specs.declared.form.Doubles.{Doubles}
 use Rattle.bson_model.specs.Means.{MeansIn}
-use Rattle.bson_bytes.specs.ReadDocuments.{IsReadIn}
+use Rattle.bson_bytes.specs.ReadDocuments.{IsReadAsDocumentIn}
 use Rattle.bson_model.specs.Value.{Pairs, Value}
 use Rattle.bson.specs.TextMeaning.{HasTextMeaningIn, IsTextOf}
 use Rattle.bson.specs.declared.extjson.options.Options.{Options}
@@ -19,9 +19,9 @@ use Rattle.bson_convert.specs.declared.error.Error.TheVariants.{CannotWrite, Not
 use Rattle.bson_run.proofs.Offered.{not_taken, one_taken}
 use Rattle.bson_run.specs.declared.task.Preprocessing.{Preprocessing}
 use Rattle.vbson.proofs.Causes.{causes, reason_status}
-use Rattle.vbson.specs.Convert.{IsTextError, options_of_flags, status_of}
+use Rattle.vbson.specs.Convert.{IsTextError, options_of_call, status_of}
 use Rattle.vbson.specs.Documents.{depth}
-use Rattle.vbson.specs.Reading.{HasRejectedKey, IsReadAs, IsReadFailure, IsPreprocessingFault, IsTextReadFailure, MeansUnder}
+use Rattle.vbson.specs.Reading.{HasRejectedKey, TextIsReadAs, IsReadFailure, IsPreprocessingFault, IsTextReadFailure, MeansUnder}
 use Rattle.vbson.specs.Reading.{IsDocumentReadFailure, duplicate_keys_of, preprocessing_of}
 use Rattle.vbson.specs.declared.options.CallOptions.{CallOptions}
 
@@ -37,17 +37,17 @@ one_meaning D bytes v w a b =
     b.meaning.one v (subst (λ t. MeansIn D t v) trees a.meaning.means)
 
 -- one text is read in the place of a text
-pub one_read : (preprocessing : Option Preprocessing) (text a b : List ℕ) → IsReadAs preprocessing text a
-    → IsReadAs preprocessing text b → a ≡ b
+pub one_read : (preprocessing : Option Preprocessing) (text a b : List ℕ) → TextIsReadAs preprocessing text a
+    → TextIsReadAs preprocessing text b → a ≡ b
 one_read None text a b x y = x ∙ sym y
 one_read (Some selected) text a b x y = one_taken selected text a b x y
 
 -- which means one value
-pub meant : (options : CallOptions) (text read : List ℕ) (value : Value) → IsReadAs (preprocessing_of options) text read
-    → MeansUnder options text value → HasTextMeaningIn (options_of_flags options).doubles read value
+pub meant : (options : CallOptions) (text read : List ℕ) (value : Value) → TextIsReadAs (preprocessing_of options) text read
+    → MeansUnder options text value → HasTextMeaningIn (options_of_call options).doubles read value
 meant options text read value is means =
-    subst (λ x. HasTextMeaningIn (options_of_flags options).doubles x value)
-    (one_read (preprocessing_of options) text means.read read means.read_as is) means.meaning
+    subst (λ x. HasTextMeaningIn (options_of_call options).doubles x value)
+    (one_read (preprocessing_of options) text means.read_text read means.read_as is) means.meaning
 
 -- ---- what a status says
 
@@ -71,12 +71,12 @@ rejected o fault bytes h accepts = record {
 }
 
 -- of what is read in the place of a text
-pub without_value : (options : CallOptions) (status : ℕ) (text read : List ℕ) → IsReadAs (preprocessing_of options) text read
-    → IsReadFailure (options_of_flags options) status read → IsTextReadFailure options status text
+pub without_value : (options : CallOptions) (status : ℕ) (text read : List ℕ) → TextIsReadAs (preprocessing_of options) text read
+    → IsReadFailure (options_of_call options) status read → IsTextReadFailure options status text
 without_value options status text read is h = record {
-  not_json = λ two. record { read = read; read_as = is; rejected = h.cause.not_json two };
-  bad_object_id = λ three. record { read = read; read_as = is; rejected = h.cause.bad_object_id three };
-  not_extended_json = λ four. inr (record { read = read; read_as = is; rejected = h.cause.not_extended_json four });
+  not_json = λ two. record { read_text = read; read_as = is; rejected = h.cause.not_json two };
+  bad_object_id = λ three. record { read_text = read; read_as = is; rejected = h.cause.bad_object_id three };
+  not_extended_json = λ four. inr (record { read_text = read; read_as = is; rejected = h.cause.not_extended_json four });
   accepts = λ value means. h.accepts value (meant options text read value is means);
   possible_statuses = h.possible_statuses;
 }
@@ -93,7 +93,7 @@ no_memory options text = record {
 
 -- a text that preprocessing rejects is not read
 pub not_read : ((j : Json) (path : List PathSegment) → DuplicateAt j path → ¬ HasUniqueKeys j) → (preprocessing : Option Preprocessing)
-    (text read : List ℕ) → HasRejectedKey preprocessing text → IsReadAs preprocessing text read → ⊥
+    (text read : List ℕ) → HasRejectedKey preprocessing text → TextIsReadAs preprocessing text read → ⊥
 not_read twice None text read h is = h
 not_read twice (Some selected) text read h is = not_taken twice selected h.0 text read h.1 is
 
@@ -117,7 +117,7 @@ turned_away twice options fault text h some =
       not_json = λ is. absurd (omega (arith, is));
       bad_object_id = λ is. absurd (omega (arith, is));
       not_extended_json = λ is. inl key;
-      accepts = λ value means. absurd (not_read twice (preprocessing_of options) text means.read key means.read_as);
+      accepts = λ value means. absurd (not_read twice (preprocessing_of options) text means.read_text key means.read_as);
       possible_statuses = (omega arith, omega arith);
     }
 
@@ -134,7 +134,7 @@ of_refused o CannotWrite bytes h = h
 -- ---- documents
 
 pub no_document_under : (options : CallOptions) (bytes : List ℕ)
-    → ((ps : Pairs) → IsReadIn (duplicate_keys_of options) depth bytes ps → ⊥) → IsDocumentReadFailure options 10 bytes
+    → ((ps : Pairs) → IsReadAsDocumentIn (duplicate_keys_of options) depth bytes ps → ⊥) → IsDocumentReadFailure options 10 bytes
 no_document_under options bytes none = record {
   no_document = λ ten value is. none is.pairs is.read;
   accepts = λ value is. absurd (none is.pairs is.read);

@@ -6,20 +6,20 @@ use Rattle.bson_bytes.specs.Reading.{read_value_in, read_document_in}
 use Rattle.bson_bytes.specs.declared.duplicate_keys.DuplicateKeys.TheVariants.{Replace}
 use Rattle.bson_model.specs.Value.{Value, Pairs, no_pairs, pair, scalar, code_scope, array, document}
 use Rattle.bson_bytes.specs.RawElements.{HasValue, IsElement, IsFirstElement, IsValueOfElement, value_length}
-use Rattle.bson_bytes.specs.TypedGetters.{binary_of, boolean_value, date_value, double_value, int32_value, int64_value, object_id_value, string_value}
+use Rattle.bson_bytes.specs.TypedGetters.{binary_value, boolean_value, date_value, double_value, int32_value, int64_value, object_id_value, string_value}
 use Rattle.bson_bytes.specs.NestedValues.{IsNested}
 use Rattle.bson_bytes.specs.ReadElements.{BeginsWithElements}
 use Rattle.bson_bytes.specs.declared.raw_element.RawElement.{RawElement}
 use Rattle.bson_types.specs.ElementTags.{tag_of}
 use Rattle.bson_types.specs.declared.spec.ElementType.{ElementType}
-use Rattle.vbson.specs.Raw.{IsLookupResult, IsNextElement, IsTypedResult, IsValueAt, IsValueOf, boolean_number, subtype_and_bytes}
+use Rattle.vbson.specs.Raw.{IsLookupResult, IsNextElement, IsTypedResult, IsRawValueOf, IsRawValueOfElement, boolean_number, subtype_and_bytes}
 use Rattle.vbson.specs.declared.raw.RawValue.{RawValue}
 use Rattle.vbson.specs.declared.raw.Slice.{Slice}
 
 -- ---- what is found
 
-at_value : (d : ℕ) (e : RawElement) (v : Value) (out : RawValue) → HasValue d e v → IsValueOf e out
-    → length e.rest.now ≤ length e.value.now → IsValueAt d v out
+at_value : (d : ℕ) (e : RawElement) (v : Value) (out : RawValue) → HasValue d e v → IsRawValueOfElement e out
+    → length e.rest.now ≤ length e.value.now → IsRawValueOf d v out
 at_value d e v out read is within = record {
   type = e.kind;
   tag = is.tag;
@@ -31,7 +31,7 @@ at_value d e v out read is within = record {
 pub got_none : (d : ℕ) (o : Option Value) (out : RawValue) → o ≡ None → IsLookupResult d o 14 out
 got_none d o out none = subst (λ (p : Option Value). IsLookupResult d p 14 out) (sym none) refl
 
-pub got_some : (d : ℕ) (o : Option Value) (e : RawElement) (out : RawValue) → IsValueOfElement d (Some e) o → IsValueOf e out
+pub got_some : (d : ℕ) (o : Option Value) (e : RawElement) (out : RawValue) → IsValueOfElement d (Some e) o → IsRawValueOfElement e out
     → length e.rest.now ≤ length e.value.now → IsLookupResult d o 0 out
 got_some d o e out found is within =
     subst (λ (p : Option Value). IsLookupResult d p 0 out) (sym found.1) (refl, at_value d e found.0 out found.2 is within)
@@ -40,14 +40,14 @@ pub next_none : (d : ℕ) (ps : Pairs) (cursor key : Slice) (value : RawValue) �
 next_none d ps cursor key value none = subst (λ (qs : Pairs). IsNextElement d qs 14 cursor key value) (sym none) refl
 
 pub next_some : (d : ℕ) (ps : Pairs) (e : RawElement) (cursor key : Slice) (value : RawValue) → IsElement d e ps
-    → IsValueOf e value → length e.rest.now ≤ length e.value.now → cursor.bytes ≡ e.rest → key.bytes ≡ e.key
+    → IsRawValueOfElement e value → length e.rest.now ≤ length e.value.now → cursor.bytes ≡ e.rest → key.bytes ≡ e.key
     → IsNextElement d ps 0 cursor key value
 next_some d ps e cursor key value h is within rest name =
     subst (λ (qs : Pairs). IsNextElement d qs 0 cursor key value) (sym h.pairs) (
       refl,
       ap (λ (b : Bor (List ℕ)). b.now) name,
       at_value d e h.value value h.read is within,
-      subst (λ (b : Bor (List ℕ)). BeginsWithElements d b.now h.others) (sym rest) h.more,
+      subst (λ (b : Bor (List ℕ)). BeginsWithElements d b.now h.later_pairs) (sym rest) h.later_elements,
     )
 
 -- ---- a value by its type
@@ -60,7 +60,7 @@ some_kind : {A : Type 0} (x y : A) → Some x ≡ Some y → x ≡ y
 some_kind x y e = cc
 
 pub read_at : (d : ℕ) (v : Value) (value : RawValue) (o : Option ElementType) (k : ElementType)
-    → ((k : ElementType) → (o ≡ Some k) ↔ (tag_of k ≡ value.kind)) → o ≡ Some k → IsValueAt d v value
+    → ((k : ElementType) → (o ≡ Some k) ↔ (tag_of k ≡ value.kind)) → o ≡ Some k → IsRawValueOf d v value
     → read_value_in Replace (read_document_in Replace d) k value.bytes.now ≡ Ok (v, drop value.len value.bytes.now)
 read_at d v value o k h is at =
     let same : at.type ≡ k = some_kind at.type k (sym (kind_is o value.kind at.type h at.tag) ∙ is) in
@@ -68,7 +68,7 @@ read_at d v value o k h is at =
     at.read
 
 pub no_kind : (d : ℕ) (v : Value) (value : RawValue) (o : Option ElementType)
-    → ((k : ElementType) → (o ≡ Some k) ↔ (tag_of k ≡ value.kind)) → o ≡ None → IsValueAt d v value → ⊥
+    → ((k : ElementType) → (o ≡ Some k) ↔ (tag_of k ≡ value.kind)) → o ≡ None → IsRawValueOf d v value → ⊥
 no_kind d v value o h none at =
     let some = kind_is o value.kind at.type h at.tag in absurd cc
 
@@ -118,7 +118,7 @@ never_date_time (code_scope s ps) h = refl
 never_date_time (array vs) h = refl
 never_date_time (document ps) h = refl
 
-pub never_binary : IsNever binary_of
+pub never_binary : IsNever binary_value
 never_binary (scalar s) h = absurd h
 never_binary (code_scope s ps) h = refl
 never_binary (array vs) h = refl
@@ -141,7 +141,7 @@ pub never_bit : IsNever boolean_bit
 never_bit v nested = ap (option_map boolean_number) (never_boolean v nested)
 
 abbrev pub binary_bytes : Value → Option (ℕ × List ℕ)
-binary_bytes v = option_map subtype_and_bytes (binary_of v)
+binary_bytes v = option_map subtype_and_bytes (binary_value v)
 
 pub never_bytes : IsNever binary_bytes
 never_bytes v nested = ap (option_map subtype_and_bytes) (never_binary v nested)

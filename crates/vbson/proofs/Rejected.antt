@@ -5,7 +5,7 @@ use Rattle.bson.specs.declared.extjson.options.Options.{Options}
 use Rattle.bson_convert.specs.declared.error.Error.{Error}
 use Rattle.bson_convert.specs.declared.error.Error.TheVariants.{CannotRead, NotJson, NotExtendedJson, NoBytes, OutOfMemory}
 use Rattle.bson_convert.specs.declared.error.Error.TheVariants.{CannotWrite, NotCanonical}
-use Rattle.bson_run.specs.Lines.{EndsAtIn, FailsAtIn, IsRejectedLineIn, IsStoppedAtIn, WritesBoth, remaining_bytes, lines, line_text}
+use Rattle.bson_run.specs.Lines.{RunEndsAtLine, RunFailsAtLine, IsRejectedLineIn, IsStoppedAtNextLine, WritesBoth, remaining_bytes, lines, line_text}
 use Rattle.bson_run.specs.declared.task.OnRefusal.TheVariants.{Stop}
 use Rattle.bson_run.specs.declared.task.Task.{Task}
 use Rattle.vbson.specs.Lines.{IsFirstRejected, is_rejection}
@@ -18,7 +18,7 @@ whole_block block bytes (Some rest) h = h
 
 -- there is a line after so many, and it is rejected
 rejected_next : (o : Options) (task : Task) (fault : Error) (held : List ℕ) (before : ℕ) (others : List (List ℕ))
-    → is_rejection fault ≡ true → IsStoppedAtIn o task Stop fault held before others
+    → is_rejection fault ≡ true → IsStoppedAtNextLine o task Stop fault held before others
     → (line : List ℕ) × (rest : List (List ℕ)) × (others ≡ line ∷ rest) × IsRejectedLineIn o task fault (line_text before line)
 rejected_next o task CannotRead held before others is h = absurd cc
 rejected_next o task CannotWrite held before others is h = absurd cc
@@ -39,17 +39,17 @@ rejected_next o task (NotCanonical column) held before (line ∷ rest) is h =
 -- a run that stopped at a rejected line
 stopped : (o : Options) (task : Task) (block : List ℕ) (after output_before output_after diagnostics_before diagnostics_after : Option (List ℕ)) (fault : Error)
     (number : ℕ) (held : List ℕ) → is_rejection fault ≡ true
-    → EndsAtIn o WritesBoth (IsStoppedAtIn o task Stop fault held) task Stop (Some block) after output_before output_after diagnostics_before diagnostics_after number
+    → RunEndsAtLine o WritesBoth (IsStoppedAtNextLine o task Stop fault held) task Stop (Some block) after output_before output_after diagnostics_before diagnostics_after number
     → IsFirstRejected o task block number
 stopped o task block after output_before output_after diagnostics_before diagnostics_after fault number held is h =
-    let next = rejected_next o task fault held (length h.done) h.others is h.reason in
+    let next = rejected_next o task fault held (length h.done_lines) h.later_lines is h.reason in
     record {
-      before = h.done;
+      lines_before = h.done_lines;
       line = next.0;
-      others = next.1;
+      lines_after = next.1;
       fault = fault;
       whole = ap lines (whole_block block h.reaches.bytes after h.reaches.given) ∙ h.reaches.whole
-          ∙ ap (λ others. h.done ++ others) next.2;
+          ∙ ap (λ others. h.done_lines ++ others) next.2;
       counted = h.counted;
       accepted = record {
         output = h.output;
@@ -63,7 +63,7 @@ stopped o task block after output_before output_after diagnostics_before diagnos
 -- a run that fails for a rejected line stopped at it
 pub first : (o : Options) (task : Task) (block : List ℕ) (after output_before output_after diagnostics_before diagnostics_after : Option (List ℕ)) (fault : Error)
     (number : ℕ) (held : List ℕ) → is_rejection fault ≡ true
-    → FailsAtIn o fault task Stop (Some block) after output_before output_after diagnostics_before diagnostics_after number held
+    → RunFailsAtLine o fault task Stop (Some block) after output_before output_after diagnostics_before diagnostics_after number held
     → IsFirstRejected o task block number
 first o task block after output_before output_after diagnostics_before diagnostics_after CannotRead number held is h = absurd cc
 first o task block after output_before output_after diagnostics_before diagnostics_after CannotWrite number held is h = absurd cc

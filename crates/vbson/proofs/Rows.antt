@@ -7,7 +7,7 @@ use Rattle.bson.specs.Options.{default_options, mongodb_options}
 use Rattle.bson_convert.specs.declared.mode.Mode.TheVariants as mode
 use Rattle.bson_convert.specs.declared.error.Error.TheVariants as error
 use Rattle.bson_convert.specs.declared.encode_error.NoBytes.TheVariants as without
-use Rattle.vbson.specs.Convert.{mode_of_number, options_of_flags, order_of, status_of_reason, status_of}
+use Rattle.vbson.specs.Convert.{mode_of_number, options_of_call, key_order_of, status_of_reason, status_of}
 use Rattle.bson_bytes.specs.declared.duplicate_keys.DuplicateKeys.TheVariants.{Replace, Refuse}
 use Rattle.bson_run.specs.declared.task.Preprocessing.TheVariants.{Distinct, Legacy, DistinctLegacy}
 use Rattle.vbson.specs.Documents.{depth}
@@ -36,13 +36,13 @@ options_with doubles key_order duplicate_keys v1 = record {
   v1 = v1;
 }
 
-conversion_numbered : (options_of_flags (options_with 0 0 0 0) ≡ default_options)
-    × (options_of_flags (options_with 1 1 0 0) ≡ mongodb_options)
-    × ((options_of_flags (options_with 0 1 1 1)).doubles ≡ Special)
-    × ((options_of_flags (options_with 1 0 0 0)).doubles ≡ Finite)
-    × (order_of (options_with 0 0 0 0) ≡ Ascending)
-    × (order_of (options_with 1 0 1 1) ≡ Ascending)
-    × (order_of (options_with 0 1 0 0) ≡ AsGiven)
+conversion_numbered : (options_of_call (options_with 0 0 0 0) ≡ default_options)
+    × (options_of_call (options_with 1 1 0 0) ≡ mongodb_options)
+    × ((options_of_call (options_with 0 1 1 1)).doubles ≡ Special)
+    × ((options_of_call (options_with 1 0 0 0)).doubles ≡ Finite)
+    × (key_order_of (options_with 0 0 0 0) ≡ Ascending)
+    × (key_order_of (options_with 1 0 1 1) ≡ Ascending)
+    × (key_order_of (options_with 0 1 0 0) ≡ AsGiven)
 conversion_numbered = (refl, refl, refl, refl, refl, refl, refl)
 
 reading_numbered : (preprocessing_of (options_with 1 1 0 0) ≡ None)

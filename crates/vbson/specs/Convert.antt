@@ -15,7 +15,7 @@ use Rattle.bson_convert.specs.declared.mode.Mode.TheVariants.{Canonical, Relaxed
 use Rattle.bson_convert.specs.declared.error.Error.{Error}
 use Rattle.bson_convert.specs.declared.error.Error.TheVariants.{CannotRead, NotJson, NotExtendedJson, NoBytes}
 use Rattle.bson_convert.specs.declared.error.Error.TheVariants.{CannotWrite, NotCanonical}
-use Rattle.bson_convert.specs.declared.encode_error.NoBytes as without
+use Rattle.bson_convert.specs.declared.encode_error.NoBytes as no_bytes
 use Rattle.bson_convert.specs.declared.encode_error.NoBytes.TheVariants.{NoDocument, ZeroInKey, ZeroInRegex, TooLong}
 use Rattle.vbson.specs.Text.{IsOwnedText}
 use Rattle.vbson.specs.declared.options.CallOptions.{CallOptions}
@@ -23,30 +23,32 @@ use Rattle.bson.specs.declared.extjson.key_order.KeyOrder.{KeyOrder}
 use Rattle.bson.specs.declared.extjson.key_order.KeyOrder.TheVariants.{Ascending, AsGiven}
 use Rattle.vbson.specs.declared.text.Text.{Text}
 
-abbrev pub mode_of_number : ℕ → Option Mode
-mode_of_number n = if n == 0 then Some Canonical else (if n == 1 then Some Relaxed else (if n == 2 then Some Show else None))
+abbrev pub mode_of_number : (mode_number : ℕ) → Option Mode
+mode_of_number mode_number =
+    if mode_number == 0 then Some Canonical
+    else (if mode_number == 1 then Some Relaxed else (if mode_number == 2 then Some Show else None))
 
 -- the order of keys
-abbrev pub order_of : CallOptions → KeyOrder
-order_of options = if options.key_order == 1 then AsGiven else Ascending
+abbrev pub key_order_of : CallOptions → KeyOrder
+key_order_of options = if options.key_order == 1 then AsGiven else Ascending
 
 -- the options of a conversion, of which 0 is the default
-abbrev pub options_of_flags : CallOptions → Options
-options_of_flags options = record {
+abbrev pub options_of_call : CallOptions → Options
+options_of_call options = record {
   doubles = if options.doubles == 1 then Finite else Special;
-  key_order = order_of options;
+  key_order = key_order_of options;
 }
 
 -- the output is the line that the input is converted to in the mode that was selected, with a NUL in place of its
 -- newline. It is UTF-8. In a form, a second conversion changes nothing
-pub record IsConvertedBy (options : Options) (mode_number : ℕ) (input : List ℕ) (out : Text) : Type 0 where
+pub record IsConvertedBy (options : Options) (mode_number : ℕ) (input : List ℕ) (owned_text : Text) : Type 0 where
   pub mode : Mode
   pub mode_selected : mode_of_number mode_number ≡ Some mode
   pub text : List ℕ
   pub converts : ConvertsBy options.key_order options mode input (text ++ newline)
   pub utf8 : IsUtf8 (text ++ newline)
   pub unchanged_by_conversion : IsFixedPointBy options.key_order options mode (text ++ newline)
-  pub is_text : IsOwnedText text out
+  pub is_text : IsOwnedText text owned_text
 
 -- the fault is an invalid object id
 abbrev pub IsBadObjectId : TreeFault → Type 0
@@ -57,11 +59,12 @@ abbrev pub IsInvalidShape : TreeFault → Type 0
 IsInvalidShape fault = fault ≡ wrong_shape
 
 -- the bytes are JSON that is not valid Extended JSON, for a reason
-pub record IsInvalidExtendedJson (options : Options) (why : TreeFault → Type 0) (bytes : List ℕ) : Type 0 where
+pub record IsInvalidExtendedJson (options : Options) (fault_condition : TreeFault → Type 0)
+    (bytes : List ℕ) : Type 0 where
   pub tree : Data
   pub text : IsTextOf bytes tree
   pub refused : MeansNothingIn options.doubles tree
-  pub reason : why (fault_of_in options.doubles tree)
+  pub reason : fault_condition (fault_of_in options.doubles tree)
 
 -- ---- for private clauses
 
@@ -78,18 +81,18 @@ IsTextError CannotWrite = ⊥
 IsTextError _ = Unit {0}
 
 abbrev pub status_of_reason : Reason → ℕ
-status_of_reason (BadObjectId e) = 3
+status_of_reason (BadObjectId object_id_error) = 3
 status_of_reason (WrongShape message) = 4
 
-abbrev pub status_of_no_bytes : without.NoBytes → ℕ
-status_of_no_bytes NoDocument = 10
-status_of_no_bytes ZeroInKey = 11
-status_of_no_bytes ZeroInRegex = 12
-status_of_no_bytes TooLong = 13
+abbrev pub status_of_encode_error : no_bytes.NoBytes → ℕ
+status_of_encode_error NoDocument = 10
+status_of_encode_error ZeroInKey = 11
+status_of_encode_error ZeroInRegex = 12
+status_of_encode_error TooLong = 13
 
 abbrev pub status_of : Error → ℕ
 status_of NotJson = 2
 status_of (NotExtendedJson place) = status_of_reason place.reason
-status_of (NoBytes why) = status_of_no_bytes why
+status_of (NoBytes encode_error) = status_of_encode_error encode_error
 status_of (NotCanonical column) = 16
 status_of _ = 5

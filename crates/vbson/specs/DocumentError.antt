@@ -2,7 +2,7 @@
 use Rattle.std.specs.Prelude.{◌≡◌, ℕ, List, [], ◌++◌, IsUtf8, codes, false, true}
 use Rattle.std.specs.Fmt.{decimal}
 use Rattle.bson.specs.declared.extjson.options.Options.{Options}
-use Rattle.bson_bytes.specs.ReadDocuments.{IsReadIn}
+use Rattle.bson_bytes.specs.ReadDocuments.{IsReadAsDocumentIn}
 use Rattle.bson_bytes.specs.Writing.{document_bytes}
 use Rattle.bson_bytes.specs.declared.fault.FaultKind.{FaultKind}
 use Rattle.bson_codec.specs.Bytes.{reads_bytes_in}
@@ -11,7 +11,7 @@ use Rattle.bson_codec.specs.Diagnostics.{fault_kind_message}
 use Rattle.bson_convert.specs.Convert.{newline}
 use Rattle.bson_model.specs.Normal.{writable_in}
 use Rattle.bson_model.specs.Value.{Pairs, document}
-use Rattle.vbson.specs.Convert.{options_of_flags}
+use Rattle.vbson.specs.Convert.{options_of_call}
 use Rattle.vbson.specs.Documents.{depth}
 use Rattle.vbson.specs.Path.{path_pairs}
 use Rattle.vbson.specs.Reading.{duplicate_keys_of}
@@ -27,18 +27,19 @@ use Rattle.vbson.specs.declared.options.CallOptions.{CallOptions}
 -- under the options the bytes are a document that has a text in the two forms
 pub record HasDocumentText (options : CallOptions) (bytes : List ℕ) : Type 0 where
   pub pairs : Pairs
-  pub read : IsReadIn (duplicate_keys_of options) depth bytes pairs
-  pub writable : writable_in (options_of_flags options).doubles (document pairs) ≡ true
+  pub read : IsReadAsDocumentIn (duplicate_keys_of options) depth bytes pairs
+  pub writable : writable_in (options_of_call options).doubles (document pairs) ≡ true
 
 -- under the options the bytes are a document that has no text in the two forms
 pub record HasNoDocumentText (options : CallOptions) (bytes : List ℕ) : Type 0 where
   pub pairs : Pairs
-  pub read : IsReadIn (duplicate_keys_of options) depth bytes pairs
-  pub unwritable : writable_in (options_of_flags options).doubles (document pairs) ≡ false
+  pub read : IsReadAsDocumentIn (duplicate_keys_of options) depth bytes pairs
+  pub unwritable : writable_in (options_of_call options).doubles (document pairs) ≡ false
 
-abbrev pub IsFinding : CallOptions → List ℕ → Finding → Type 0
+abbrev pub IsFinding : CallOptions → (bytes : List ℕ) → Finding → Type 0
 IsFinding options bytes Nothing = HasDocumentText options bytes
-IsFinding options bytes (Malformed kind offset) = IsFaultAtOffset kind offset bytes (reads_bytes_in (duplicate_keys_of options) depth bytes)
+IsFinding options bytes (Malformed kind offset) =
+    IsFaultAtOffset kind offset bytes (reads_bytes_in (duplicate_keys_of options) depth bytes)
 IsFinding options bytes FiniteDouble = HasNoDocumentText options bytes
 
 -- ---- the fields of the error struct for a finding
@@ -61,11 +62,12 @@ finding_reason (Malformed kind offset) = fault_kind_message kind
 finding_reason FiniteDouble = codes "a finite double"
 
 -- the message for a fault at an offset, with its reason
-abbrev pub malformed_message : ℕ → List ℕ → List ℕ
-malformed_message offset description = codes "not a document at byte " ++ decimal offset ++ codes " (" ++ description ++ codes ")"
+abbrev pub malformed_message : (offset : ℕ) → (description : List ℕ) → List ℕ
+malformed_message offset description =
+    codes "not a document at byte " ++ decimal offset ++ codes " (" ++ description ++ codes ")"
 
 -- the message for a document that has no text, with its reason
-abbrev pub not_representable_message : List ℕ → List ℕ
+abbrev pub not_representable_message : (description : List ℕ) → List ℕ
 not_representable_message description = codes "not representable (" ++ description ++ codes ")"
 
 abbrev pub finding_message : Finding → List ℕ
@@ -74,29 +76,29 @@ finding_message (Malformed kind offset) = malformed_message offset (fault_kind_m
 finding_message FiniteDouble = not_representable_message (codes "a finite double")
 
 -- the error struct has the fields of the finding; its path has no segment
-pub record ReportsFinding (finding : Finding) (out : Rejection) : Type 0 where
-  pub code : out.code ≡ finding_code finding
-  pub line : out.line ≡ 0
-  pub column : out.column ≡ 0
-  pub offset : out.offset ≡ finding_offset finding
-  pub path : IsOwnedText (document_bytes (path_pairs [])) out.path
-  pub reason : IsOwnedText (finding_reason finding) out.reason
-  pub message : IsOwnedText (finding_message finding) out.message
+pub record ReportsFinding (finding : Finding) (rejection : Rejection) : Type 0 where
+  pub code : rejection.code ≡ finding_code finding
+  pub line : rejection.line ≡ 0
+  pub column : rejection.column ≡ 0
+  pub offset : rejection.offset ≡ finding_offset finding
+  pub path : IsOwnedText (document_bytes (path_pairs [])) rejection.path
+  pub reason : IsOwnedText (finding_reason finding) rejection.reason
+  pub message : IsOwnedText (finding_message finding) rejection.message
   pub utf8 : IsUtf8 (finding_message finding)
   pub reason_utf8 : IsUtf8 (finding_reason finding)
 
-pub record ExplainsDocument (options : CallOptions) (bytes : List ℕ) (out : Rejection) : Type 0 where
+pub record ExplainsDocument (options : CallOptions) (bytes : List ℕ) (rejection : Rejection) : Type 0 where
   pub finding : Finding
-  pub found : IsFinding options bytes finding
-  pub error_report : ReportsFinding finding out
+  pub is_finding : IsFinding options bytes finding
+  pub error_report : ReportsFinding finding rejection
 
 -- ---- for private clauses
 
 -- the finding for bytes that are this document
 abbrev pub IsFindingOfDocument : Options → Pairs → Finding → Type 0
-IsFindingOfDocument options ps Nothing = writable_in options.doubles (document ps) ≡ true
-IsFindingOfDocument options ps (Malformed kind offset) = ⊥
-IsFindingOfDocument options ps FiniteDouble = writable_in options.doubles (document ps) ≡ false
+IsFindingOfDocument options pairs Nothing = writable_in options.doubles (document pairs) ≡ true
+IsFindingOfDocument options pairs (Malformed kind offset) = ⊥
+IsFindingOfDocument options pairs FiniteDouble = writable_in options.doubles (document pairs) ≡ false
 
 pub record AreFieldsOfFinding (finding : Finding) (fields : RejectionFields) : Type 0 where
   pub code : fields.code ≡ finding_code finding

@@ -14,52 +14,60 @@ use Rattle.bson.specs.Form.TheVariants as form
 use Rattle.vbson.specs.Convert.{mode_of_number}
 use Rattle.vbson.specs.Documents.{depth}
 use Rattle.vbson.specs.Text.{IsOwnedText}
-use Rattle.vbson.specs.declared.dump.Documents as given
+use Rattle.vbson.specs.declared.dump.Documents as dump_result
 
 -- the kind of line that is written for each document; the mode Show always uses the document's own order
-abbrev pub dump_line_kind : Mode → Line
-dump_line_kind Canonical = Text form.Canonical
-dump_line_kind Relaxed = Text form.Relaxed
-dump_line_kind Show = Shown
+abbrev pub dump_line_format : Mode → Line
+dump_line_format Canonical = Text form.Canonical
+dump_line_format Relaxed = Text form.Relaxed
+dump_line_format Show = Shown
 
 -- a rejected document adds a diagnostic, and the run continues
-abbrev pub run_of : Options → Mode → Run
-run_of options mode = record { depth = depth; options = options; line = dump_line_kind mode; keep_going = true }
+abbrev pub dump_run_of_mode : Options → Mode → Run
+dump_run_of_mode options mode =
+    record { depth = depth; options = options; line = dump_line_format mode; keep_going = true }
 
 -- the whole block consists of so many documents, with this output and these diagnostics
-pub record IsWholeDump (run : Run) (block output all_diagnostics : List ℕ) (count consumed : ℕ) : Type 0 where
+pub record IsWholeDump (run : Run) (block output all_diagnostics : List ℕ)
+    (document_count consumed_bytes : ℕ) : Type 0 where
   pub refused : ℕ
-  pub documents : Dump run block output all_diagnostics count refused
-  pub whole : consumed ≡ length block
+  pub documents : Dump run block output all_diagnostics document_count refused
+  pub whole : consumed_bytes ≡ length block
 
 -- the documents before the last have this output. The block ends inside the last one, and the last diagnostic names the
 -- fault of its bytes
-pub record IsTruncatedDump (run : Run) (block output all_diagnostics : List ℕ) (count consumed : ℕ) : Type 0 where
+pub record IsTruncatedDump (run : Run) (block output all_diagnostics : List ℕ)
+    (document_count consumed_bytes : ℕ) : Type 0 where
   pub diagnostics : List ℕ
   pub refused : ℕ
   pub fault : RunFault
-  pub cut : EndsInside run block output diagnostics fault count refused consumed
-  pub last_diagnostic : all_diagnostics ≡ diagnostics ++ diagnostic_of count consumed fault
+  pub is_truncated : EndsInside run block output diagnostics fault document_count refused consumed_bytes
+  pub last_diagnostic : all_diagnostics ≡ diagnostics ++ diagnostic_of document_count consumed_bytes fault
 
-abbrev pub IsOutputOfDocuments : Run → (block output all_diagnostics : List ℕ) → (count consumed : ℕ) → Type 0
-IsOutputOfDocuments run block output all_diagnostics count consumed =
-    IsWholeDump run block output all_diagnostics count consumed ⊎ IsTruncatedDump run block output all_diagnostics count consumed
+abbrev pub IsOutputOfDocuments : Run → (block output all_diagnostics : List ℕ) → (document_count consumed_bytes : ℕ)
+    → Type 0
+IsOutputOfDocuments run block output all_diagnostics document_count consumed_bytes =
+    IsWholeDump run block output all_diagnostics document_count consumed_bytes
+    ⊎ IsTruncatedDump run block output all_diagnostics document_count consumed_bytes
 
 -- the struct has the output and the diagnostics of the documents in the mode that was selected, both UTF-8, and their
 -- counts
-pub record AreDecoded (options : Options) (number : ℕ) (block : List ℕ) (out : given.Documents) : Type 0 where
+pub record DocumentsAreDecoded (options : Options) (mode_number : ℕ) (block : List ℕ)
+    (decoded_documents : dump_result.Documents) : Type 0 where
   pub mode : Mode
-  pub mode_selected : mode_of_number number ≡ Some mode
+  pub mode_selected : mode_of_number mode_number ≡ Some mode
   pub text : List ℕ
   pub diagnostics : List ℕ
-  pub gives : IsOutputOfDocuments (run_of options mode) block text diagnostics out.documents out.consumed
+  pub is_output : IsOutputOfDocuments
+      (dump_run_of_mode options mode) block text diagnostics decoded_documents.documents decoded_documents.consumed
   pub utf8 : IsUtf8 text
   pub diagnostic_utf8 : IsUtf8 diagnostics
-  pub is_text : IsOwnedText text out.text
-  pub are_diagnostics : IsOwnedText diagnostics out.diagnostics
+  pub is_text : IsOwnedText text decoded_documents.text
+  pub are_diagnostics : IsOwnedText diagnostics decoded_documents.diagnostics
 
 -- ---- for private clauses
 
 -- the diagnostics, followed by that of the last document
-abbrev pub AddsLastDiagnostic : RunEnd → (diagnostics all : List ℕ) → Type 0
-AddsLastDiagnostic end diagnostics all = IsFaultOfDocument end.fault × (all ≡ diagnostics ++ diagnostic_of end.number end.start end.fault)
+abbrev pub AddsLastDiagnostic : RunEnd → (diagnostics all_diagnostics : List ℕ) → Type 0
+AddsLastDiagnostic run_end diagnostics all_diagnostics = IsFaultOfDocument run_end.fault
+    × (all_diagnostics ≡ diagnostics ++ diagnostic_of run_end.number run_end.start run_end.fault)

@@ -6,24 +6,25 @@ use Rattle.bson_model.specs.Value.{Value, scalar, Pairs, no_pairs, pair}
 use Rattle.bson_tree.specs.Place.{PathSegment, key, element}
 
 -- pairs, followed by others
-abbrev pub concat_pairs : Pairs → Pairs → Pairs
-concat_pairs no_pairs qs = qs
-concat_pairs (pair k v ps) qs = pair k v (concat_pairs ps qs)
+abbrev pub concat_pairs : Pairs → (more_pairs : Pairs) → Pairs
+concat_pairs no_pairs more_pairs = more_pairs
+concat_pairs (pair name value pairs) more_pairs = pair name value (concat_pairs pairs more_pairs)
 
-abbrev pub name_value : List ℕ → Value
-name_value k = scalar (text k)
+abbrev pub name_value : (name : List ℕ) → Value
+name_value name = scalar (text name)
 
 -- its number of 64 bits
-abbrev pub index_value : ℕ → Value
-index_value n = scalar (int64 (cast_signed w64 n))
+abbrev pub index_value : (index : ℕ) → Value
+index_value index = scalar (int64 (cast_signed w64 index))
 
 -- a key is a string, and an index an integer of 64 bits
 abbrev pub segment_value : PathSegment → Value
-segment_value (key k) = name_value k
-segment_value (element n) = index_value n
+segment_value (key name) = name_value name
+segment_value (element index) = index_value index
 
 -- the elements of a path, whose segments lead from the value outward: the outermost comes first, and the keys are the
 -- numbers from 0
 abbrev pub path_pairs : List PathSegment → Pairs
 path_pairs [] = no_pairs
-path_pairs (segment ∷ outer) = concat_pairs (path_pairs outer) (pair (decimal (length outer)) (segment_value segment) no_pairs)
+path_pairs (segment ∷ outer_segments) =
+    concat_pairs (path_pairs outer_segments) (pair (decimal (length outer_segments)) (segment_value segment) no_pairs)

@@ -14,27 +14,29 @@ use Rattle.vbson.specs.declared.raw.RawValue.{RawValue}
 use Rattle.vbson.specs.declared.raw.Slice.{Slice}
 
 -- the tag is that of a type, and so many bytes are read as this value of the type
-pub record IsValueAt (depth : ℕ) (v : Value) (out : RawValue) : Type 0 where
+pub record IsRawValueOf (depth : ℕ) (denoted_value : Value) (raw_value : RawValue) : Type 0 where
   pub type : ElementType
-  pub tag : out.kind ≡ tag_of type
-  pub read : read_value_in Replace (read_document_in Replace depth) type out.bytes.now ≡ Ok (v, drop out.len out.bytes.now)
-  pub within : out.len ≤ length out.bytes.now
+  pub tag : raw_value.kind ≡ tag_of type
+  pub read : read_value_in Replace (read_document_in Replace depth) type raw_value.bytes.now
+      ≡ Ok (denoted_value, drop raw_value.len raw_value.bytes.now)
+  pub within : raw_value.len ≤ length raw_value.bytes.now
 
 -- the status of a lookup: the document has no such key, or the output is the value of the key
-abbrev pub IsLookupResult : ℕ → Option Value → ℕ → RawValue → Type 0
-IsLookupResult depth None status out = status ≡ 14
-IsLookupResult depth (Some v) status out = (status ≡ 0) × IsValueAt depth v out
+abbrev pub IsLookupResult : (depth : ℕ) → Option Value → (status : ℕ) → (raw_value : RawValue) → Type 0
+IsLookupResult depth None status raw_value = status ≡ 14
+IsLookupResult depth (Some denoted_value) status raw_value = (status ≡ 0) × IsRawValueOf depth denoted_value raw_value
 
 -- no element is left; or the outputs are the key and the value of the first, and the others are left
-abbrev pub IsNextElement : ℕ → Pairs → ℕ → Slice → Slice → RawValue → Type 0
+abbrev pub IsNextElement : (depth : ℕ) → Pairs → (status : ℕ) → (cursor key : Slice) → (value : RawValue) → Type 0
 IsNextElement depth no_pairs status cursor key value = status ≡ 14
-IsNextElement depth (pair k v ps) status cursor key value =
-    (status ≡ 0) × (key.bytes.now ≡ k) × IsValueAt depth v value × BeginsWithElements depth cursor.bytes.now ps
+IsNextElement depth (pair first_key first_value later_pairs) status cursor key value =
+    (status ≡ 0) × (key.bytes.now ≡ first_key) × IsRawValueOf depth first_value value
+    × BeginsWithElements depth cursor.bytes.now later_pairs
 
 -- the value has another type, or this is what it contains
-abbrev pub IsTypedResult : {A : Type 0} → Option A → ℕ → A → Type 0
-IsTypedResult None status out = status ≡ 15
-IsTypedResult (Some x) status out = (status ≡ 0) × (out ≡ x)
+abbrev pub IsTypedResult : {Content : Type 0} → Option Content → (status : ℕ) → (output : Content) → Type 0
+IsTypedResult None status output = status ≡ 15
+IsTypedResult (Some content) status output = (status ≡ 0) × (output ≡ content)
 
 abbrev pub boolean_number : Bool → ℕ
 boolean_number true = 1
@@ -42,12 +44,12 @@ boolean_number false = 0
 
 -- the number of a subtype, and the bytes
 abbrev pub subtype_and_bytes : BinarySubtype × List ℕ → ℕ × List ℕ
-subtype_and_bytes b = (subtype_byte b.0, b.1)
+subtype_and_bytes binary = (subtype_byte binary.0, binary.1)
 
 -- ---- for private clauses
 
 -- the value of the element
-pub record IsValueOf (element : RawElement) (out : RawValue) : Type 0 where
-  pub bytes : out.bytes.now ≡ element.value.now
-  pub len : out.len ≡ value_length element
-  pub tag : out.kind ≡ tag_of element.kind
+pub record IsRawValueOfElement (element : RawElement) (raw_value : RawValue) : Type 0 where
+  pub bytes : raw_value.bytes.now ≡ element.value.now
+  pub len : raw_value.len ≡ value_length element
+  pub tag : raw_value.kind ≡ tag_of element.kind

@@ -1,7 +1,7 @@
 -- Which value the options read from a text, and from the bytes of a document.
 use Rattle.std.specs.Prelude.{◌≡◌, ◌⊎◌, ◌≤◌, ◌==◌, ℕ, List, Option, None, Some, if◌then◌else◌}
 use Rattle.bson.specs.TextMeaning.{HasTextMeaningIn, IsNotJsonText}
-use Rattle.bson_bytes.specs.ReadDocuments.{IsReadIn}
+use Rattle.bson_bytes.specs.ReadDocuments.{IsReadAsDocumentIn}
 use Rattle.bson_bytes.specs.declared.duplicate_keys.DuplicateKeys.{DuplicateKeys}
 use Rattle.bson_bytes.specs.declared.duplicate_keys.DuplicateKeys.TheVariants.{Replace, Refuse}
 use Rattle.bson_model.specs.Value.{Value, Pairs, document}
@@ -11,7 +11,7 @@ use Rattle.bson_convert.specs.declared.error.Error.{Error}
 use Rattle.bson_run.specs.Preprocessed.{IsPreprocessedAs, IsRejectedByPreprocessing, IsPreprocessingError}
 use Rattle.bson_run.specs.declared.task.Preprocessing.{Preprocessing}
 use Rattle.bson_run.specs.declared.task.Preprocessing.TheVariants.{Distinct, Legacy, DistinctLegacy}
-use Rattle.vbson.specs.Convert.{IsInvalidExtendedJson, IsInvalidShape, IsBadObjectId, IsCauseOfStatus, options_of_flags}
+use Rattle.vbson.specs.Convert.{IsInvalidExtendedJson, IsInvalidShape, IsBadObjectId, IsCauseOfStatus, options_of_call}
 use Rattle.vbson.specs.Documents.{depth}
 use Rattle.vbson.specs.declared.options.CallOptions.{CallOptions}
 
@@ -25,37 +25,37 @@ preprocessing_of options =
     else (if options.v1 == 1 then Some Legacy else None)
 
 -- preprocessing accepts the text, and these bytes are read instead of it
-abbrev pub IsReadAs : Option Preprocessing → (text read : List ℕ) → Type 0
-IsReadAs None text read = read ≡ text
-IsReadAs (Some preprocessing) text read = IsPreprocessedAs preprocessing text read
+abbrev pub TextIsReadAs : Option Preprocessing → (text read_text : List ℕ) → Type 0
+TextIsReadAs None text read_text = read_text ≡ text
+TextIsReadAs (Some preprocessing) text read_text = IsPreprocessedAs preprocessing text read_text
 
 -- preprocessing rejects the text
-abbrev pub HasRejectedKey : Option Preprocessing → List ℕ → Type 0
+abbrev pub HasRejectedKey : Option Preprocessing → (text : List ℕ) → Type 0
 HasRejectedKey None text = ⊥
 HasRejectedKey (Some preprocessing) text = (place : Place) × IsRejectedByPreprocessing preprocessing place text
 
 -- under the options the text denotes the value
 pub record MeansUnder (options : CallOptions) (text : List ℕ) (value : Value) : Type 0 where
-  pub read : List ℕ
-  pub read_as : IsReadAs (preprocessing_of options) text read
-  pub meaning : HasTextMeaningIn (options_of_flags options).doubles read value
+  pub read_text : List ℕ
+  pub read_as : TextIsReadAs (preprocessing_of options) text read_text
+  pub meaning : HasTextMeaningIn (options_of_call options).doubles read_text value
 
 -- the text that is read instead of this one is rejected for the cause
 pub record IsReadAndRejected (options : CallOptions) (cause : List ℕ → Type 0) (text : List ℕ) : Type 0 where
-  pub read : List ℕ
-  pub read_as : IsReadAs (preprocessing_of options) text read
-  pub rejected : cause read
+  pub read_text : List ℕ
+  pub read_as : TextIsReadAs (preprocessing_of options) text read_text
+  pub rejected : cause read_text
 
-abbrev pub IsNotJsonUnder : CallOptions → List ℕ → Type 0
+abbrev pub IsNotJsonUnder : CallOptions → (text : List ℕ) → Type 0
 IsNotJsonUnder options = IsReadAndRejected options IsNotJsonText
 
-abbrev pub HasBadObjectIdUnder : CallOptions → List ℕ → Type 0
-HasBadObjectIdUnder options = IsReadAndRejected options (IsInvalidExtendedJson (options_of_flags options) IsBadObjectId)
+abbrev pub HasBadObjectIdUnder : CallOptions → (text : List ℕ) → Type 0
+HasBadObjectIdUnder options = IsReadAndRejected options (IsInvalidExtendedJson (options_of_call options) IsBadObjectId)
 
-abbrev pub IsInvalidUnder : CallOptions → List ℕ → Type 0
+abbrev pub IsInvalidUnder : CallOptions → (text : List ℕ) → Type 0
 IsInvalidUnder options text =
     HasRejectedKey (preprocessing_of options) text
-    ⊎ IsReadAndRejected options (IsInvalidExtendedJson (options_of_flags options) IsInvalidShape) text
+    ⊎ IsReadAndRejected options (IsInvalidExtendedJson (options_of_call options) IsInvalidShape) text
 
 -- ---- documents
 
@@ -66,16 +66,16 @@ duplicate_keys_of options = if options.duplicate_keys == 1 then Refuse else Repl
 -- under the options the bytes are the document that the value is
 pub record IsDocumentUnder (options : CallOptions) (bytes : List ℕ) (value : Value) : Type 0 where
   pub pairs : Pairs
-  pub read : IsReadIn (duplicate_keys_of options) depth bytes pairs
-  pub is : value ≡ document pairs
+  pub read : IsReadAsDocumentIn (duplicate_keys_of options) depth bytes pairs
+  pub is_document : value ≡ document pairs
 
-abbrev pub IsNotDocumentUnder : CallOptions → List ℕ → Type 0
+abbrev pub IsNotDocumentUnder : CallOptions → (bytes : List ℕ) → Type 0
 IsNotDocumentUnder options bytes = (value : Value) → IsDocumentUnder options bytes value → ⊥
 
 -- ---- for private clauses
 
 -- the cause of a fault of a text that preprocessing does not accept
-abbrev pub IsPreprocessingFault : Option Preprocessing → Error → List ℕ → Type 0
+abbrev pub IsPreprocessingFault : Option Preprocessing → Error → (text : List ℕ) → Type 0
 IsPreprocessingFault None fault text = ⊥
 IsPreprocessingFault (Some preprocessing) fault text = IsPreprocessingError preprocessing fault text
 

@@ -12,7 +12,7 @@ ghost use Rattle.bson_types.specs.declared.spec.ElementType.TheVariants as tag;
 ghost use Rattle.vbson.specs.Documents.{IsOneDocument};
 ghost use Rattle.vbson.specs.Builder.{Appends, AppendsScalar, HasSameBytes, is_true, length_placeholder};
 
-use crate::builder::{Builder, Element, append, is_text};
+use crate::builder::{Builder, Element, append_element, is_text};
 use crate::documents::vbson_is_document;
 use crate::raw::RawValue;
 use crate::status;
@@ -23,15 +23,15 @@ use bson_types::spec::ElementType;
 pub extern "C" fn vbson_append_document_begin(
     builder: &mut Builder<'_>,
     key: &[u8],
-    start: &mut usize,
+    start_offset: &mut usize,
 ) -> u32
     ensures appended { Appends tag.EmbeddedDocument key.now length_placeholder result builder.old builder.new }
-    ensures start { result ≡ 0 → start.new + 4 ≡ builder.new.len }
+    ensures start_offset { result ≡ 0 → start_offset.new + 4 ≡ builder.new.len }
     ensures not_utf8 { result ≡ 6 → is_utf8 key.now ≡ false }
     ensures possible_statuses { (result ≡ 0) ⊎ (result ≡ 6) ⊎ (result ≡ 8) ⊎ (result ≡ 11) }
-    ensures unchanged { 0 < result → start.new ≡ start.old }
+    ensures unchanged { 0 < result → start_offset.new ≡ start_offset.old }
 {
-    begin(builder, ElementType::EmbeddedDocument, key, start)
+    begin_container(builder, ElementType::EmbeddedDocument, key, start_offset)
 }
 
 /// Begins an array as the value of the key, and sets the position of its beginning.
@@ -39,15 +39,15 @@ pub extern "C" fn vbson_append_document_begin(
 pub extern "C" fn vbson_append_array_begin(
     builder: &mut Builder<'_>,
     key: &[u8],
-    start: &mut usize,
+    start_offset: &mut usize,
 ) -> u32
     ensures appended { Appends tag.Array key.now length_placeholder result builder.old builder.new }
-    ensures start { result ≡ 0 → start.new + 4 ≡ builder.new.len }
+    ensures start_offset { result ≡ 0 → start_offset.new + 4 ≡ builder.new.len }
     ensures not_utf8 { result ≡ 6 → is_utf8 key.now ≡ false }
     ensures possible_statuses { (result ≡ 0) ⊎ (result ≡ 6) ⊎ (result ≡ 8) ⊎ (result ≡ 11) }
-    ensures unchanged { 0 < result → start.new ≡ start.old }
+    ensures unchanged { 0 < result → start_offset.new ≡ start_offset.old }
 {
-    begin(builder, ElementType::Array, key, start)
+    begin_container(builder, ElementType::Array, key, start_offset)
 }
 
 /// Appends a value of the caller's bytes.
@@ -59,7 +59,7 @@ pub extern "C" fn vbson_append_value(
 ) -> u32
     ensures appended { (type : ElementType) → tag_of type ≡ value.now.kind
         → Appends type key.now (take value.now.len value.now.bytes.now) result builder.old builder.new }
-    ensures typed { result ≡ 0
+    ensures valid_value { result ≡ 0
         → (value.now.len ≤ length value.now.bytes.now) × ((type : ElementType) × (tag_of type ≡ value.now.kind)) }
     ensures no_value { result ≡ 1
         → (length value.now.bytes.now < value.now.len) ⊎ ((type : ElementType) → tag_of type ≢ value.now.kind) }
@@ -73,31 +73,31 @@ pub extern "C" fn vbson_append_value(
     if value.bytes.len() < value.len {
         return status::INVALID_ARGUMENT;
     }
-    append_bytes(builder, kind, key, &value.bytes[..value.len])
+    append_value_bytes(builder, kind, key, &value.bytes[..value.len])
 }
 
 /// Appends a document, which is checked as `vbson_is_document` does.
 #[unsafe(no_mangle)]
 pub extern "C" fn vbson_append_document(builder: &mut Builder<'_>, key: &[u8], bytes: &[u8]) -> u32
     ensures appended { Appends tag.EmbeddedDocument key.now bytes.now result builder.old builder.new }
-    ensures checked { result ≡ 0 → IsOneDocument bytes.now }
+    ensures is_document { result ≡ 0 → IsOneDocument bytes.now }
     ensures no_document { result ≡ 10 → IsOneDocument bytes.now → ⊥ }
     ensures not_utf8 { result ≡ 6 → is_utf8 key.now ≡ false }
     ensures possible_statuses { (result ≡ 0) ⊎ (result ≡ 6) ⊎ (result ≡ 8) ⊎ (result ≡ 10) ⊎ (result ≡ 11) }
 {
-    append_checked(builder, ElementType::EmbeddedDocument, key, bytes)
+    append_checked_document(builder, ElementType::EmbeddedDocument, key, bytes)
 }
 
 /// Appends an array, whose bytes are those of a document, which is checked as `vbson_is_document` does.
 #[unsafe(no_mangle)]
 pub extern "C" fn vbson_append_array(builder: &mut Builder<'_>, key: &[u8], bytes: &[u8]) -> u32
     ensures appended { Appends tag.Array key.now bytes.now result builder.old builder.new }
-    ensures checked { result ≡ 0 → IsOneDocument bytes.now }
+    ensures is_document { result ≡ 0 → IsOneDocument bytes.now }
     ensures no_document { result ≡ 10 → IsOneDocument bytes.now → ⊥ }
     ensures not_utf8 { result ≡ 6 → is_utf8 key.now ≡ false }
     ensures possible_statuses { (result ≡ 0) ⊎ (result ≡ 6) ⊎ (result ≡ 8) ⊎ (result ≡ 10) ⊎ (result ≡ 11) }
 {
-    append_checked(builder, ElementType::Array, key, bytes)
+    append_checked_document(builder, ElementType::Array, key, bytes)
 }
 
 /// Appends an integer of 32 bits.
@@ -107,11 +107,11 @@ pub extern "C" fn vbson_append_int32(builder: &mut Builder<'_>, key: &[u8], valu
     ensures not_utf8 { result ≡ 6 → is_utf8 key.now ≡ false }
     ensures possible_statuses { (result ≡ 0) ⊎ (result ≡ 6) ⊎ (result ≡ 8) ⊎ (result ≡ 11) }
 {
-    append_bytes(
+    append_value_bytes(
         builder,
         ElementType::Int32,
         key,
-        &le_32(value.cast_unsigned()),
+        &little_endian_u32(value.cast_unsigned()),
     )
 }
 
@@ -122,11 +122,11 @@ pub extern "C" fn vbson_append_int64(builder: &mut Builder<'_>, key: &[u8], valu
     ensures not_utf8 { result ≡ 6 → is_utf8 key.now ≡ false }
     ensures possible_statuses { (result ≡ 0) ⊎ (result ≡ 6) ⊎ (result ≡ 8) ⊎ (result ≡ 11) }
 {
-    append_bytes(
+    append_value_bytes(
         builder,
         ElementType::Int64,
         key,
-        &le_64(value.cast_unsigned()),
+        &little_endian_u64(value.cast_unsigned()),
     )
 }
 
@@ -137,7 +137,7 @@ pub extern "C" fn vbson_append_double(builder: &mut Builder<'_>, key: &[u8], val
     ensures not_utf8 { result ≡ 6 → is_utf8 key.now ≡ false }
     ensures possible_statuses { (result ≡ 0) ⊎ (result ≡ 6) ⊎ (result ≡ 8) ⊎ (result ≡ 11) }
 {
-    append_bytes(builder, ElementType::Double, key, &le_64(value))
+    append_value_bytes(builder, ElementType::Double, key, &little_endian_u64(value))
 }
 
 /// Appends a boolean: 0 is false, and any other number is true.
@@ -147,7 +147,7 @@ pub extern "C" fn vbson_append_boolean(builder: &mut Builder<'_>, key: &[u8], va
     ensures not_utf8 { result ≡ 6 → is_utf8 key.now ≡ false }
     ensures possible_statuses { (result ≡ 0) ⊎ (result ≡ 6) ⊎ (result ≡ 8) ⊎ (result ≡ 11) }
 {
-    append_bytes(builder, ElementType::Boolean, key, &[u8::from(value != 0)])
+    append_value_bytes(builder, ElementType::Boolean, key, &[u8::from(value != 0)])
 }
 
 /// Appends the null value.
@@ -157,14 +157,14 @@ pub extern "C" fn vbson_append_null(builder: &mut Builder<'_>, key: &[u8]) -> u3
     ensures not_utf8 { result ≡ 6 → is_utf8 key.now ≡ false }
     ensures possible_statuses { (result ≡ 0) ⊎ (result ≡ 6) ⊎ (result ≡ 8) ⊎ (result ≡ 11) }
 {
-    append_bytes(builder, ElementType::Null, key, &[])
+    append_value_bytes(builder, ElementType::Null, key, &[])
 }
 
 /// Appends a string.
 #[unsafe(no_mangle)]
 pub extern "C" fn vbson_append_string(builder: &mut Builder<'_>, key: &[u8], text: &[u8]) -> u32
     ensures appended { AppendsScalar key.now (scalar.text text.now) result builder.old builder.new }
-    ensures typed { result ≡ 0 → IsText text.now }
+    ensures valid_value { result ≡ 0 → IsText text.now }
     ensures not_utf8 { result ≡ 6 → (is_utf8 key.now ≡ false) ⊎ (is_utf8 text.now ≡ false) }
     ensures too_long { result ≡ 13 → 2 ^ 31 ≤ length text.now + 1 }
     ensures possible_statuses { (result ≡ 0) ⊎ (result ≡ 6) ⊎ (result ≡ 8) ⊎ (result ≡ 11) ⊎ (result ≡ 13) }
@@ -175,7 +175,7 @@ pub extern "C" fn vbson_append_string(builder: &mut Builder<'_>, key: &[u8], tex
     if !is_text(text) {
         return status::INVALID_STRING;
     }
-    let length = le_32(text.len() as u32 + 1);
+    let length = little_endian_u32(text.len() as u32 + 1);
     let element = Element {
         kind: ElementType::String,
         key,
@@ -183,7 +183,7 @@ pub extern "C" fn vbson_append_string(builder: &mut Builder<'_>, key: &[u8], tex
         value_body: text,
         value_tail: &[0],
     };
-    append(builder, element)
+    append_element(builder, element)
 }
 
 /// Appends an object id.
@@ -197,7 +197,7 @@ pub extern "C" fn vbson_append_object_id(
     ensures not_utf8 { result ≡ 6 → is_utf8 key.now ≡ false }
     ensures possible_statuses { (result ≡ 0) ⊎ (result ≡ 6) ⊎ (result ≡ 8) ⊎ (result ≡ 11) }
 {
-    append_bytes(builder, ElementType::ObjectId, key, id)
+    append_value_bytes(builder, ElementType::ObjectId, key, id)
 }
 
 /// Appends a date-time, in milliseconds since 1970-01-01T00:00:00Z.
@@ -207,11 +207,11 @@ pub extern "C" fn vbson_append_date_time(builder: &mut Builder<'_>, key: &[u8], 
     ensures not_utf8 { result ≡ 6 → is_utf8 key.now ≡ false }
     ensures possible_statuses { (result ≡ 0) ⊎ (result ≡ 6) ⊎ (result ≡ 8) ⊎ (result ≡ 11) }
 {
-    append_bytes(
+    append_value_bytes(
         builder,
         ElementType::DateTime,
         key,
-        &le_64(millis.cast_unsigned()),
+        &little_endian_u64(millis.cast_unsigned()),
     )
 }
 
@@ -223,8 +223,9 @@ pub extern "C" fn vbson_append_binary(
     subtype: u32,
     bytes: &[u8],
 ) -> u32
-    ensures appended { AppendsScalar key.now (scalar.binary (subtype_of subtype) bytes.now) result builder.old builder.new }
-    ensures typed { result ≡ 0 → (subtype < 256) × IsLength (subtyped_size subtype bytes.now) }
+    ensures appended { AppendsScalar key.now
+        (scalar.binary (subtype_of subtype) bytes.now) result builder.old builder.new }
+    ensures valid_value { result ≡ 0 → (subtype < 256) × IsLength (subtyped_size subtype bytes.now) }
     ensures no_subtype { result ≡ 1 → 256 ≤ subtype }
     ensures not_utf8 { result ≡ 6 → is_utf8 key.now ≡ false }
     ensures too_long { result ≡ 13 → 2 ^ 31 ≤ subtyped_size subtype bytes.now }
@@ -251,13 +252,13 @@ pub extern "C" fn vbson_append_decimal128(
     ensures not_utf8 { result ≡ 6 → is_utf8 key.now ≡ false }
     ensures possible_statuses { (result ≡ 0) ⊎ (result ≡ 6) ⊎ (result ≡ 8) ⊎ (result ≡ 11) }
 {
-    append_bytes(builder, ElementType::Decimal128, key, bytes)
+    append_value_bytes(builder, ElementType::Decimal128, key, bytes)
 }
 
 // Appends binary data, whose subtype is not 2.
 fn append_plain_binary(builder: &mut Builder<'_>, key: &[u8], subtype: u8, bytes: &[u8]) -> u32
     ensures appended { Appends tag.Binary key.now (binary_bytes subtype bytes.now) result builder.old builder.new }
-    ensures typed { result ≡ 0 → IsLength (length bytes.now) }
+    ensures valid_value { result ≡ 0 → IsLength (length bytes.now) }
     ensures not_utf8 { result ≡ 6 → is_utf8 key.now ≡ false }
     ensures too_long { result ≡ 13 → 2 ^ 31 ≤ length bytes.now }
     ensures possible_statuses { (result ≡ 0) ⊎ (result ≡ 6) ⊎ (result ≡ 8) ⊎ (result ≡ 11) ⊎ (result ≡ 13) }
@@ -265,7 +266,7 @@ fn append_plain_binary(builder: &mut Builder<'_>, key: &[u8], subtype: u8, bytes
     if bytes.len() >= 0x8000_0000 {
         return status::TOO_LONG;
     }
-    let length = le_32(bytes.len() as u32);
+    let length = little_endian_u32(bytes.len() as u32);
     let element = Element {
         kind: ElementType::Binary,
         key,
@@ -273,14 +274,14 @@ fn append_plain_binary(builder: &mut Builder<'_>, key: &[u8], subtype: u8, bytes
         value_body: &[subtype],
         value_tail: bytes,
     };
-    append(builder, element)
+    append_element(builder, element)
 }
 
 // Appends binary data of the subtype 2, which has a length of its own before its bytes.
 #[tactic(auto, unfolding(bson_bytes::specs::Grammar::little_endian))]
 fn append_old_binary(builder: &mut Builder<'_>, key: &[u8], bytes: &[u8]) -> u32
     ensures appended { Appends tag.Binary key.now (old_binary_bytes bytes.now) result builder.old builder.new }
-    ensures typed { result ≡ 0 → IsLength (length bytes.now + 4) }
+    ensures valid_value { result ≡ 0 → IsLength (length bytes.now + 4) }
     ensures not_utf8 { result ≡ 6 → is_utf8 key.now ≡ false }
     ensures too_long { result ≡ 13 → 2 ^ 31 ≤ length bytes.now + 4 }
     ensures possible_statuses { (result ≡ 0) ⊎ (result ≡ 6) ⊎ (result ≡ 8) ⊎ (result ≡ 11) ⊎ (result ≡ 13) }
@@ -288,37 +289,53 @@ fn append_old_binary(builder: &mut Builder<'_>, key: &[u8], bytes: &[u8]) -> u32
     if bytes.len() >= 0x7fff_fffc {
         return status::TOO_LONG;
     }
-    let outer = le_32(bytes.len() as u32 + 4);
-    let inner = (bytes.len() as u32).to_le_bytes();
+    let outer_length = little_endian_u32(bytes.len() as u32 + 4);
+    let inner_length = (bytes.len() as u32).to_le_bytes();
     let element = Element {
         kind: ElementType::Binary,
         key,
-        value_head: &outer,
-        value_body: &[2, inner[0], inner[1], inner[2], inner[3]],
+        value_head: &outer_length,
+        value_body: &[
+            2,
+            inner_length[0],
+            inner_length[1],
+            inner_length[2],
+            inner_length[3],
+        ],
         value_tail: bytes,
     };
-    append(builder, element)
+    append_element(builder, element)
 }
 
 // Begins a document or an array as the value of the key.
-fn begin(builder: &mut Builder<'_>, kind: ElementType, key: &[u8], start: &mut usize) -> u32
+fn begin_container(
+    builder: &mut Builder<'_>,
+    kind: ElementType,
+    key: &[u8],
+    start_offset: &mut usize,
+) -> u32
     ensures appended { Appends kind key.now length_placeholder result builder.old builder.new }
-    ensures start { result ≡ 0 → start.new + 4 ≡ builder.new.len }
+    ensures start_offset { result ≡ 0 → start_offset.new + 4 ≡ builder.new.len }
     ensures not_utf8 { result ≡ 6 → is_utf8 key.now ≡ false }
     ensures possible_statuses { (result ≡ 0) ⊎ (result ≡ 6) ⊎ (result ≡ 8) ⊎ (result ≡ 11) }
-    ensures unchanged { 0 < result → start.new ≡ start.old }
+    ensures unchanged { 0 < result → start_offset.new ≡ start_offset.old }
 {
-    let status = append_bytes(builder, kind, key, &[0, 0, 0, 0]);
+    let status = append_value_bytes(builder, kind, key, &[0, 0, 0, 0]);
     if status == status::OK {
-        *start = builder.len - 4;
+        *start_offset = builder.len - 4;
     }
     status
 }
 
 // Appends a document or an array, if the bytes are a document.
-fn append_checked(builder: &mut Builder<'_>, kind: ElementType, key: &[u8], bytes: &[u8]) -> u32
+fn append_checked_document(
+    builder: &mut Builder<'_>,
+    kind: ElementType,
+    key: &[u8],
+    bytes: &[u8],
+) -> u32
     ensures appended { Appends kind key.now bytes.now result builder.old builder.new }
-    ensures checked { result ≡ 0 → IsOneDocument bytes.now }
+    ensures is_document { result ≡ 0 → IsOneDocument bytes.now }
     ensures no_document { result ≡ 10 → IsOneDocument bytes.now → ⊥ }
     ensures not_utf8 { result ≡ 6 → is_utf8 key.now ≡ false }
     ensures possible_statuses { (result ≡ 0) ⊎ (result ≡ 6) ⊎ (result ≡ 8) ⊎ (result ≡ 10) ⊎ (result ≡ 11) }
@@ -327,11 +344,11 @@ fn append_checked(builder: &mut Builder<'_>, kind: ElementType, key: &[u8], byte
     if status != status::OK {
         return status;
     }
-    append_bytes(builder, kind, key, bytes)
+    append_value_bytes(builder, kind, key, bytes)
 }
 
 // Appends an element with the bytes of its value.
-fn append_bytes(builder: &mut Builder<'_>, kind: ElementType, key: &[u8], bytes: &[u8]) -> u32
+fn append_value_bytes(builder: &mut Builder<'_>, kind: ElementType, key: &[u8], bytes: &[u8]) -> u32
     ensures appended { Appends kind key.now bytes.now result builder.old builder.new }
     ensures not_utf8 { result ≡ 6 → is_utf8 key.now ≡ false }
     ensures possible_statuses { (result ≡ 0) ⊎ (result ≡ 6) ⊎ (result ≡ 8) ⊎ (result ≡ 11) }
@@ -343,12 +360,12 @@ fn append_bytes(builder: &mut Builder<'_>, kind: ElementType, key: &[u8], bytes:
         value_body: &[],
         value_tail: &[],
     };
-    append(builder, element)
+    append_element(builder, element)
 }
 
 // Returns the bytes of a number of 32 bits, the lowest first.
 #[tactic(auto, unfolding(bson_bytes::specs::Grammar::little_endian))]
-fn le_32(number: u32) -> [u8; 4]
+fn little_endian_u32(number: u32) -> [u8; 4]
     ensures { result ≡ little_endian w32 number }
 {
     number.to_le_bytes()
@@ -356,7 +373,7 @@ fn le_32(number: u32) -> [u8; 4]
 
 // Returns the bytes of a number of 64 bits, the lowest first.
 #[tactic(auto, unfolding(bson_bytes::specs::Grammar::little_endian))]
-fn le_64(number: u64) -> [u8; 8]
+fn little_endian_u64(number: u64) -> [u8; 8]
     ensures { result ≡ little_endian w64 number }
 {
     number.to_le_bytes()

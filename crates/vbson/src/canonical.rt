@@ -1,7 +1,7 @@
 //! Whether a text is canonical.
 ghost use Rattle.std.specs.Prelude.{◌≡◌, ◌⊎◌, ◌↔◌};
 ghost use Rattle.bson_convert.specs.Convert.{IsCanonicalText};
-ghost use Rattle.vbson.specs.Convert.{options_of_flags};
+ghost use Rattle.vbson.specs.Convert.{options_of_call};
 ghost use Rattle.vbson.specs.Options.{AreNotForConversion, AreNotForReading};
 
 use crate::options::{CallOptions, are_not_for_conversion, are_not_for_reading, options_of};
@@ -18,8 +18,8 @@ pub extern "C" fn vbson_is_canonical_text_nonnull(
     options: &CallOptions,
     text: &[u8],
 ) -> u32
-    ensures success { result ≡ 0 → IsCanonicalText (options_of_flags options.now) text.now }
-    ensures not_canonical { result ≡ 16 → IsCanonicalText (options_of_flags options.now) text.now → ⊥ }
+    ensures success { result ≡ 0 → IsCanonicalText (options_of_call options.now) text.now }
+    ensures not_canonical { result ≡ 16 → IsCanonicalText (options_of_call options.now) text.now → ⊥ }
     ensures invalid_argument { result ≡ 1 ↔ AreNotForConversion options.now ⊎ AreNotForReading options.now }
     ensures possible_statuses { (result ≡ 0) ⊎ (result ≡ 1) ⊎ (result ≡ 5) ⊎ (result ≡ 16) }
 {

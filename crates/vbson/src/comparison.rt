@@ -6,7 +6,7 @@ ghost use Rattle.bson_model.specs.Value.{Value};
 ghost use Rattle.vbson.specs.Options.{AreNotForReading};
 ghost use Rattle.vbson.specs.Reading.{HasBadObjectIdUnder, IsInvalidUnder, IsDocumentUnder, IsNotDocumentUnder};
 ghost use Rattle.vbson.specs.Reading.{IsNotJsonUnder, MeansUnder};
-ghost use Rattle.vbson.specs.Comparison.{CompareAs, IsHashOf, RejectsOne, hash_of, comparison_status};
+ghost use Rattle.vbson.specs.Comparison.{InputsCompareAs, IsHashOf, RejectsEither, hash_of, comparison_status};
 
 use crate::options::{CallOptions, are_not_for_reading};
 use crate::reading::{value_of_document, value_of_text};
@@ -15,7 +15,7 @@ use bson::Bson;
 use std::alloc::Global;
 use std::hash::{DefaultHasher, Hash, Hasher};
 
-/// Compares the values of two texts. Returns `DONE` if they are the same: of the same kind, arrays
+/// Compares the values of two texts. Returns `OK` if they are the same: of the same kind, arrays
 /// element by element, and documents with the same keys and the same values under each, in any
 /// order. Returns `DIFFERENT` if they are not.
 ///
@@ -25,30 +25,34 @@ use std::hash::{DefaultHasher, Hash, Hasher};
 pub extern "C" fn vbson_same_nonnull(
     alloc: Global,
     options: &CallOptions,
-    a: &[u8],
-    b: &[u8],
+    left_input: &[u8],
+    right_input: &[u8],
 ) -> u32
-    ensures same { result ≡ 0 → CompareAs (MeansUnder options.now) a.now b.now true }
-    ensures different { result ≡ 9 → CompareAs (MeansUnder options.now) a.now b.now false }
-    ensures accepts { (v w : Value) → MeansUnder options.now a.now v → MeansUnder options.now b.now w
-        → (result ≡ comparison_status (same v w)) ⊎ (result ≡ 1) ⊎ (result ≡ 5) }
+    ensures same { result ≡ 0 → InputsCompareAs (MeansUnder options.now) left_input.now right_input.now true }
+    ensures different { result ≡ 9 → InputsCompareAs (MeansUnder options.now) left_input.now right_input.now false }
+    ensures accepts { (left_value right_value : Value) → MeansUnder options.now left_input.now left_value
+        → MeansUnder options.now right_input.now right_value
+        → (result ≡ comparison_status (same left_value right_value)) ⊎ (result ≡ 1) ⊎ (result ≡ 5) }
 
     // When each other status comes.
     ensures invalid_argument { result ≡ 1 ↔ AreNotForReading options.now }
-    ensures not_json { result ≡ 2 → RejectsOne (MeansUnder options.now) (IsNotJsonUnder options.now) a.now b.now }
-    ensures bad_object_id { result ≡ 3 → RejectsOne (MeansUnder options.now) (HasBadObjectIdUnder options.now) a.now b.now }
-    ensures not_extended_json { result ≡ 4 → RejectsOne (MeansUnder options.now) (IsInvalidUnder options.now) a.now b.now }
+    ensures not_json { result ≡ 2
+        → RejectsEither (MeansUnder options.now) (IsNotJsonUnder options.now) left_input.now right_input.now }
+    ensures bad_object_id { result ≡ 3
+        → RejectsEither (MeansUnder options.now) (HasBadObjectIdUnder options.now) left_input.now right_input.now }
+    ensures not_extended_json { result ≡ 4
+        → RejectsEither (MeansUnder options.now) (IsInvalidUnder options.now) left_input.now right_input.now }
     ensures possible_statuses { (result ≤ 5) ⊎ (result ≡ 9) }
 {
     if are_not_for_reading(*options) {
         return status::INVALID_ARGUMENT;
     }
-    let left = match value_of_text(alloc, *options, a) {
+    let left_bson = match value_of_text(alloc, *options, left_input) {
         Ok(value) => value,
         Err(status) => return status,
     };
-    match value_of_text(alloc, *options, b) {
-        Ok(right) => compare(&left, &right),
+    match value_of_text(alloc, *options, right_input) {
+        Ok(right_bson) => compare_values(&left_bson, &right_bson),
         Err(status) => status,
     }
 }
@@ -64,8 +68,8 @@ pub extern "C" fn vbson_hash_nonnull(
     out: &mut u64,
 ) -> u32
     ensures success { result ≡ 0 → IsHashOf (MeansUnder options.now) text.now out.new }
-    ensures accepts { (v : Value) → MeansUnder options.now text.now v
-        → ((result ≡ 0) × (out.new ≡ hash_of v)) ⊎ (result ≡ 1) ⊎ (result ≡ 5) }
+    ensures accepts { (read_value : Value) → MeansUnder options.now text.now read_value
+        → ((result ≡ 0) × (out.new ≡ hash_of read_value)) ⊎ (result ≡ 1) ⊎ (result ≡ 5) }
 
     // When each other status comes, and that nothing is written then.
     ensures invalid_argument { result ≡ 1 ↔ AreNotForReading options.now }
@@ -93,29 +97,31 @@ pub extern "C" fn vbson_hash_nonnull(
 pub extern "C" fn vbson_same_documents_nonnull(
     alloc: Global,
     options: &CallOptions,
-    a: &[u8],
-    b: &[u8],
+    left_input: &[u8],
+    right_input: &[u8],
 ) -> u32
-    ensures same { result ≡ 0 → CompareAs (IsDocumentUnder options.now) a.now b.now true }
-    ensures different { result ≡ 9 → CompareAs (IsDocumentUnder options.now) a.now b.now false }
-    ensures accepts { (v w : Value) → IsDocumentUnder options.now a.now v → IsDocumentUnder options.now b.now w
-        → (result ≡ comparison_status (same v w)) ⊎ (result ≡ 1) ⊎ (result ≡ 5) }
+    ensures same { result ≡ 0 → InputsCompareAs (IsDocumentUnder options.now) left_input.now right_input.now true }
+    ensures different { result ≡ 9
+        → InputsCompareAs (IsDocumentUnder options.now) left_input.now right_input.now false }
+    ensures accepts { (left_value right_value : Value) → IsDocumentUnder options.now left_input.now left_value
+        → IsDocumentUnder options.now right_input.now right_value
+        → (result ≡ comparison_status (same left_value right_value)) ⊎ (result ≡ 1) ⊎ (result ≡ 5) }
 
     // When each other status comes.
     ensures invalid_argument { result ≡ 1 ↔ AreNotForReading options.now }
     ensures no_document { result ≡ 10
-        → RejectsOne (IsDocumentUnder options.now) (IsNotDocumentUnder options.now) a.now b.now }
+        → RejectsEither (IsDocumentUnder options.now) (IsNotDocumentUnder options.now) left_input.now right_input.now }
     ensures possible_statuses { (result ≤ 1) ⊎ (result ≡ 5) ⊎ (result ≡ 9) ⊎ (result ≡ 10) }
 {
     if are_not_for_reading(*options) {
         return status::INVALID_ARGUMENT;
     }
-    let left = match value_of_document(alloc, *options, a) {
+    let left_bson = match value_of_document(alloc, *options, left_input) {
         Ok(document) => document,
         Err(status) => return status,
     };
-    match value_of_document(alloc, *options, b) {
-        Ok(right) => compare(&left, &right),
+    match value_of_document(alloc, *options, right_input) {
+        Ok(right_bson) => compare_values(&left_bson, &right_bson),
         Err(status) => status,
     }
 }
@@ -130,8 +136,8 @@ pub extern "C" fn vbson_hash_document_nonnull(
     out: &mut u64,
 ) -> u32
     ensures success { result ≡ 0 → IsHashOf (IsDocumentUnder options.now) bytes.now out.new }
-    ensures accepts { (v : Value) → IsDocumentUnder options.now bytes.now v
-        → ((result ≡ 0) × (out.new ≡ hash_of v)) ⊎ (result ≡ 1) ⊎ (result ≡ 5) }
+    ensures accepts { (read_value : Value) → IsDocumentUnder options.now bytes.now read_value
+        → ((result ≡ 0) × (out.new ≡ hash_of read_value)) ⊎ (result ≡ 1) ⊎ (result ≡ 5) }
 
     // When each other status comes, and that nothing is written then.
     ensures invalid_argument { result ≡ 1 ↔ AreNotForReading options.now }
@@ -152,10 +158,10 @@ pub extern "C" fn vbson_hash_document_nonnull(
 }
 
 // Returns the status for whether two values are the same.
-fn compare(left: &Bson, right: &Bson) -> u32
-    ensures { result ≡ comparison_status (same (bson_view left.now) (bson_view right.now)) }
+fn compare_values(left_bson: &Bson, right_bson: &Bson) -> u32
+    ensures { result ≡ comparison_status (same (bson_view left_bson.now) (bson_view right_bson.now)) }
 {
-    if left == right {
+    if left_bson == right_bson {
         status::OK
     } else {
         status::DIFFERENT
@@ -164,7 +170,8 @@ fn compare(left: &Bson, right: &Bson) -> u32
 
 fn hash_of(value: &Bson) -> u64
     ensures hash { result ≡ hash_of (bson_view value.now) }
-    ensures equal_values_hash_alike { (other : Value) → same (bson_view value.now) other ≡ true → hash_of other ≡ result }
+    ensures equal_values_hash_alike { (equal_value : Value) → same (bson_view value.now) equal_value ≡ true
+        → hash_of equal_value ≡ result }
 {
     let mut hasher = DefaultHasher::new();
     value.hash(&mut hasher);

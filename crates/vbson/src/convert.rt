@@ -10,7 +10,7 @@ ghost use Rattle.bson_convert.specs.declared.mode.Mode.{Mode};
 ghost use Rattle.vbson.specs.Convert.{IsInvalidExtendedJson, IsInvalidShape, IsBadObjectId, IsCauseOfStatus};
 ghost use Rattle.bson_run.specs.InOrder.{ConvertsBy};
 ghost use Rattle.vbson.specs.Convert.{IsConvertedBy, IsTextError};
-ghost use Rattle.vbson.specs.Convert.{mode_of_number, options_of_flags, status_of};
+ghost use Rattle.vbson.specs.Convert.{mode_of_number, options_of_call, status_of};
 ghost use Rattle.vbson.specs.Options.{AreNotForConversion};
 ghost use Rattle.vbson.specs.Text.{nul};
 
@@ -37,18 +37,21 @@ pub extern "C" fn vbson_convert_nonnull(
     text: &[u8],
     out: &mut Text<'static>,
 ) -> u32
-    ensures success { result ≡ 0 → IsConvertedBy (options_of_flags options.now) mode text.now out.new }
-    ensures one { result ≡ 0 → (selected : Mode) (other : List ℕ) → mode_of_number mode ≡ Some selected
-        → ConvertsBy (options_of_flags options.now).key_order (options_of_flags options.now) selected text.now (other ++ newline)
-        → out.new.bytes.now ≡ other ++ nul }
+    ensures success { result ≡ 0 → IsConvertedBy (options_of_call options.now) mode text.now out.new }
+    ensures unique_text { result ≡ 0 → (selected_mode : Mode) (converted_text : List ℕ)
+        → mode_of_number mode ≡ Some selected_mode
+        → ConvertsBy (options_of_call options.now).key_order (options_of_call options.now) selected_mode text.now
+        (converted_text ++ newline)
+        → out.new.bytes.now ≡ converted_text ++ nul }
     ensures accepts { (tree : Data) (value : model.Value) → IsTextOf text.now tree
-        → MeansIn (options_of_flags options.now).doubles tree value → 1 < result → result ≡ 5 }
+        → MeansIn (options_of_call options.now).doubles tree value → 1 < result → result ≡ 5 }
 
     // When each other status comes, and that nothing is left then.
     ensures invalid_argument { result ≡ 1 ↔ (2 < mode) ⊎ AreNotForConversion options.now }
     ensures not_json { result ≡ 2 → IsNotJsonText text.now }
-    ensures bad_object_id { result ≡ 3 → IsInvalidExtendedJson (options_of_flags options.now) IsBadObjectId text.now }
-    ensures not_extended_json { result ≡ 4 → IsInvalidExtendedJson (options_of_flags options.now) IsInvalidShape text.now }
+    ensures bad_object_id { result ≡ 3 → IsInvalidExtendedJson (options_of_call options.now) IsBadObjectId text.now }
+    ensures not_extended_json { result ≡ 4
+        → IsInvalidExtendedJson (options_of_call options.now) IsInvalidShape text.now }
     ensures possible_statuses { result ≤ 5 }
     ensures unchanged { 0 < result → out.new ≡ out.old }
 {
@@ -66,10 +69,10 @@ pub extern "C" fn vbson_convert_nonnull(
 }
 
 /// Returns the mode that a number selects.
-pub(crate) fn mode_of(number: u32) -> Option<Mode>
-    ensures { result ≡ mode_of_number number }
+pub(crate) fn mode_of(mode_number: u32) -> Option<Mode>
+    ensures { result ≡ mode_of_number mode_number }
 {
-    match number {
+    match mode_number {
         0 => Some(Mode::Canonical),
         1 => Some(Mode::Relaxed),
         2 => Some(Mode::Show),
@@ -81,7 +84,8 @@ pub(crate) fn mode_of(number: u32) -> Option<Mode>
 pub fn status_of(fault: Error) -> u32
     requires { IsTextError fault }
     ensures number { result ≡ status_of fault }
-    ensures cause { (options : Options) (bytes : List ℕ) → IsRejectedIn options fault bytes → IsCauseOfStatus options result bytes }
+    ensures cause { (options : Options) (bytes : List ℕ) → IsRejectedIn options fault bytes
+        → IsCauseOfStatus options result bytes }
     ensures possible_statuses { (options : Options) (bytes : List ℕ) → IsRejectedIn options fault bytes → result ≤ 5 }
 {
     match fault {

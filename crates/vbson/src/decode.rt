@@ -1,22 +1,22 @@
 //! Decodes the BSON bytes of a document to text.
 ghost use Rattle.std.specs.Prelude.{◌≡◌, ◌⊎◌, ◌↔◌, ◌<◌, ◌≤◌, ◌++◌, List, ℕ, IfOk, IfErr, IsUtf8, string_bytes, true};
 ghost use Rattle.bson.specs.View.{document_view};
-ghost use Rattle.bson_codec.specs.ReadDocuments.{IsRead};
+ghost use Rattle.bson_codec.specs.ReadDocuments.{IsReadAsDocument};
 ghost use Rattle.bson_model.specs.Displayed.{display_text};
 ghost use Rattle.bson_model.specs.Normal.{writable_in};
 ghost use Rattle.bson_model.specs.Value as model;
 ghost use Rattle.bson_model.specs.Value.{Pairs};
 ghost use Rattle.bson_convert.specs.Convert.{newline};
-ghost use Rattle.vbson.specs.Convert.{options_of_flags};
-ghost use Rattle.vbson.specs.Documents.{Decodes, HasNoText, IsDecoded, IsOneDocument, IsTextOfDocument, IsDecodeFailure};
-ghost use Rattle.vbson.specs.Documents.{HasNoTextIn, depth};
+ghost use Rattle.vbson.specs.Convert.{options_of_call};
+ghost use Rattle.vbson.specs.Documents.{Decodes, DocumentHasNoText, IsDecoded, IsOneDocument, IsTextOfDocument, IsDecodeFailure};
+ghost use Rattle.vbson.specs.Documents.{PairsHaveNoTextIn, depth};
 ghost use Rattle.vbson.specs.Options.{AreNotForConversion};
 
 use crate::convert::mode_of;
 use crate::options::{CallOptions, are_not_for_conversion, options_of};
 use crate::status;
 use crate::streaming::{decode_streaming, streaming_form};
-use crate::text::{Text, as_line, text_of_line};
+use crate::text::{Text, append_newline, text_of_line};
 use bson::extjson::{Form, Options, WriteError};
 use bson::{Bson, Document};
 use bson_codec::de::{DEPTH, Error, from_slice};
@@ -33,14 +33,14 @@ pub extern "C" fn vbson_decode_nonnull(
     bytes: &[u8],
     out: &mut Text<'static>,
 ) -> u32
-    ensures success { result ≡ 0 → IsDecoded (options_of_flags options.now) mode bytes.now out.new }
-    ensures accepts { (ps : Pairs) → IsRead depth bytes.now ps
-        → writable_in (options_of_flags options.now).doubles (model.document ps) ≡ true → 1 < result → result ≡ 5 }
+    ensures success { result ≡ 0 → IsDecoded (options_of_call options.now) mode bytes.now out.new }
+    ensures accepts { (pairs : Pairs) → IsReadAsDocument depth bytes.now pairs
+        → writable_in (options_of_call options.now).doubles (model.document pairs) ≡ true → 1 < result → result ≡ 5 }
 
     // When each other status comes, and that nothing is left then.
     ensures invalid_argument { result ≡ 1 ↔ (2 < mode) ⊎ AreNotForConversion options.now }
     ensures no_document { result ≡ 10 → IsOneDocument bytes.now → ⊥ }
-    ensures no_text { result ≡ 7 → HasNoText (options_of_flags options.now) mode bytes.now }
+    ensures no_text { result ≡ 7 → DocumentHasNoText (options_of_call options.now) mode bytes.now }
     ensures possible_statuses { (result ≡ 0) ⊎ (result ≡ 1) ⊎ (result ≡ 5) ⊎ (result ≡ 7) ⊎ (result ≡ 10) }
     ensures unchanged { 0 < result → out.new ≡ out.old }
 {
@@ -103,7 +103,7 @@ fn write_document(
         × IsTextOfDocument options mode (document_view document) text × IsUtf8 text
         × (line.items ≡ text ++ newline)) }
     ensures error_status { IfErr result
-        (λ status. (status ≡ 5) ⊎ ((status ≡ 7) × HasNoTextIn options mode (document_view document))) }
+        (λ status. (status ≡ 5) ⊎ ((status ≡ 7) × PairsHaveNoTextIn options mode (document_view document))) }
 {
     let form = match mode {
         Mode::Canonical => Form::Canonical,
@@ -111,7 +111,7 @@ fn write_document(
         Mode::Show => return show_document(alloc, &document),
     };
     match Bson::Document(document).into_text(alloc, options, form) {
-        Ok(text) => end_line(text),
+        Ok(text) => line_of_text(text),
         Err(WriteError::FiniteDouble) => Err(status::NOT_REPRESENTABLE),
         Err(WriteError::OutOfMemory) => Err(status::OUT_OF_MEMORY),
     }
@@ -122,11 +122,11 @@ fn write_document(
 /// # Errors
 ///
 /// - `OUT_OF_MEMORY`: an allocation failed.
-pub fn end_line(text: String) -> Result<Vec<u8>, u32>
+pub fn line_of_text(text: String) -> Result<Vec<u8>, u32>
     ensures ok { IfOk result (λ line. IsUtf8 (string_bytes text) × (line.items ≡ string_bytes text ++ newline)) }
     ensures error_status { IfErr result (λ status. status ≡ 5) }
 {
-    as_line(text.into_bytes())
+    append_newline(text.into_bytes())
 }
 
 // The text that shows the document, and a newline.

@@ -7,7 +7,7 @@ ghost use Rattle.vbson.specs.DocumentError.{ReportsFinding, finding_code, findin
 ghost use Rattle.vbson.specs.Options.{AreInvalid};
 ghost use Rattle.vbson.specs.declared.document_error.Finding.TheVariants.{Nothing};
 
-use crate::explain::{Rejection, RejectionFields, line_of, rejection_with_fields};
+use crate::explain::{Rejection, RejectionFields, line_of_string, rejection_with_fields};
 use crate::options::{CallOptions, are_invalid, duplicate_keys_of, options_of};
 use crate::path::path_line;
 use crate::status;
@@ -57,7 +57,7 @@ pub extern "C" fn vbson_explain_document_nonnull(
     if are_invalid(*options) {
         return status::INVALID_ARGUMENT;
     }
-    match explained(alloc, *options, bytes) {
+    match explain_bytes(alloc, *options, bytes) {
         Ok(rejection) => *out = rejection,
         // (a path without segments is not too long)
         Err(_) => return status::OUT_OF_MEMORY,
@@ -66,37 +66,41 @@ pub extern "C" fn vbson_explain_document_nonnull(
 }
 
 // Explains the bytes, under the options.
-fn explained(
+fn explain_bytes(
     alloc: Global,
     options: CallOptions,
     bytes: &[u8],
 ) -> Result<Rejection<'static>, PathError>
-    ensures error_report { IfOk result (λ out. ExplainsDocument options bytes.now out) }
-    ensures accepts { HasDocumentText options bytes.now → IfOk result (λ out. out.code ≡ 0) }
+    ensures error_report { IfOk result (λ rejection. ExplainsDocument options bytes.now rejection) }
+    ensures accepts { HasDocumentText options bytes.now → IfOk result (λ rejection. rejection.code ≡ 0) }
 {
-    let finding = find(alloc, options, bytes)?;
+    let finding = find_error(alloc, options, bytes)?;
     rejection_of(alloc, finding)
 }
 
 // Finds what is wrong with the bytes, under the options.
-fn find(alloc: Global, options: CallOptions, bytes: &[u8]) -> Result<Finding, AllocError>
-    ensures found { IfOk result (λ finding. IsFinding options bytes.now finding) }
+fn find_error(alloc: Global, options: CallOptions, bytes: &[u8]) -> Result<Finding, AllocError>
+    ensures is_finding { IfOk result (λ finding. IsFinding options bytes.now finding) }
     ensures accepts { HasDocumentText options bytes.now → IfOk result (λ finding. finding ≡ Nothing) }
 {
-    let reading = ReadOptions {
+    let read_options = ReadOptions {
         depth: DEPTH,
         duplicate_keys: duplicate_keys_of(options),
     };
-    match from_bytes(alloc, reading, bytes) {
-        Ok(document) => find_double(alloc, options_of(options), document),
+    match from_bytes(alloc, read_options, bytes) {
+        Ok(document) => find_finite_double(alloc, options_of(options), document),
         Err(Error::Malformed { kind, offset }) => Ok(Finding::Malformed { kind, offset }),
         Err(Error::OutOfMemory) => Err(AllocError),
     }
 }
 
 // Finds whether the document has a text.
-fn find_double(alloc: Global, options: Options, document: Document) -> Result<Finding, AllocError>
-    ensures found { IfOk result (λ finding. IsFindingOfDocument options (document_view document) finding) }
+fn find_finite_double(
+    alloc: Global,
+    options: Options,
+    document: Document,
+) -> Result<Finding, AllocError>
+    ensures is_finding { IfOk result (λ finding. IsFindingOfDocument options (document_view document) finding) }
 {
     match Bson::Document(document).into_text(alloc, options, Form::Canonical) {
         Ok(_) => Ok(Finding::Nothing),
@@ -107,19 +111,19 @@ fn find_double(alloc: Global, options: Options, document: Document) -> Result<Fi
 
 // Returns the error struct for the finding.
 fn rejection_of(alloc: Global, finding: Finding) -> Result<Rejection<'static>, PathError>
-    ensures error_report { IfOk result (λ out. ReportsFinding finding out) }
+    ensures error_report { IfOk result (λ rejection. ReportsFinding finding rejection) }
 {
     let message = message_of(alloc, finding)?;
-    let fields = fields_of(alloc, finding)?;
+    let fields = rejection_fields_of(alloc, finding)?;
     Ok(rejection_with_fields(fields, message))
 }
 
 // Returns the fields of the error struct for the finding.
-fn fields_of(alloc: Global, finding: Finding) -> Result<RejectionFields, PathError>
+fn rejection_fields_of(alloc: Global, finding: Finding) -> Result<RejectionFields, PathError>
     ensures error_report { IfOk result (λ fields. AreFieldsOfFinding finding fields) }
 {
     let path = path_line(alloc, &[])?;
-    let reason = line_of(alloc, reason_of(finding))?;
+    let reason = line_of_string(alloc, reason_of(finding))?;
     Ok(RejectionFields {
         code: code_of(finding),
         line: 0,
@@ -164,18 +168,19 @@ fn reason_of(finding: Finding) -> &'static str
 
 // Returns the message of the finding, and a newline.
 fn message_of(alloc: Global, finding: Finding) -> Result<Vec<u8>, AllocError>
-    ensures { IfOk result (λ line. IsUtf8 (finding_message finding) × (line.items ≡ finding_message finding ++ newline)) }
+    ensures { IfOk result (λ line. IsUtf8 (finding_message finding)
+        × (line.items ≡ finding_message finding ++ newline)) }
 {
     let description = reason_of(finding);
     match finding {
         Finding::Nothing => Vec::from_slice(alloc, b"\n"),
-        Finding::Malformed { offset, .. } => line_at(alloc, offset, description),
+        Finding::Malformed { offset, .. } => malformed_line(alloc, offset, description),
         Finding::FiniteDouble => not_representable_line(alloc, description),
     }
 }
 
 // Returns the message for a fault at the offset, and a newline.
-fn line_at(alloc: Global, offset: usize, description: &str) -> Result<Vec<u8>, AllocError>
+fn malformed_line(alloc: Global, offset: usize, description: &str) -> Result<Vec<u8>, AllocError>
     ensures { IfOk result (λ line. IsUtf8 (malformed_message offset description.now)
         × (line.items ≡ malformed_message offset description.now ++ newline)) }
 {
@@ -185,7 +190,8 @@ fn line_at(alloc: Global, offset: usize, description: &str) -> Result<Vec<u8>, A
 
 // Returns the message for a document that has no text, and a newline.
 fn not_representable_line(alloc: Global, description: &str) -> Result<Vec<u8>, AllocError>
-    ensures { IfOk result (λ line. IsUtf8 (not_representable_message description.now) × (line.items ≡ not_representable_message description.now ++ newline)) }
+    ensures { IfOk result (λ line. IsUtf8 (not_representable_message description.now)
+        × (line.items ≡ not_representable_message description.now ++ newline)) }
 {
     let line = format!(in alloc; "not representable ({description})\n")?;
     Ok(line.into_bytes())

@@ -3,14 +3,14 @@ ghost use Rattle.std.specs.Prelude.{◌≡◌, ◌⊎◌, ◌↔◌, ◌<◌, �
 ghost use Rattle.bson_codec.specs.DumpRuns.{Dump};
 ghost use Rattle.bson_codec.specs.declared.documents.Run.{Run};
 ghost use Rattle.bson_convert.specs.Convert.{newline};
-ghost use Rattle.vbson.specs.Convert.{options_of_flags};
-ghost use Rattle.vbson.specs.Dumps.{AreDecoded, AddsLastDiagnostic, IsOutputOfDocuments, dump_line_kind, run_of};
+ghost use Rattle.vbson.specs.Convert.{options_of_call};
+ghost use Rattle.vbson.specs.Dumps.{DocumentsAreDecoded, AddsLastDiagnostic, IsOutputOfDocuments, dump_line_format, dump_run_of_mode};
 ghost use Rattle.vbson.specs.Options.{AreNotForConversion};
 
 use crate::convert::mode_of;
 use crate::options::{CallOptions, are_not_for_conversion, options_of};
 use crate::status;
-use crate::text::{Text, as_line, text_of_line};
+use crate::text::{Text, append_newline, text_of_line};
 use bson::extjson::{Form, Options};
 use bson_codec::de::DEPTH;
 use bson_codec::documents::{Line, Run, run_documents};
@@ -42,7 +42,7 @@ pub extern "C" fn vbson_decode_documents_nonnull(
     block: &[u8],
     out: &mut Documents<'static>,
 ) -> u32
-    ensures success { result ≡ 0 → AreDecoded (options_of_flags options.now) mode block.now out.new }
+    ensures success { result ≡ 0 → DocumentsAreDecoded (options_of_call options.now) mode block.now out.new }
 
     // When each other status comes, and that nothing is left then.
     ensures invalid_argument { result ≡ 1 ↔ (2 < mode) ⊎ AreNotForConversion options.now }
@@ -55,7 +55,7 @@ pub extern "C" fn vbson_decode_documents_nonnull(
     let Some(mode) = mode_of(mode) else {
         return status::INVALID_ARGUMENT;
     };
-    let run = run_of(options_of(*options), mode);
+    let run = dump_run_of_mode(options_of(*options), mode);
     let Some(output) = decode_block(alloc, run, block) else {
         return status::OUT_OF_MEMORY;
     };
@@ -69,20 +69,20 @@ pub extern "C" fn vbson_decode_documents_nonnull(
 }
 
 // Returns the options of the run over the documents.
-fn run_of(options: Options, mode: Mode) -> Run
-    ensures { result ≡ run_of options mode }
+fn dump_run_of_mode(options: Options, mode: Mode) -> Run
+    ensures { result ≡ dump_run_of_mode options mode }
 {
     Run {
         depth: DEPTH,
         options,
-        line: line_of(mode),
+        line: line_kind_of_mode(mode),
         keep_going: true,
     }
 }
 
 // Returns the kind of line that is written for each document.
-fn line_of(mode: Mode) -> Line
-    ensures { result ≡ dump_line_kind mode }
+fn line_kind_of_mode(mode: Mode) -> Line
+    ensures { result ≡ dump_line_format mode }
 {
     match mode {
         Mode::Canonical => Line::Text(Form::Canonical),
@@ -110,11 +110,11 @@ fn decode_block(alloc: Global, run: Run, block: &[u8]) -> Option<BlockOutput>
     let (mut text, mut diagnostics) = (Vec::new(alloc), Vec::new(alloc));
     match run_documents(alloc, run, &mut reader, &mut text, &mut diagnostics) {
         Ok(counts) => with_newlines(text, diagnostics, counts.documents, block.len() as u64),
-        Err(end) => with_newlines(
+        Err(run_end) => with_newlines(
             text,
-            add_line(alloc, end, diagnostics)?,
-            end.number,
-            end.start,
+            add_last_diagnostic(alloc, run_end, diagnostics)?,
+            run_end.number,
+            run_end.start,
         ),
     }
 }
@@ -127,9 +127,10 @@ fn with_newlines(
     consumed: u64,
 ) -> Option<BlockOutput>
     ensures { IfSome result (λ output. (output.text.items ≡ text.items ++ newline)
-        × (output.diagnostics.items ≡ diagnostics.items ++ newline) × (output.documents ≡ documents) × (output.consumed ≡ consumed)) }
+        × (output.diagnostics.items ≡ diagnostics.items ++ newline) × (output.documents ≡ documents)
+        × (output.consumed ≡ consumed)) }
 {
-    let (Ok(text), Ok(diagnostics)) = (as_line(text), as_line(diagnostics)) else {
+    let (Ok(text), Ok(diagnostics)) = (append_newline(text), append_newline(diagnostics)) else {
         return None;
     };
     Some(BlockOutput {
@@ -142,12 +143,12 @@ fn with_newlines(
 
 // Appends the diagnostic of the document at which the run ended. Returns `None` if memory, a reader
 // or a writer failed.
-fn add_line(alloc: Global, end: RunEnd, mut diagnostics: Vec<u8>) -> Option<Vec<u8>>
-    ensures { IfSome result (λ all. AddsLastDiagnostic end diagnostics.items all.items) }
+fn add_last_diagnostic(alloc: Global, run_end: RunEnd, mut diagnostics: Vec<u8>) -> Option<Vec<u8>>
+    ensures { IfSome result (λ all_diagnostics. AddsLastDiagnostic run_end diagnostics.items all_diagnostics.items) }
 {
-    match end.fault {
+    match run_end.fault {
         RunFault::Malformed { .. } | RunFault::FiniteDouble => {
-            let Ok(last_diagnostic) = end.to_line(alloc) else {
+            let Ok(last_diagnostic) = run_end.to_line(alloc) else {
                 return None;
             };
             let Ok(()) = diagnostics.extend_from_slice(last_diagnostic.as_bytes()) else {

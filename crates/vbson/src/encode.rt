@@ -1,19 +1,19 @@
 //! Encodes the document that a text denotes as BSON bytes.
 ghost use Rattle.std.specs.Prelude.{◌≡◌, ◌⊎◌, ◌↔◌, ◌<◌, ◌≤◌, ◌++◌, List, ℕ, IfOk, IfErr};
-ghost use Rattle.bson.specs.TextMeaning.{IsNotJsonText, TextMeansBy};
-ghost use Rattle.bson_codec.specs.Canonical.{FitsDocument, too_long, zero_in_key, zero_in_regex};
+ghost use Rattle.bson.specs.TextMeaning.{IsNotJsonText, TextMeansInKeyOrder};
+ghost use Rattle.bson_codec.specs.Canonical.{FitsDocument, too_long, nul_in_key, nul_in_regex};
 ghost use Rattle.bson_model.specs.Value.{Pairs, document};
 ghost use Rattle.bson_convert.specs.Convert.{newline};
-ghost use Rattle.vbson.specs.Convert.{IsInvalidExtendedJson, IsInvalidShape, IsBadObjectId, options_of_flags};
+ghost use Rattle.vbson.specs.Convert.{IsInvalidExtendedJson, IsInvalidShape, IsBadObjectId, options_of_call};
 ghost use Rattle.bson_run.specs.Encode.{Encodes};
-ghost use Rattle.vbson.specs.Documents.{HasNoBytes, IsEncoded, IsEncodeFailure};
+ghost use Rattle.vbson.specs.Documents.{IsUnencodableText, IsEncoded, IsEncodeFailure};
 ghost use Rattle.vbson.specs.Documents.{TextIsNotDocumentBy};
 ghost use Rattle.vbson.specs.Options.{AreNotForConversion};
 
 use crate::convert::status_of;
 use crate::options::{CallOptions, are_not_for_conversion, options_of};
 use crate::status;
-use crate::text::{Text, as_line, text_of_line};
+use crate::text::{Text, append_newline, text_of_line};
 use bson::extjson::Options;
 use bson_run::encode::encode;
 use std::alloc::Global;
@@ -28,19 +28,22 @@ pub extern "C" fn vbson_encode_nonnull(
     text: &[u8],
     out: &mut Text<'static>,
 ) -> u32
-    ensures success { result ≡ 0 → IsEncoded (options_of_flags options.now) text.now out.new }
-    ensures accepts { (ps : Pairs) → TextMeansBy (options_of_flags options.now).key_order (options_of_flags options.now).doubles text.now (document ps)
-        → FitsDocument ps → 1 < result → result ≡ 5 }
+    ensures success { result ≡ 0 → IsEncoded (options_of_call options.now) text.now out.new }
+    ensures accepts { (pairs : Pairs)
+        → TextMeansInKeyOrder (options_of_call options.now).key_order (options_of_call options.now).doubles text.now
+        (document pairs)
+        → FitsDocument pairs → 1 < result → result ≡ 5 }
 
     // When each other status comes, and that nothing is left then.
     ensures invalid_argument { result ≡ 1 ↔ AreNotForConversion options.now }
     ensures not_json { result ≡ 2 → IsNotJsonText text.now }
-    ensures bad_object_id { result ≡ 3 → IsInvalidExtendedJson (options_of_flags options.now) IsBadObjectId text.now }
-    ensures not_extended_json { result ≡ 4 → IsInvalidExtendedJson (options_of_flags options.now) IsInvalidShape text.now }
-    ensures no_document { result ≡ 10 → TextIsNotDocumentBy (options_of_flags options.now) text.now }
-    ensures key_has_zero { result ≡ 11 → HasNoBytes (options_of_flags options.now) zero_in_key text.now }
-    ensures regex_has_zero { result ≡ 12 → HasNoBytes (options_of_flags options.now) zero_in_regex text.now }
-    ensures too_long { result ≡ 13 → HasNoBytes (options_of_flags options.now) too_long text.now }
+    ensures bad_object_id { result ≡ 3 → IsInvalidExtendedJson (options_of_call options.now) IsBadObjectId text.now }
+    ensures not_extended_json { result ≡ 4
+        → IsInvalidExtendedJson (options_of_call options.now) IsInvalidShape text.now }
+    ensures no_document { result ≡ 10 → TextIsNotDocumentBy (options_of_call options.now) text.now }
+    ensures key_has_zero { result ≡ 11 → IsUnencodableText (options_of_call options.now) nul_in_key text.now }
+    ensures regex_has_zero { result ≡ 12 → IsUnencodableText (options_of_call options.now) nul_in_regex text.now }
+    ensures too_long { result ≡ 13 → IsUnencodableText (options_of_call options.now) too_long text.now }
     ensures possible_statuses { (result ≤ 5) ⊎ ((10 ≤ result) × (result ≤ 13)) }
     ensures unchanged { 0 < result → out.new ≡ out.old }
 {
@@ -58,12 +61,13 @@ pub extern "C" fn vbson_encode_nonnull(
 fn encode_text(alloc: Global, options: Options, text: &[u8]) -> Result<Vec<u8>, u32>
     ensures ok { IfOk result (λ line. (bytes : List ℕ) × Encodes options.key_order options text.now bytes
         × (line.items ≡ bytes ++ newline)) }
-    ensures accepts { (ps : Pairs) → TextMeansBy options.key_order options.doubles text.now (document ps) → FitsDocument ps
+    ensures accepts { (pairs : Pairs)
+        → TextMeansInKeyOrder options.key_order options.doubles text.now (document pairs) → FitsDocument pairs
         → IfErr result (λ status. status ≡ 5) }
     ensures error_status { IfErr result (λ status. IsEncodeFailure options status text.now) }
 {
     match encode(alloc, options, text) {
-        Ok(bytes) => as_line(bytes),
+        Ok(bytes) => append_newline(bytes),
         Err(fault) => Err(status_of(fault)),
     }
 }

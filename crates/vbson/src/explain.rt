@@ -4,12 +4,12 @@ ghost use Rattle.bson.specs.Value.{Value};
 ghost use Rattle.bson_convert.specs.Convert.{IsRejectedIn, newline};
 ghost use Rattle.bson_convert.specs.Messages.{error_message};
 ghost use Rattle.bson_tree.specs.Place.{segment_of};
-ghost use Rattle.vbson.specs.Explain.{AreFieldsOfExplanation, Explains, ExplainsWithoutPreprocessing, ExplainsError, PathIsTooLong, HasTooLongPath, IsRejectionWithFields, IsTooLong, IsUnexplained, ReportsExplanation};
+ghost use Rattle.vbson.specs.Explain.{AreFieldsOfExplanation, Explains, ExplainsWithoutPreprocessing, ExplainsError, PathIsTooLong, HasTooLongPath, IsRejectionWithFields, ErrorPathIsTooLong, IsUnexplained, ReportsExplanation};
 ghost use Rattle.vbson.specs.Explain.{explanation_code, explanation_column, explanation_line, explanation_offset, explanation_path, explanation_reason};
 ghost use Rattle.vbson.specs.Options.{AreInvalid};
 ghost use Rattle.vbson.specs.Reading.{MeansUnder};
-ghost use Rattle.bson_bytes.specs.declared.error.Error.TheVariants as sizes;
-ghost use Rattle.bson_run.specs.declared.explain.Explanation.TheVariants as explained;
+ghost use Rattle.bson_bytes.specs.declared.error.Error.TheVariants as path_error;
+ghost use Rattle.bson_run.specs.declared.explain.Explanation.TheVariants as explanations;
 
 use crate::options::{CallOptions, are_invalid, options_of, preprocessing_of};
 use crate::path::path_line;
@@ -22,7 +22,7 @@ use bson_convert::convert::convert_sorted;
 use bson_convert::error::Error;
 use bson_convert::mode::Mode;
 use bson_run::explain::Explanation;
-use bson_tokens::laws::one_double;
+use bson_tokens::laws::one_duplicate_path;
 use bson_tree::place::{Reason, Segment};
 use std::alloc::{AllocError, Global};
 
@@ -65,7 +65,7 @@ pub extern "C" fn vbson_explain_nonnull(
 
     // When each other status comes, and that nothing is left then.
     ensures invalid_argument { result ≡ 1 ↔ AreInvalid options.now }
-    ensures too_long { result ≡ 13 → IsTooLong options.now text.now }
+    ensures too_long { result ≡ 13 → ErrorPathIsTooLong options.now text.now }
     ensures possible_statuses { (result ≡ 0) ⊎ (result ≡ 1) ⊎ (result ≡ 5) ⊎ (result ≡ 13) }
     ensures unchanged { 0 < result → out.new ≡ out.old }
 {
@@ -73,8 +73,8 @@ pub extern "C" fn vbson_explain_nonnull(
         return status::INVALID_ARGUMENT;
     }
     // A law: no text with a duplicate key has unique keys.
-    one_double();
-    match explained(alloc, *options, text) {
+    one_duplicate_path();
+    match explain_text(alloc, *options, text) {
         Ok(rejection) => *out = rejection,
         Err(PathError::OutOfMemory) => return status::OUT_OF_MEMORY,
         Err(PathError::Key) => return status::TOO_LONG,
@@ -85,13 +85,13 @@ pub extern "C" fn vbson_explain_nonnull(
 }
 
 // Explains the text, under the options.
-fn explained(
+fn explain_text(
     alloc: Global,
     options: CallOptions,
     text: &[u8],
 ) -> Result<Rejection<'static>, PathError>
-    ensures error_report { IfOk result (λ out. Explains options text.now out) }
-    ensures too_long { IfErr result (λ error. error ≢ sizes.OutOfMemory → IsTooLong options text.now) }
+    ensures error_report { IfOk result (λ rejection. Explains options text.now rejection) }
+    ensures too_long { IfErr result (λ error. error ≢ path_error.OutOfMemory → ErrorPathIsTooLong options text.now) }
 {
     match preprocess(alloc, preprocessing_of(options), text) {
         Ok(Some(new_text)) => explain_without_preprocessing(
@@ -100,8 +100,8 @@ fn explained(
             new_text.as_bytes(),
         ),
         Ok(None) => explain_without_preprocessing(alloc, options_of(options), text),
-        Err(fault) if fault.is_memory() => Err(PathError::OutOfMemory),
-        Err(fault) => rejected(alloc, &fault, text),
+        Err(fault) if fault.is_out_of_memory() => Err(PathError::OutOfMemory),
+        Err(fault) => rejection_of_error(alloc, &fault, text),
     }
 }
 
@@ -111,45 +111,49 @@ fn explain_without_preprocessing(
     options: Options,
     text: &[u8],
 ) -> Result<Rejection<'static>, PathError>
-    ensures error_report { IfOk result (λ out. ExplainsWithoutPreprocessing options text.now out) }
+    ensures error_report { IfOk result (λ rejection. ExplainsWithoutPreprocessing options text.now rejection) }
     ensures too_long { IfErr result (λ error. IsUnexplained error (λ fault. IsRejectedIn options fault text.now)) }
 {
     match convert_sorted(alloc, options, Mode::Canonical, text) {
-        Ok(_) => accepted(alloc),
+        Ok(_) => empty_rejection(alloc),
         Err(Error::OutOfMemory) => Err(PathError::OutOfMemory),
-        Err(fault) => rejected(alloc, &fault, text),
+        Err(fault) => rejection_of_error(alloc, &fault, text),
     }
 }
 
 // Returns the error struct of an accepted text.
-fn accepted(alloc: Global) -> Result<Rejection<'static>, PathError>
-    ensures error_report { IfOk result (λ out. ReportsExplanation [] explained.Other [] out) }
-    ensures memory { IfErr result (λ error. error ≡ sizes.OutOfMemory) }
+fn empty_rejection(alloc: Global) -> Result<Rejection<'static>, PathError>
+    ensures error_report { IfOk result (λ rejection. ReportsExplanation [] explanations.Other [] rejection) }
+    ensures memory { IfErr result (λ error. error ≡ path_error.OutOfMemory) }
 {
-    let fields = fields_of(alloc, &Explanation::Other, b"")?;
+    let fields = rejection_fields_of(alloc, &Explanation::Other, b"")?;
     let message = Vec::from_slice(alloc, b"\n")?;
     Ok(rejection_with_fields(fields, message))
 }
 
 // Returns the error struct for an error of the text.
-fn rejected(alloc: Global, fault: &Error, text: &[u8]) -> Result<Rejection<'static>, PathError>
-    ensures error_report { IfOk result (λ out. ExplainsError text.now fault.now out) }
-    ensures too_long { IfErr result (λ error. error ≢ sizes.OutOfMemory → HasTooLongPath fault.now) }
+fn rejection_of_error(
+    alloc: Global,
+    fault: &Error,
+    text: &[u8],
+) -> Result<Rejection<'static>, PathError>
+    ensures error_report { IfOk result (λ rejection. ExplainsError text.now fault.now rejection) }
+    ensures too_long { IfErr result (λ error. error ≢ path_error.OutOfMemory → HasTooLongPath fault.now) }
 {
     let explanation = Explanation::of(alloc, fault, text)?;
-    let place = explanation.message(alloc, text)?;
-    let message = line_at(alloc, fault, &place)?;
-    let fields = fields_of(alloc, &explanation, text)?;
+    let place_message = explanation.message(alloc, text)?;
+    let message = error_line(alloc, fault, &place_message)?;
+    let fields = rejection_fields_of(alloc, &explanation, text)?;
     Ok(rejection_with_fields(fields, message))
 }
 
 // Returns the message of a fault and its path, and a newline.
-fn line_at(alloc: Global, fault: &Error, place: &str) -> Result<Vec<u8>, AllocError>
-    ensures { IfOk result (λ line. IsUtf8 (error_message fault.now ++ place.now)
-        × (line.items ≡ (error_message fault.now ++ place.now) ++ newline)) }
+fn error_line(alloc: Global, fault: &Error, place_message: &str) -> Result<Vec<u8>, AllocError>
+    ensures { IfOk result (λ line. IsUtf8 (error_message fault.now ++ place_message.now)
+        × (line.items ≡ (error_message fault.now ++ place_message.now) ++ newline)) }
 {
     let description = fault.message();
-    let line = format!(in alloc; "{description}{place}\n")?;
+    let line = format!(in alloc; "{description}{place_message}\n")?;
     Ok(line.into_bytes())
 }
 
@@ -181,16 +185,16 @@ pub(crate) fn rejection_with_fields(fields: RejectionFields, message: Vec<u8>) -
 }
 
 // Returns the fields of the error struct for an explanation of an error of the text.
-fn fields_of(
+fn rejection_fields_of(
     alloc: Global,
     explanation: &Explanation<'_>,
     text: &[u8],
 ) -> Result<RejectionFields, PathError>
     ensures error_report { IfOk result (λ fields. AreFieldsOfExplanation text.now explanation.now fields) }
-    ensures too_long { IfErr result (λ error. error ≢ sizes.OutOfMemory → PathIsTooLong explanation.now) }
+    ensures too_long { IfErr result (λ error. error ≢ path_error.OutOfMemory → PathIsTooLong explanation.now) }
 {
     let path = path_line(alloc, segments_of(explanation))?;
-    let reason = line_of(alloc, reason_of(explanation))?;
+    let reason = line_of_string(alloc, reason_of(explanation))?;
     Ok(RejectionFields {
         code: code_of(explanation),
         line: explanation_line(explanation, text),
@@ -202,7 +206,7 @@ fn fields_of(
 }
 
 // Returns the string, and a newline.
-pub(crate) fn line_of(alloc: Global, description: &str) -> Result<Vec<u8>, AllocError>
+pub(crate) fn line_of_string(alloc: Global, description: &str) -> Result<Vec<u8>, AllocError>
     ensures { IfOk result (λ line. IsUtf8 description.now × (line.items ≡ description.now ++ newline)) }
 {
     let line = format!(in alloc; "{description}\n")?;
@@ -229,7 +233,7 @@ fn explanation_line(explanation: &Explanation<'_>, text: &[u8]) -> usize
     ensures { result ≡ explanation_line text.now explanation.now }
 {
     match explanation {
-        Explanation::Syntax(stop) => stop.line(text),
+        Explanation::Syntax(syntax_error) => syntax_error.line(text),
         Explanation::Difference(_) => 1,
         _ => 0,
     }
@@ -240,7 +244,7 @@ fn explanation_column(explanation: &Explanation<'_>, text: &[u8]) -> usize
     ensures { result ≡ explanation_column text.now explanation.now }
 {
     match explanation {
-        Explanation::Syntax(stop) => stop.column(text),
+        Explanation::Syntax(syntax_error) => syntax_error.column(text),
         Explanation::Difference(column) => *column,
         _ => 0,
     }
@@ -251,7 +255,7 @@ fn explanation_offset(explanation: &Explanation<'_>, text: &[u8]) -> usize
     ensures { result ≡ explanation_offset text.now explanation.now }
 {
     match explanation {
-        Explanation::Syntax(stop) => stop.offset.min(text.len().saturating_sub(1)),
+        Explanation::Syntax(syntax_error) => syntax_error.offset.min(text.len().saturating_sub(1)),
         Explanation::Difference(column) => column.saturating_sub(1),
         _ => 0,
     }
@@ -272,7 +276,7 @@ fn reason_of<'a>(explanation: &'a Explanation<'_>) -> &'a str
     ensures { result.now ≡ explanation_reason explanation.now }
 {
     match explanation {
-        Explanation::Syntax(stop) => stop.rule.message(),
+        Explanation::Syntax(syntax_error) => syntax_error.rule.message(),
         Explanation::Value(_, reason) => reason.as_str(),
         Explanation::Difference(_) | Explanation::Other => "",
     }

@@ -3,15 +3,15 @@ ghost use Rattle.std.specs.Prelude.{◌≡◌, ◌⊎◌, ◌↔◌, ◌<◌, �
 ghost use Rattle.bson_convert.specs.Convert.{newline};
 ghost use Rattle.bson_convert.specs.declared.mode.Mode.{Mode};
 ghost use Rattle.bson_run.specs.declared.task.Task.TheVariants.{Write, Encode};
-ghost use Rattle.vbson.specs.Convert.{mode_of_number, options_of_flags};
-ghost use Rattle.vbson.specs.Lines.{AreConverted, AreEncoded, IsLinesResult, IsOutputOfLines};
+ghost use Rattle.vbson.specs.Convert.{mode_of_number, options_of_call};
+ghost use Rattle.vbson.specs.Lines.{LinesAreConverted, LinesAreEncoded, IsLinesResult, IsOutputOfLines};
 ghost use Rattle.vbson.specs.Lines.{EachLineIsAccepted, IsFirstRejected, is_rejection};
 ghost use Rattle.vbson.specs.Options.{AreNotForConversion};
 
 use crate::convert::mode_of;
 use crate::options::{CallOptions, are_not_for_conversion, options_of};
 use crate::status;
-use crate::text::{Text, as_line, text_of_line};
+use crate::text::{Text, append_newline, text_of_line};
 use bson::extjson::Options;
 use bson_convert::error::Error;
 use bson_run::lines::LineRun;
@@ -41,7 +41,7 @@ pub extern "C" fn vbson_convert_lines_nonnull(
     block: &[u8],
     out: &mut Lines<'static>,
 ) -> u32
-    ensures success { result ≡ 0 → AreConverted (options_of_flags options.now) mode block.now out.new }
+    ensures success { result ≡ 0 → LinesAreConverted (options_of_call options.now) mode block.now out.new }
 
     // When each other status comes, and that nothing is left then.
     ensures invalid_argument { result ≡ 1 ↔ (2 < mode) ⊎ AreNotForConversion options.now }
@@ -72,7 +72,7 @@ pub extern "C" fn vbson_encode_lines_nonnull(
     block: &[u8],
     out: &mut Lines<'static>,
 ) -> u32
-    ensures success { result ≡ 0 → AreEncoded (options_of_flags options.now) block.now out.new }
+    ensures success { result ≡ 0 → LinesAreEncoded (options_of_call options.now) block.now out.new }
 
     // When each other status comes, and that nothing is left then.
     ensures invalid_argument { result ≡ 1 ↔ AreNotForConversion options.now }
@@ -82,10 +82,10 @@ pub extern "C" fn vbson_encode_lines_nonnull(
     if are_not_for_conversion(*options) {
         return status::INVALID_ARGUMENT;
     }
-    let Some(encoded) = lines_of(alloc, options_of(*options), Task::Encode, block) else {
+    let Some(encoded_lines) = lines_of(alloc, options_of(*options), Task::Encode, block) else {
         return status::OUT_OF_MEMORY;
     };
-    *out = encoded;
+    *out = encoded_lines;
     status::OK
 }
 
@@ -99,10 +99,10 @@ pub extern "C" fn vbson_first_rejected_line_nonnull(
     block: &[u8],
     number: &mut u64,
 ) -> u32
-    ensures rejected { result ≡ 0 → (selected : Mode) → mode_of_number mode ≡ Some selected
-        → IsFirstRejected (options_of_flags options.now) (Write selected) block.now number.new }
-    ensures accepted { result ≡ 14 → (selected : Mode) → mode_of_number mode ≡ Some selected
-        → EachLineIsAccepted (options_of_flags options.now) (Write selected) block.now }
+    ensures rejected { result ≡ 0 → (selected_mode : Mode) → mode_of_number mode ≡ Some selected_mode
+        → IsFirstRejected (options_of_call options.now) (Write selected_mode) block.now number.new }
+    ensures accepted { result ≡ 14 → (selected_mode : Mode) → mode_of_number mode ≡ Some selected_mode
+        → EachLineIsAccepted (options_of_call options.now) (Write selected_mode) block.now }
 
     // When each other status comes, and that nothing is left then.
     ensures invalid_argument { result ≡ 1 ↔ (2 < mode) ⊎ AreNotForConversion options.now }
@@ -133,8 +133,8 @@ pub extern "C" fn vbson_first_unencoded_line_nonnull(
     block: &[u8],
     number: &mut u64,
 ) -> u32
-    ensures rejected { result ≡ 0 → IsFirstRejected (options_of_flags options.now) Encode block.now number.new }
-    ensures accepted { result ≡ 14 → EachLineIsAccepted (options_of_flags options.now) Encode block.now }
+    ensures rejected { result ≡ 0 → IsFirstRejected (options_of_call options.now) Encode block.now number.new }
+    ensures accepted { result ≡ 14 → EachLineIsAccepted (options_of_call options.now) Encode block.now }
 
     // When each other status comes, and that nothing is left then.
     ensures invalid_argument { result ≡ 1 ↔ AreNotForConversion options.now }
@@ -182,7 +182,7 @@ fn run_block(alloc: Global, options: Options, task: Task, block: &[u8]) -> Optio
     let Ok(counts) = run.run(alloc, &mut reader, &mut text, &mut diagnostics) else {
         return None;
     };
-    let (Ok(text), Ok(diagnostics)) = (as_line(text), as_line(diagnostics)) else {
+    let (Ok(text), Ok(diagnostics)) = (append_newline(text), append_newline(diagnostics)) else {
         return None;
     };
     Some(BlockOutput {
@@ -206,10 +206,10 @@ fn first_rejected(
     ensures possible_statuses { (result ≡ 0) ⊎ (result ≡ 5) ⊎ (result ≡ 14) }
     ensures unchanged { 0 < result → number.new ≡ number.old }
 {
-    let mut rest = block;
+    let mut block_reader = block;
     let mut run = LineRun::new(alloc, task, OnRefusal::Stop);
     run.options = options;
-    let Err(fault) = run.run(alloc, &mut rest, &mut sink(), &mut sink()) else {
+    let Err(fault) = run.run(alloc, &mut block_reader, &mut sink(), &mut sink()) else {
         return status::NOT_FOUND;
     };
     if !is_rejection(&fault) {

@@ -1,6 +1,6 @@
 //! The options of a call, in a struct of the caller.
 ghost use Rattle.std.specs.Prelude.{◌≡◌, ◌↔◌, IsTrue};
-ghost use Rattle.vbson.specs.Convert.{options_of_flags, order_of};
+ghost use Rattle.vbson.specs.Convert.{options_of_call, key_order_of};
 ghost use Rattle.vbson.specs.Options.{AreInvalid, AreNotForConversion, AreNotForReading};
 ghost use Rattle.vbson.specs.Reading.{duplicate_keys_of, preprocessing_of};
 
@@ -21,7 +21,7 @@ pub const DUPLICATE_KEYS_REJECT: u32 = 1;
 pub const V1_ACCEPT: u32 = 1;
 
 /// The size of `CallOptions` in bytes. A later version with more fields has another size.
-pub(crate) const SIZE: usize = 24;
+pub(crate) const CALL_OPTIONS_SIZE: usize = 24;
 
 /// The options of a call. Each field after the size is 0 for what the specification describes, or 1.
 #[repr(C)]
@@ -43,7 +43,7 @@ pub struct CallOptions {
 pub fn are_invalid(options: CallOptions) -> bool
     ensures { IsTrue result ↔ AreInvalid options }
 {
-    options.size != SIZE
+    options.size != CALL_OPTIONS_SIZE
         || options.doubles > DOUBLES_FINITE
         || options.key_order > KEYS_AS_GIVEN
         || options.duplicate_keys > DUPLICATE_KEYS_REJECT
@@ -70,7 +70,7 @@ pub fn are_not_for_reading(options: CallOptions) -> bool
 
 /// Returns the options of a conversion.
 pub fn options_of(options: CallOptions) -> Options
-    ensures { result ≡ options_of_flags options }
+    ensures { result ≡ options_of_call options }
 {
     let doubles = if options.doubles == DOUBLES_FINITE {
         Doubles::Finite
@@ -79,13 +79,13 @@ pub fn options_of(options: CallOptions) -> Options
     };
     Options {
         doubles,
-        key_order: order_of(options),
+        key_order: key_order_of(options),
     }
 }
 
 // Returns the order of keys.
-fn order_of(options: CallOptions) -> KeyOrder
-    ensures { result ≡ order_of options }
+fn key_order_of(options: CallOptions) -> KeyOrder
+    ensures { result ≡ key_order_of options }
 {
     if options.key_order == KEYS_AS_GIVEN {
         KeyOrder::AsGiven

@@ -9,7 +9,9 @@ ghost use Rattle.bson_tree.specs.Place.{segment_of};
 ghost use Rattle.vbson.specs.Path.{index_value, name_value, path_pairs, segment_value};
 
 use bson_bytes::error::Error;
-use bson_bytes::write_parts::{put_end, put_key, put_length_placeholder, put_text, put_u64};
+use bson_bytes::write_parts::{
+    put_key, put_length_placeholder, put_nul_and_length, put_text, put_u64,
+};
 use bson_tree::place::Segment;
 use bson_types::spec::ElementType;
 use std::alloc::Global;
@@ -21,9 +23,9 @@ use std::alloc::Global;
 /// - `Size`: the path has 2^31 bytes or more.
 /// - `OutOfMemory`: an allocation failed.
 pub fn path_line(alloc: Global, segments: &[Segment]) -> Result<Vec<u8>, Error>
-    ensures ok { IfOk result (λ out. out.items
+    ensures ok { IfOk result (λ bytes. bytes.items
         ≡ document_bytes (path_pairs (map segment_of segments.now)) ++ newline) }
-    ensures only { FitsDocument (path_pairs (map segment_of segments.now))
+    ensures only_out_of_memory { FitsDocument (path_pairs (map segment_of segments.now))
         → IfErr result (λ error. error ≡ errors.OutOfMemory) }
 {
     let mut line = path_bytes(alloc, segments)?;
@@ -33,63 +35,67 @@ pub fn path_line(alloc: Global, segments: &[Segment]) -> Result<Vec<u8>, Error>
 
 // The bytes of a path.
 fn path_bytes(alloc: Global, segments: &[Segment]) -> Result<Vec<u8>, Error>
-    ensures ok { IfOk result (λ out. out.items ≡ document_bytes (path_pairs (map segment_of segments.now))) }
-    ensures only { FitsDocument (path_pairs (map segment_of segments.now))
+    ensures ok { IfOk result (λ bytes. bytes.items ≡ document_bytes (path_pairs (map segment_of segments.now))) }
+    ensures only_out_of_memory { FitsDocument (path_pairs (map segment_of segments.now))
         → IfErr result (λ error. error ≡ errors.OutOfMemory) }
 {
-    let mut out = Vec::new(alloc);
-    put_length_placeholder(&mut out)?;
-    put_segments(alloc, &mut out, segments)?;
-    put_end(&mut out, 0)?;
-    Ok(out)
+    let mut bytes = Vec::new(alloc);
+    put_length_placeholder(&mut bytes)?;
+    put_segments(alloc, &mut bytes, segments)?;
+    put_nul_and_length(&mut bytes, 0)?;
+    Ok(bytes)
 }
 
 // Appends the elements of a path, the outermost first.
-fn put_segments(alloc: Global, out: &mut Vec<u8>, segments: &[Segment]) -> Result<(), Error>
-    ensures put { PutsBytes result out.new.items (put_elements (path_pairs (map segment_of segments.now)) out.old.items) }
-    ensures grows { OnOk result (length out.old.items ≤ length out.new.items) }
+fn put_segments(alloc: Global, bytes: &mut Vec<u8>, segments: &[Segment]) -> Result<(), Error>
+    ensures puts_bytes { PutsBytes result bytes.new.items
+        (put_elements (path_pairs (map segment_of segments.now)) bytes.old.items) }
+    ensures length_grows { OnOk result (length bytes.old.items ≤ length bytes.new.items) }
 {
-    let Some((segment, outer)) = segments.split_first() else {
+    let Some((segment, outer_segments)) = segments.split_first() else {
         return Ok(());
     };
-    put_segments(alloc, out, outer)?;
-    put_segment(alloc, out, outer.len(), segment)
+    put_segments(alloc, bytes, outer_segments)?;
+    put_segment(alloc, bytes, outer_segments.len(), segment)
 }
 
 // Appends a segment, under its number as its key.
 fn put_segment(
     alloc: Global,
-    out: &mut Vec<u8>,
-    number: usize,
+    bytes: &mut Vec<u8>,
+    segment_number: usize,
     segment: &Segment,
 ) -> Result<(), Error>
-    ensures put { PutsBytes result out.new.items
-        (put_elements (pair (decimal number) (segment_value (segment_of segment.now)) no_pairs) out.old.items) }
-    ensures grows { OnOk result (length out.old.items ≤ length out.new.items) }
+    ensures puts_bytes { PutsBytes result bytes.new.items
+        (put_elements
+        (pair (decimal segment_number) (segment_value (segment_of segment.now)) no_pairs) bytes.old.items) }
+    ensures length_grows { OnOk result (length bytes.old.items ≤ length bytes.new.items) }
 {
-    let key = format!(in alloc; "{number}")?;
+    let key = format!(in alloc; "{segment_number}")?;
     match segment {
-        Segment::Key(name) => put_name(out, &key, name.as_str()),
-        Segment::Element(index) => put_index(out, &key, *index),
+        Segment::Key(name) => put_name(bytes, &key, name.as_str()),
+        Segment::Element(index) => put_index(bytes, &key, *index),
     }
 }
 
 // Appends a string with its key.
 #[tactic(auto, unfolding(bson_bytes::specs::PutSteps::put_value))]
-fn put_name(out: &mut Vec<u8>, key: &str, name: &str) -> Result<(), Error>
-    ensures put { PutsBytes result out.new.items (put_elements (pair key.now (name_value name.now) no_pairs) out.old.items) }
-    ensures grows { OnOk result (length out.old.items ≤ length out.new.items) }
+fn put_name(bytes: &mut Vec<u8>, key: &str, name: &str) -> Result<(), Error>
+    ensures puts_bytes { PutsBytes result bytes.new.items
+        (put_elements (pair key.now (name_value name.now) no_pairs) bytes.old.items) }
+    ensures length_grows { OnOk result (length bytes.old.items ≤ length bytes.new.items) }
 {
-    put_key(out, ElementType::String, key)?;
-    put_text(out, name)
+    put_key(bytes, ElementType::String, key)?;
+    put_text(bytes, name)
 }
 
 // Appends an integer of 64 bits with its key.
 #[tactic(auto, unfolding(bson_bytes::specs::PutSteps::put_value))]
-fn put_index(out: &mut Vec<u8>, key: &str, index: usize) -> Result<(), Error>
-    ensures put { PutsBytes result out.new.items (put_elements (pair key.now (index_value index) no_pairs) out.old.items) }
-    ensures grows { OnOk result (length out.old.items ≤ length out.new.items) }
+fn put_index(bytes: &mut Vec<u8>, key: &str, index: usize) -> Result<(), Error>
+    ensures puts_bytes { PutsBytes result bytes.new.items
+        (put_elements (pair key.now (index_value index) no_pairs) bytes.old.items) }
+    ensures length_grows { OnOk result (length bytes.old.items ≤ length bytes.new.items) }
 {
-    put_key(out, ElementType::Int64, key)?;
-    Ok(put_u64(out, index as u64)?)
+    put_key(bytes, ElementType::Int64, key)?;
+    Ok(put_u64(bytes, index as u64)?)
 }

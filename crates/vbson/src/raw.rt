@@ -2,11 +2,11 @@
 ghost use Rattle.std.specs.Prelude.{◌≡◌, ◌⊎◌, ◌<◌, ◌≤◌, ◌-◌, ℕ, length, option_map, MatchOption};
 ghost use Rattle.bson_bytes.specs.Grammar.{deduplicated};
 ghost use Rattle.bson_model.specs.Value.{Pairs, Value, value_at_key};
-ghost use Rattle.bson_bytes.specs.TypedGetters.{binary_of, boolean_value, date_value, double_value, int32_value, int64_value, object_id_value, string_value};
+ghost use Rattle.bson_bytes.specs.TypedGetters.{binary_value, boolean_value, date_value, double_value, int32_value, int64_value, object_id_value, string_value};
 ghost use Rattle.bson_bytes.specs.NestedValues.{IsNested};
 ghost use Rattle.bson_bytes.specs.ReadElements.{BeginsWithDocument, BeginsWithElements};
 ghost use Rattle.bson_bytes.specs.RawView.{raw_view};
-ghost use Rattle.vbson.specs.Raw.{IsLookupResult, IsNextElement, IsTypedResult, IsValueAt, IsValueOf, boolean_number, subtype_and_bytes};
+ghost use Rattle.vbson.specs.Raw.{IsLookupResult, IsNextElement, IsTypedResult, IsRawValueOf, IsRawValueOfElement, boolean_number, subtype_and_bytes};
 
 use crate::status;
 use bson_bytes::RawBsonRef;
@@ -36,8 +36,8 @@ pub struct RawValue<'a> {
 /// value wins.
 #[unsafe(no_mangle)]
 pub extern "C" fn vbson_raw_get<'a>(bytes: &'a [u8], key: &[u8], out: &mut RawValue<'a>) -> u32
-    ensures found { (depth : ℕ) (ps : Pairs) → BeginsWithDocument depth bytes.now ps
-        → IsLookupResult (depth - 1) (value_at_key key.now (deduplicated ps)) result out.new }
+    ensures lookup_result { (depth : ℕ) (pairs : Pairs) → BeginsWithDocument depth bytes.now pairs
+        → IsLookupResult (depth - 1) (value_at_key key.now (deduplicated pairs)) result out.new }
     ensures possible_statuses { (result ≡ 0) ⊎ (result ≡ 14) }
     ensures unchanged { 0 < result → out.new ≡ out.old }
 {
@@ -53,8 +53,8 @@ pub extern "C" fn vbson_raw_get<'a>(bytes: &'a [u8], key: &[u8], out: &mut RawVa
 /// Begins an iteration over the elements of a document, in bytes that begin with it.
 #[unsafe(no_mangle)]
 pub extern "C" fn vbson_raw_elements<'a>(bytes: &'a [u8], cursor: &mut Slice<'a>) -> u32
-    ensures begun { (depth : ℕ) (ps : Pairs) → BeginsWithDocument depth bytes.now ps
-        → (result ≡ 0) × BeginsWithElements (depth - 1) cursor.new.bytes.now ps }
+    ensures begun { (depth : ℕ) (pairs : Pairs) → BeginsWithDocument depth bytes.now pairs
+        → (result ≡ 0) × BeginsWithElements (depth - 1) cursor.new.bytes.now pairs }
     ensures possible_statuses { (result ≡ 0) ⊎ (result ≡ 10) }
     ensures unchanged { 0 < result → cursor.new ≡ cursor.old }
 {
@@ -74,8 +74,8 @@ pub extern "C" fn vbson_raw_next<'a>(
     key: &mut Slice<'a>,
     value: &mut RawValue<'a>,
 ) -> u32
-    ensures next { (depth : ℕ) (ps : Pairs) → BeginsWithElements depth cursor.old.bytes.now ps
-        → IsNextElement depth ps result cursor.new key.new value.new }
+    ensures next_element { (depth : ℕ) (pairs : Pairs) → BeginsWithElements depth cursor.old.bytes.now pairs
+        → IsNextElement depth pairs result cursor.new key.new value.new }
     ensures possible_statuses { (result ≡ 0) ⊎ (result ≡ 14) }
     ensures unchanged { 0 < result → (cursor.new ≡ cursor.old) × (key.new ≡ key.old) × (value.new ≡ value.old) }
 {
@@ -95,7 +95,8 @@ pub extern "C" fn vbson_raw_next<'a>(
 /// Reads the integer of an Int32.
 #[unsafe(no_mangle)]
 pub extern "C" fn vbson_raw_int32(value: &RawValue<'_>, out: &mut i32) -> u32
-    ensures typed { (depth : ℕ) (v : Value) → IsValueAt depth v value.now → IsTypedResult (int32_value v) result out.new }
+    ensures typed { (depth : ℕ) (denoted_value : Value) → IsRawValueOf depth denoted_value value.now
+        → IsTypedResult (int32_value denoted_value) result out.new }
     ensures possible_statuses { (result ≡ 0) ⊎ (result ≡ 15) }
     ensures unchanged { 0 < result → out.new ≡ out.old }
 {
@@ -114,7 +115,8 @@ pub extern "C" fn vbson_raw_int32(value: &RawValue<'_>, out: &mut i32) -> u32
 /// Reads the integer of an Int64.
 #[unsafe(no_mangle)]
 pub extern "C" fn vbson_raw_int64(value: &RawValue<'_>, out: &mut i64) -> u32
-    ensures typed { (depth : ℕ) (v : Value) → IsValueAt depth v value.now → IsTypedResult (int64_value v) result out.new }
+    ensures typed { (depth : ℕ) (denoted_value : Value) → IsRawValueOf depth denoted_value value.now
+        → IsTypedResult (int64_value denoted_value) result out.new }
     ensures possible_statuses { (result ≡ 0) ⊎ (result ≡ 15) }
     ensures unchanged { 0 < result → out.new ≡ out.old }
 {
@@ -133,7 +135,8 @@ pub extern "C" fn vbson_raw_int64(value: &RawValue<'_>, out: &mut i64) -> u32
 /// Reads the 64 bits of a double.
 #[unsafe(no_mangle)]
 pub extern "C" fn vbson_raw_double(value: &RawValue<'_>, out: &mut u64) -> u32
-    ensures typed { (depth : ℕ) (v : Value) → IsValueAt depth v value.now → IsTypedResult (double_value v) result out.new }
+    ensures typed { (depth : ℕ) (denoted_value : Value) → IsRawValueOf depth denoted_value value.now
+        → IsTypedResult (double_value denoted_value) result out.new }
     ensures possible_statuses { (result ≡ 0) ⊎ (result ≡ 15) }
     ensures unchanged { 0 < result → out.new ≡ out.old }
 {
@@ -152,7 +155,8 @@ pub extern "C" fn vbson_raw_double(value: &RawValue<'_>, out: &mut u64) -> u32
 /// Reads a boolean, as 0 or 1.
 #[unsafe(no_mangle)]
 pub extern "C" fn vbson_raw_boolean(value: &RawValue<'_>, out: &mut u32) -> u32
-    ensures typed { (depth : ℕ) (v : Value) → IsValueAt depth v value.now → IsTypedResult (option_map boolean_number (boolean_value v)) result out.new }
+    ensures typed { (depth : ℕ) (denoted_value : Value) → IsRawValueOf depth denoted_value value.now
+        → IsTypedResult (option_map boolean_number (boolean_value denoted_value)) result out.new }
     ensures possible_statuses { (result ≡ 0) ⊎ (result ≡ 15) }
     ensures unchanged { 0 < result → out.new ≡ out.old }
 {
@@ -171,7 +175,8 @@ pub extern "C" fn vbson_raw_boolean(value: &RawValue<'_>, out: &mut u32) -> u32
 /// Reads the bytes of a string.
 #[unsafe(no_mangle)]
 pub extern "C" fn vbson_raw_string<'a>(value: &RawValue<'a>, out: &mut Slice<'a>) -> u32
-    ensures typed { (depth : ℕ) (v : Value) → IsValueAt depth v value.now → IsTypedResult (string_value v) result out.new.bytes.now }
+    ensures typed { (depth : ℕ) (denoted_value : Value) → IsRawValueOf depth denoted_value value.now
+        → IsTypedResult (string_value denoted_value) result out.new.bytes.now }
     ensures possible_statuses { (result ≡ 0) ⊎ (result ≡ 15) }
     ensures unchanged { 0 < result → out.new ≡ out.old }
 {
@@ -192,7 +197,8 @@ pub extern "C" fn vbson_raw_string<'a>(value: &RawValue<'a>, out: &mut Slice<'a>
 /// Reads the 12 bytes of an object id.
 #[unsafe(no_mangle)]
 pub extern "C" fn vbson_raw_object_id(value: &RawValue<'_>, out: &mut [u8; 12]) -> u32
-    ensures typed { (depth : ℕ) (v : Value) → IsValueAt depth v value.now → IsTypedResult (object_id_value v) result out.new }
+    ensures typed { (depth : ℕ) (denoted_value : Value) → IsRawValueOf depth denoted_value value.now
+        → IsTypedResult (object_id_value denoted_value) result out.new }
     ensures possible_statuses { (result ≡ 0) ⊎ (result ≡ 15) }
     ensures unchanged { 0 < result → out.new ≡ out.old }
 {
@@ -211,7 +217,8 @@ pub extern "C" fn vbson_raw_object_id(value: &RawValue<'_>, out: &mut [u8; 12]) 
 /// Reads a date-time, in milliseconds since 1970-01-01T00:00:00Z.
 #[unsafe(no_mangle)]
 pub extern "C" fn vbson_raw_date_time(value: &RawValue<'_>, out: &mut i64) -> u32
-    ensures typed { (depth : ℕ) (v : Value) → IsValueAt depth v value.now → IsTypedResult (date_value v) result out.new }
+    ensures typed { (depth : ℕ) (denoted_value : Value) → IsRawValueOf depth denoted_value value.now
+        → IsTypedResult (date_value denoted_value) result out.new }
     ensures possible_statuses { (result ≡ 0) ⊎ (result ≡ 15) }
     ensures unchanged { 0 < result → out.new ≡ out.old }
 {
@@ -234,8 +241,9 @@ pub extern "C" fn vbson_raw_binary<'a>(
     subtype: &mut u32,
     out: &mut Slice<'a>,
 ) -> u32
-    ensures typed { (depth : ℕ) (v : Value) → IsValueAt depth v value.now
-        → IsTypedResult (option_map subtype_and_bytes (binary_of v)) result (subtype.new, out.new.bytes.now) }
+    ensures typed { (depth : ℕ) (denoted_value : Value) → IsRawValueOf depth denoted_value value.now
+        → IsTypedResult (option_map subtype_and_bytes (binary_value denoted_value)) result
+        (subtype.new, out.new.bytes.now) }
     ensures possible_statuses { (result ≡ 0) ⊎ (result ≡ 15) }
     ensures unchanged { 0 < result → (subtype.new ≡ subtype.old) × (out.new ≡ out.old) }
 {
@@ -255,11 +263,11 @@ pub extern "C" fn vbson_raw_binary<'a>(
 }
 
 // Returns the value of the element. It is inlined, since an element that a call passes through memory
-// takes more time than all else.
+// needs more time than everything else.
 #[inline(always)]
 fn value_of<'a>(element: RawElement<'a>) -> RawValue<'a>
     requires { length element.rest.now ≤ length element.value.now }
-    ensures { IsValueOf element.entry result }
+    ensures { IsRawValueOfElement element.entry result }
 {
     RawValue {
         bytes: element.value,
@@ -270,8 +278,8 @@ fn value_of<'a>(element: RawElement<'a>) -> RawValue<'a>
 
 // Returns the value in its bytes, unless it contains a document.
 fn scalar_of<'a>(value: &RawValue<'a>) -> Option<RawBsonRef<'a>>
-    ensures { (depth : ℕ) (v : Value) → IsValueAt depth v value.now
-        → MatchOption result (IsNested v) (λ r. raw_view r ≡ v) }
+    ensures { (depth : ℕ) (denoted_value : Value) → IsRawValueOf depth denoted_value value.now
+        → MatchOption result (IsNested denoted_value) (λ scalar. raw_view scalar ≡ denoted_value) }
 {
     let Some(kind) = ElementType::from(value.kind) else {
         return None;

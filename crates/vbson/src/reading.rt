@@ -4,7 +4,7 @@ ghost use Rattle.bson.specs.TextMeaning.{HasTextMeaningIn};
 ghost use Rattle.bson.specs.View.{bson_view};
 ghost use Rattle.bson_model.specs.Value.{Value};
 ghost use Rattle.bson_run.specs.Preprocessed.{preprocessed_of};
-ghost use Rattle.vbson.specs.Reading.{IsDocumentUnder, IsReadAs, IsPreprocessingFault, IsTextReadFailure, IsReadFailure};
+ghost use Rattle.vbson.specs.Reading.{IsDocumentUnder, TextIsReadAs, IsPreprocessingFault, IsTextReadFailure, IsReadFailure};
 ghost use Rattle.vbson.specs.Reading.{IsDocumentReadFailure, MeansUnder};
 
 use crate::convert::status_of;
@@ -18,7 +18,7 @@ use bson_convert::convert::error_of;
 use bson_convert::error::Error;
 use bson_run::preprocessed::preprocess_text;
 use bson_run::task::Preprocessing;
-use bson_tokens::laws::one_double;
+use bson_tokens::laws::one_duplicate_path;
 use std::alloc::Global;
 
 /// Returns the value of a text.
@@ -33,15 +33,16 @@ use std::alloc::Global;
 /// - `OUT_OF_MEMORY`: an allocation failed.
 pub fn value_of_text(alloc: Global, options: CallOptions, text: &[u8]) -> Result<Bson, u32>
     ensures ok { IfOk result (λ value. MeansUnder options text.now (bson_view value)) }
-    ensures one { (value : Value) → MeansUnder options text.now value → IfOk result (λ v. value ≡ bson_view v) }
+    ensures unique_value { (value : Value) → MeansUnder options text.now value
+        → IfOk result (λ read_value. value ≡ bson_view read_value) }
     ensures rejected { IfErr result (λ status. IsTextReadFailure options status text.now) }
 {
     // A law: no text with a duplicate key has unique keys.
-    one_double();
+    one_duplicate_path();
     match preprocess(alloc, preprocessing_of(options), text) {
         Ok(Some(new_text)) => meaning_of(alloc, options_of(options), new_text.as_bytes()),
         Ok(None) => meaning_of(alloc, options_of(options), text),
-        Err(fault) if fault.is_memory() => Err(status::OUT_OF_MEMORY),
+        Err(fault) if fault.is_out_of_memory() => Err(status::OUT_OF_MEMORY),
         Err(_) => Err(status::NOT_EXTENDED_JSON),
     }
 }
@@ -57,7 +58,7 @@ pub fn preprocess(
     preprocessing: Option<Preprocessing>,
     text: &[u8],
 ) -> Result<Option<String>, Error>
-    ensures ok { IfOk result (λ new_text. IsReadAs preprocessing text.now (preprocessed_of text.now new_text)) }
+    ensures ok { IfOk result (λ new_text. TextIsReadAs preprocessing text.now (preprocessed_of text.now new_text)) }
     ensures rejected { IfErr result (λ fault. IsPreprocessingFault preprocessing fault text.now) }
 {
     match preprocessing {
@@ -69,15 +70,15 @@ pub fn preprocess(
 // Returns the value that bytes mean as a text, with no preprocessing.
 fn meaning_of(alloc: Global, options: Options, bytes: &[u8]) -> Result<Bson, u32>
     ensures ok { IfOk result (λ value. HasTextMeaningIn options.doubles bytes.now (bson_view value)) }
-    ensures one { (value : Value) → HasTextMeaningIn options.doubles bytes.now value
-        → IfOk result (λ v. value ≡ bson_view v) }
+    ensures unique_value { (value : Value) → HasTextMeaningIn options.doubles bytes.now value
+        → IfOk result (λ read_value. value ≡ bson_view read_value) }
     ensures rejected { IfErr result (λ status. IsReadFailure options status bytes.now) }
 {
-    let sorted = Options {
+    let ascending_options = Options {
         key_order: KeyOrder::Ascending,
         ..options
     };
-    match Bson::from_text(alloc, sorted, bytes) {
+    match Bson::from_text(alloc, ascending_options, bytes) {
         Ok(value) => Ok(value),
         Err(error) => Err(status_of(error_of(error))),
     }
@@ -91,15 +92,15 @@ fn meaning_of(alloc: Global, options: Options, bytes: &[u8]) -> Result<Bson, u32
 /// - `OUT_OF_MEMORY`: an allocation failed.
 pub fn value_of_document(alloc: Global, options: CallOptions, bytes: &[u8]) -> Result<Bson, u32>
     ensures ok { IfOk result (λ value. IsDocumentUnder options bytes.now (bson_view value)) }
-    ensures one { (value : Value) → IsDocumentUnder options bytes.now value
-        → IfOk result (λ v. value ≡ bson_view v) }
+    ensures unique_value { (value : Value) → IsDocumentUnder options bytes.now value
+        → IfOk result (λ read_value. value ≡ bson_view read_value) }
     ensures rejected { IfErr result (λ status. IsDocumentReadFailure options status bytes.now) }
 {
-    let reading = ReadOptions {
+    let read_options = ReadOptions {
         depth: DEPTH,
         duplicate_keys: duplicate_keys_of(options),
     };
-    match from_bytes(alloc, reading, bytes) {
+    match from_bytes(alloc, read_options, bytes) {
         Ok(document) => Ok(Bson::Document(document)),
         Err(de::Error::Malformed { .. }) => Err(status::NOT_A_DOCUMENT),
         Err(de::Error::OutOfMemory) => Err(status::OUT_OF_MEMORY),

@@ -17,11 +17,11 @@ use std::alloc::Global;
 use std::str;
 use std::str::FromStr;
 
-/// DenotesDecimal a decimal to its 16 bytes, the lowest first. No value is rounded.
+/// Parses a decimal to its 16 bytes, the lowest first. No value is rounded.
 #[unsafe(no_mangle)]
 pub extern "C" fn vbson_decimal128_parse(text: &[u8], out: &mut [u8; 16]) -> u32
     ensures success { result ≡ 0 → DenotesDecimal text.now out.new }
-    ensures no_such_text { result ≡ 6 → IsUtf8 text.now → (b : List ℕ) → ¬ (DenotesDecimal text.now b) }
+    ensures no_such_text { result ≡ 6 → IsUtf8 text.now → (bytes : List ℕ) → ¬ (DenotesDecimal text.now bytes) }
     ensures possible_statuses { (result ≡ 0) ⊎ (result ≡ 6) }
     ensures unchanged { 0 < result → out.new ≡ out.old }
 {
@@ -57,7 +57,7 @@ pub extern "C" fn vbson_decimal128_print(
     }
 }
 
-/// DenotesDecimal an object id from 24 hexadecimal digits of either case to its 12 bytes.
+/// Parses an object id from 24 hexadecimal digits of either case to its 12 bytes.
 #[unsafe(no_mangle)]
 pub extern "C" fn vbson_object_id_parse(text: &[u8], out: &mut [u8; 12]) -> u32
     ensures success { result ≡ 0 → IsOidText text.now out.new }
@@ -89,11 +89,12 @@ pub extern "C" fn vbson_object_id_print(bytes: &[u8; 12], buffer: &mut [u8], len
     }
 }
 
-/// DenotesDecimal a date-time of RFC 3339 (section 5.6) to milliseconds since 1970-01-01T00:00:00Z.
+/// Parses a date-time of RFC 3339 (section 5.6) to milliseconds since 1970-01-01T00:00:00Z.
 #[unsafe(no_mangle)]
 pub extern "C" fn vbson_date_time_parse(text: &[u8], out: &mut i64) -> u32
     ensures success { result ≡ 0 → DenotesDateTime text.now out.new }
-    ensures no_such_text { result ≡ 6 → IsUtf8 text.now → (ms : ℤ) → ¬ (DenotesDateTime text.now ms) }
+    ensures no_such_text { result ≡ 6 → IsUtf8 text.now → (milliseconds : ℤ)
+        → ¬ (DenotesDateTime text.now milliseconds) }
     ensures possible_statuses { (result ≡ 0) ⊎ (result ≡ 6) }
     ensures unchanged { 0 < result → out.new ≡ out.old }
 {
@@ -101,8 +102,8 @@ pub extern "C" fn vbson_date_time_parse(text: &[u8], out: &mut i64) -> u32
         return status::INVALID_STRING;
     };
     match DateTime::parse_rfc3339_str(text) {
-        Ok(moment) => {
-            *out = moment.timestamp_millis();
+        Ok(date_time) => {
+            *out = date_time.timestamp_millis();
             status::OK
         }
         Err(_) => status::INVALID_STRING,

@@ -4,7 +4,7 @@ ghost use Rattle.bson_codec.specs.DocumentText.{IsDocumentTextOf};
 ghost use Rattle.bson_convert.specs.Convert.{newline};
 ghost use Rattle.vbson.specs.Documents.{IsOneDocument, depth, streaming_form};
 
-use crate::decode::end_line;
+use crate::decode::line_of_text;
 use crate::status;
 use bson::extjson::{Doubles, Form, KeyOrder, Options};
 use bson_codec::de::{DEPTH, Error};
@@ -44,7 +44,7 @@ pub fn decode_streaming(alloc: Global, form: Form, bytes: &[u8]) -> Result<Vec<u
         (λ status. (status ≡ 5) ⊎ ((status ≡ 10) × (IsOneDocument bytes.now → ⊥))) }
 {
     match decode_text(alloc, form, bytes, DEPTH) {
-        Ok(text) => end_line(text),
+        Ok(text) => line_of_text(text),
         Err(Error::Malformed { .. }) => Err(status::NOT_A_DOCUMENT),
         Err(Error::OutOfMemory) => Err(status::OUT_OF_MEMORY),
     }

@@ -32,7 +32,7 @@ pub fn text_of_line(mut line: Vec<u8>) -> Text<'static>
 /// # Errors
 ///
 /// - `OUT_OF_MEMORY`: an allocation failed.
-pub fn as_line(mut bytes: Vec<u8>) -> Result<Vec<u8>, u32>
+pub fn append_newline(mut bytes: Vec<u8>) -> Result<Vec<u8>, u32>
     ensures ok { IfOk result (λ line. line.items ≡ bytes.items ++ newline) }
     ensures error_status { IfErr result (λ status. status ≡ 5) }
 {

@@ -90,11 +90,11 @@ extern "C" {
     fn vbson_convert_lines_nonnull(mode: u32, options: *const RawOptions, block: *const u8, len: usize, out: *mut RawLines) -> u32;
     fn vbson_first_rejected_line_nonnull(mode: u32, options: *const RawOptions, block: *const u8, len: usize, number: *mut u64) -> u32;
     fn vbson_is_canonical_text_nonnull(options: *const RawOptions, text: *const u8, len: usize) -> u32;
-    fn vbson_same_nonnull(options: *const RawOptions, a: *const u8, a_len: usize, b: *const u8, b_len: usize) -> u32;
+    fn vbson_same_nonnull(options: *const RawOptions, left_input: *const u8, left_len: usize, right_input: *const u8, right_len: usize) -> u32;
     fn vbson_hash_nonnull(options: *const RawOptions, text: *const u8, len: usize, out: *mut u64) -> u32;
     fn vbson_is_document(bytes: *const u8, len: usize) -> u32;
     fn vbson_explain_document_nonnull(options: *const RawOptions, bytes: *const u8, len: usize, out: *mut RawError) -> u32;
-    fn vbson_same_documents_nonnull(options: *const RawOptions, a: *const u8, a_len: usize, b: *const u8, b_len: usize) -> u32;
+    fn vbson_same_documents_nonnull(options: *const RawOptions, left_input: *const u8, left_len: usize, right_input: *const u8, right_len: usize) -> u32;
     fn vbson_hash_document_nonnull(options: *const RawOptions, bytes: *const u8, len: usize, out: *mut u64) -> u32;
     fn vbson_decode_nonnull(mode: u32, options: *const RawOptions, bytes: *const u8, len: usize, out: *mut RawText) -> u32;
     fn vbson_encode_nonnull(options: *const RawOptions, text: *const u8, len: usize, out: *mut RawText) -> u32;
@@ -112,10 +112,10 @@ extern "C" {
     fn vbson_raw_object_id(value: *const RawValue, out: *mut [u8; 12]) -> u32;
     fn vbson_raw_date_time(value: *const RawValue, out: *mut i64) -> u32;
     fn vbson_raw_binary(value: *const RawValue, subtype: *mut u32, out: *mut RawSlice) -> u32;
-    fn vbson_document_begin(builder: *mut RawBuilder, start: *mut usize) -> u32;
-    fn vbson_document_end(builder: *mut RawBuilder, start: usize) -> u32;
-    fn vbson_append_document_begin(builder: *mut RawBuilder, key: *const u8, key_len: usize, start: *mut usize) -> u32;
-    fn vbson_append_array_begin(builder: *mut RawBuilder, key: *const u8, key_len: usize, start: *mut usize) -> u32;
+    fn vbson_document_begin(builder: *mut RawBuilder, start_offset: *mut usize) -> u32;
+    fn vbson_document_end(builder: *mut RawBuilder, start_offset: usize) -> u32;
+    fn vbson_append_document_begin(builder: *mut RawBuilder, key: *const u8, key_len: usize, start_offset: *mut usize) -> u32;
+    fn vbson_append_array_begin(builder: *mut RawBuilder, key: *const u8, key_len: usize, start_offset: *mut usize) -> u32;
     fn vbson_append_value(builder: *mut RawBuilder, key: *const u8, key_len: usize, value: *const RawValue) -> u32;
     fn vbson_append_document(builder: *mut RawBuilder, key: *const u8, key_len: usize, bytes: *const u8, len: usize) -> u32;
     fn vbson_append_array(builder: *mut RawBuilder, key: *const u8, key_len: usize, bytes: *const u8, len: usize) -> u32;

@@ -56,7 +56,7 @@ pub use ser::to_document;
 pub use stream::{DumpReader, DumpWriter, LineReader, LineWriter};
 pub use text::{convert, convert_with, explain, hash, is_canonical_text, same, Mode, Options, ReadOptions, Text};
 
-/// Returns the version of the library that is linked, for example (0, 2, 0).
+/// Returns the version of the library that is linked, for example (0, 3, 0).
 pub fn version() -> (u32, u32, u32) {
     let number = call::version();
     (number / 10000, number / 100 % 100, number % 100)

@@ -27,8 +27,8 @@ use bson_store::PairStore;
 #[derive(Drop)]
 pub struct PlaceMut<'a> {
     document: &'a mut Document,
-    at: usize,
-    ghost within: { at < length document.now.pairs },
+    pair_index: usize,
+    ghost within: { pair_index < length document.now.pairs },
 }
 
 impl Document {
@@ -40,12 +40,14 @@ impl Document {
     /// Nothing is promised of the document after this call, also where it answers None: its
     /// contract can't say so in this form. [`Document::change_index`] and [`Document::place_mut`]
     /// promise it whole.
-    pub fn get_index_mut(&mut self, at: usize) -> Option<(&String, &mut Bson)>
-        ensures pair { IfSome result (λ p. Some (string_bytes p.0.now, p.1.now) ≡ slice_get (contents self.old) at) }
-        ensures none { IfNone result (length (contents self.old) ≤ at) }
+    pub fn get_index_mut(&mut self, pair_index: usize) -> Option<(&String, &mut Bson)>
+        ensures pair { IfSome result
+            (λ pair_reference. Some (string_bytes pair_reference.0.now, pair_reference.1.now)
+            ≡ slice_get (contents self.old) pair_index) }
+        ensures none { IfNone result (length (contents self.old) ≤ pair_index) }
     {
-        if at < self.pairs.len() {
-            Some(self.pairs.pair_at_mut(at))
+        if pair_index < self.pairs.len() {
+            Some(self.pairs.pair_at_mut(pair_index))
         } else {
             None
         }
@@ -58,19 +60,22 @@ impl Document {
     /// stay. Where the answer is None, `change` was not called and the document is as it was.
     pub fn change_index<U, F: FnOnce(&String, &mut Bson) -> U>(
         &mut self,
-        at: usize,
+        pair_index: usize,
         change: F,
     ) -> Option<U>
-        requires { (k : Bor (String Global)) (v : MutBor value.Bson)
-            → slice_get (contents self.old) at ≡ Some (string_bytes k.now, v.now) → F.pre change k v }
-        ensures changed { IfSome result (λ u. (k : Bor (String Global)) × (v w : MutBor value.Bson)
-            × (slice_get (contents self.old) at ≡ Some (string_bytes k.now, v.now))
-            × F.post change k v u w
-            × (contents self.new ≡ with_value (contents self.old) at w.now)) }
-        ensures none { IfNone result ((length (contents self.old) ≤ at) × (contents self.new ≡ contents self.old)) }
+        requires { (key_reference : Bor (String Global)) (value_before : MutBor value.Bson)
+            → slice_get (contents self.old) pair_index ≡ Some (string_bytes key_reference.now, value_before.now)
+            → F.pre change key_reference value_before }
+        ensures changed { IfSome result (λ closure_result. (key_reference : Bor (String Global))
+            × (value_before value_after : MutBor value.Bson)
+            × (slice_get (contents self.old) pair_index ≡ Some (string_bytes key_reference.now, value_before.now))
+            × F.post change key_reference value_before closure_result value_after
+            × (contents self.new ≡ with_value (contents self.old) pair_index value_after.now)) }
+        ensures none { IfNone result
+            ((length (contents self.old) ≤ pair_index) × (contents self.new ≡ contents self.old)) }
     {
-        if at < self.pairs.len() {
-            let (key, value) = self.pairs.pair_at_mut(at);
+        if pair_index < self.pairs.len() {
+            let (key, value) = self.pairs.pair_at_mut(pair_index);
             Some(change(key, value))
         } else {
             None
@@ -82,24 +87,28 @@ impl Document {
     /// What a call leaves becomes the value of its pair; the keys and their order stay.
     pub fn change_values<F: FnMut(&String, &mut Bson)>(&mut self, mut change: F)
         requires { F.IsAlwaysCallable change }
-        ensures { (last : F) × ChangesEach F.FnMut change (contents self.old) last (contents self.new) }
+        ensures { (closure_after : F)
+            × ChangesEach F.FnMut change (contents self.old) closure_after (contents self.new) }
     {
-        for at in 0..self.pairs.len() {
-            let (key, value) = self.pairs.pair_at_mut(at);
+        for pair_index in 0..self.pairs.len() {
+            let (key, value) = self.pairs.pair_at_mut(pair_index);
             change(key, value);
         }
     }
 
     /// Returns a guard for the pair at an index, from 0. None past the last pair.
-    pub fn place_mut(&mut self, at: usize) -> Option<PlaceMut<'_>>
+    pub fn place_mut(&mut self, pair_index: usize) -> Option<PlaceMut<'_>>
         ensures* unchanged_at_none { sem 𝓛 (IsUnchangedWithoutPlace self.entry self.old result) }
-        ensures same_document { IfSome result (λ p. (place_document p).ghost_name ≡ self.entry.ghost_name) }
-        ensures unchanged { IfSome result (λ p. (place_document p).now ≡ self.old) }
-        ensures place { IfSome result (λ p. place_index p ≡ at) }
-        ensures none { IfNone result (length (contents self.old) ≤ at) }
+        ensures same_document { IfSome result (λ guard. (place_document guard).ghost_name ≡ self.entry.ghost_name) }
+        ensures unchanged { IfSome result (λ guard. (place_document guard).now ≡ self.old) }
+        ensures place { IfSome result (λ guard. place_index guard ≡ pair_index) }
+        ensures none { IfNone result (length (contents self.old) ≤ pair_index) }
     {
-        if at < self.pairs.len() {
-            Some(PlaceMut { document: self, at })
+        if pair_index < self.pairs.len() {
+            Some(PlaceMut {
+                document: self,
+                pair_index,
+            })
         } else {
             None
         }
@@ -107,24 +116,27 @@ impl Document {
 }
 
 impl<'a> PlaceMut<'a> {
-    ghost use Rattle.bson.specs.PairGuard.{place_document, place_index, place_loan};
+    ghost use Rattle.bson.specs.PairGuard.{place_document, place_index, writes_back_at_place};
 
     /// Returns the key of the pair.
     pub fn key(&self) -> &String
         ensures { Some (string_bytes result.now)
             ≡ slice_get (keys (contents (place_document self.now).now)) (place_index self.now) }
     {
-        self.document.pairs.key_at(self.at)
+        self.document.pairs.key_at(self.pair_index)
     }
 
     /// Returns the value of the pair, to be written. A write changes that value, and nothing else
     /// of the document.
     pub fn into_value(self) -> &'a mut Bson
-        ensures* writes_back { sem 𝓛 (place_loan self.entry result) }
+        ensures* writes_back { sem 𝓛 (writes_back_at_place self.entry result) }
         ensures value { Some result.now
             ≡ slice_get (values (contents (place_document self.entry).now)) (place_index self.entry) }
     {
-        let PlaceMut { document, at } = self;
-        document.pairs.value_at_mut(at)
+        let PlaceMut {
+            document,
+            pair_index,
+        } = self;
+        document.pairs.value_at_mut(pair_index)
     }
 }

@@ -40,8 +40,8 @@ pub enum Entry<'a> {
 pub struct OccupiedEntry<'a> {
     document: &'a mut Document,
     key: String,
-    at: usize,
-    ghost found: { position_of (string_bytes key) document.now.pairs ≡ Some at },
+    pair_index: usize,
+    ghost found: { position_of (string_bytes key) document.now.pairs ≡ Some pair_index },
 }
 
 /// A key that the document lacks.
@@ -63,11 +63,11 @@ pub struct VacantEntry<'a> {
 impl Document {
     ghost use Rattle.std.specs.Prelude.{◌≡◌, ◌++◌, ◌∷◌, [], string_bytes, None, OnOk, OnErr};
     ghost use Rattle.bson_store.specs.Pairs.{get, position_of};
-    ghost use Rattle.bson.specs.Entry.{entry_document, entry_key, MatchesValue};
+    ghost use Rattle.bson.specs.Entry.{entry_document, entry_key, EntryMatchesValue};
     ghost use Rattle.bson.specs.View.{contents};
 
     // Puts a pair last, whose key is absent.
-    fn add(&mut self, key: String, value: Bson) -> Result<(), AllocError>
+    fn push_pair(&mut self, key: String, value: Bson) -> Result<(), AllocError>
         requires { position_of (string_bytes key) (contents self.old) ≡ None }
         ensures ok { OnOk result (contents self.new ≡ contents self.old ++ (string_bytes key, value) ∷ []) }
         ensures err { OnErr result (self.new ≡ self.old) }
@@ -83,13 +83,13 @@ impl Document {
         ensures key { entry_key result ≡ string_bytes key }
         ensures same_document { (entry_document result).ghost_name ≡ self.entry.ghost_name }
         ensures unchanged { (entry_document result).now ≡ self.old }
-        ensures found { MatchesValue result (get (string_bytes key) (contents self.old)) }
+        ensures found { EntryMatchesValue result (get (string_bytes key) (contents self.old)) }
     {
         match self.pairs.find(key.as_str()) {
-            Some(at) => Entry::Occupied(OccupiedEntry {
+            Some(pair_index) => Entry::Occupied(OccupiedEntry {
                 document: self,
                 key,
-                at,
+                pair_index,
             }),
             None => Entry::Vacant(VacantEntry {
                 document: self,
@@ -104,7 +104,7 @@ impl<'a> Entry<'a> {
     ghost use Rattle.std.specs.Borrow.{sem};
     ghost use Rattle.std.specs.Option.{UnwrapsOrElse};
     ghost use Rattle.bson.specs.declared.bson.Bson.{Bson};
-    ghost use Rattle.bson.specs.Entry.{entry_key, entry_value, entry_loan};
+    ghost use Rattle.bson.specs.Entry.{entry_key, entry_value, writes_back_at_entry};
 
     /// Returns the key of the entry.
     pub fn key(&self) -> &str
@@ -124,8 +124,9 @@ impl<'a> Entry<'a> {
     /// Returns `AllocError` if a request for memory is refused. The key is then absent, and the
     /// document is unchanged.
     pub fn or_insert(self, default: Bson) -> Result<&'a mut Bson, AllocError>
-        ensures* writes_back { sem 𝓛 (entry_loan self.entry result) }
-        ensures value { IfOk result (λ x. x.now ≡ unwrap_or (entry_value self.entry) default) }
+        ensures* writes_back { sem 𝓛 (writes_back_at_entry self.entry result) }
+        ensures value { IfOk result
+            (λ value_reference. value_reference.now ≡ unwrap_or (entry_value self.entry) default) }
         ensures absent { OnErr result (entry_value self.entry ≡ None) }
     {
         match self {
@@ -149,10 +150,11 @@ impl<'a> Entry<'a> {
     /// was called, and the document is unchanged.
     pub fn or_insert_with<F: FnOnce() -> Bson>(self, default: F) -> Result<&'a mut Bson, AllocError>
         requires { entry_value self ≡ None → F.pre default }
-        ensures* writes_back { sem 𝓛 (entry_loan self.entry result) }
-        ensures value { IfOk result (λ x. UnwrapsOrElse (entry_value self.entry) (F.post default) x.now) }
+        ensures* writes_back { sem 𝓛 (writes_back_at_entry self.entry result) }
+        ensures value { IfOk result
+            (λ value_reference. UnwrapsOrElse (entry_value self.entry) (F.post default) value_reference.now) }
         ensures absent { OnErr result (entry_value self.entry ≡ None) }
-        ensures called { OnErr result ((v : Bson) × F.post default v) }
+        ensures called { OnErr result ((created : Bson) × F.post default created) }
     {
         match self {
             Entry::Occupied(entry) => Ok(entry.into_mut()),
@@ -164,7 +166,7 @@ impl<'a> Entry<'a> {
 impl<'a> OccupiedEntry<'a> {
     ghost use Rattle.std.specs.Prelude.{◌≡◌, Some};
     ghost use Rattle.std.specs.Borrow.{sem};
-    ghost use Rattle.bson.specs.Entry.{Occupied, entry_key, entry_value, occupied_loan};
+    ghost use Rattle.bson.specs.Entry.{Occupied, entry_key, entry_value, writes_back_at_occupied};
 
     /// Returns the key of the entry.
     pub fn key(&self) -> &str
@@ -175,28 +177,32 @@ impl<'a> OccupiedEntry<'a> {
 
     // The value, for as long as the document is lent.
     fn into_mut(self) -> &'a mut Bson
-        ensures* writes_back { sem 𝓛 (occupied_loan self.entry result) }
+        ensures* writes_back { sem 𝓛 (writes_back_at_occupied self.entry result) }
         ensures value { entry_value (Occupied self.entry) ≡ Some result.now }
     {
-        let OccupiedEntry { document, key, at } = self;
+        let OccupiedEntry {
+            document,
+            key,
+            pair_index,
+        } = self;
         drop(key);
-        document.pairs.value_at_mut(at)
+        document.pairs.value_at_mut(pair_index)
     }
 }
 
 impl<'a> VacantEntry<'a> {
     ghost use Rattle.std.specs.Prelude.{◌≡◌, IfOk};
     ghost use Rattle.std.specs.Borrow.{sem};
-    ghost use Rattle.bson.specs.Entry.{Vacant, entry_loan};
+    ghost use Rattle.bson.specs.Entry.{Vacant, writes_back_at_entry};
 
     // Puts the pair last, and gives its value.
     fn insert(self, value: Bson) -> Result<&'a mut Bson, AllocError>
-        ensures* writes_back { sem 𝓛 (entry_loan (Vacant self.entry) result) }
-        ensures value { IfOk result (λ x. x.now ≡ value) }
+        ensures* writes_back { sem 𝓛 (writes_back_at_entry (Vacant self.entry) result) }
+        ensures value { IfOk result (λ value_reference. value_reference.now ≡ value) }
     {
         let VacantEntry { document, key } = self;
-        let at = document.pairs.len();
-        document.add(key, value)?;
-        Ok(document.pairs.value_at_mut(at))
+        let pair_index = document.pairs.len();
+        document.push_pair(key, value)?;
+        Ok(document.pairs.value_at_mut(pair_index))
     }
 }

@@ -3,7 +3,7 @@ ghost use Rattle.std.specs.Prelude.{◌≡◌, ◌↔◌, [], length, Some, is_s
 ghost use Rattle.std.specs.Prelude.{option_copied, option_map};
 ghost use Rattle.std.specs.Borrow.{sem};
 ghost use Rattle.bson_store.specs.Pairs.{get as value_of, HasDistinctKeys};
-ghost use Rattle.bson.specs.Loans.{LoanOfValue};
+ghost use Rattle.bson.specs.Loans.{WritesBackValue};
 ghost use Rattle.bson.specs.View.{contents};
 ghost use Rattle.bson.specs.declared.bson.Bson.TheVariants.{Null};
 
@@ -32,7 +32,7 @@ impl Document {
         ensures { option_copied result ≡ value_of key.now (contents self.now) }
     {
         match self.pairs.find(key) {
-            Some(at) => Some(self.pairs.value_at(at)),
+            Some(pair_index) => Some(self.pairs.value_at(pair_index)),
             None => None,
         }
     }
@@ -40,11 +40,11 @@ impl Document {
     /// Returns the value at the key, to be written. A write changes that value, and nothing else of
     /// the document.
     pub fn get_mut(&mut self, key: &str) -> Option<&mut Bson>
-        ensures* writes_back { sem 𝓛 (LoanOfValue self.entry self.old key.now result) }
-        ensures value { option_map (λ x. x.now) result ≡ value_of key.now (contents self.old) }
+        ensures* writes_back { sem 𝓛 (WritesBackValue self.entry self.old key.now result) }
+        ensures value { option_map (λ reference. reference.now) result ≡ value_of key.now (contents self.old) }
     {
         match self.pairs.find(key) {
-            Some(at) => Some(self.pairs.value_at_mut(at)),
+            Some(pair_index) => Some(self.pairs.value_at_mut(pair_index)),
             None => None,
         }
     }

@@ -38,18 +38,18 @@ impl Document {
     ghost use Rattle.std.specs.Prelude.{◌≡◌, Ok, Err, IfOk, IfErr};
     ghost use Rattle.std.specs.Borrow.{MutBor, sem};
     ghost use Rattle.std.specs.Fn.{FnOnceReturnsAtMut};
-    ghost use Rattle.bson.specs.Loans.{LoanAtKey};
+    ghost use Rattle.bson.specs.Loans.{WritesBackAtKey};
     ghost use Rattle.bson.specs.View.{contents};
     ghost use Rattle.bson.specs.declared.document.Document as document;
     ghost use Rattle.bson_store.specs.Pairs.{insert_pair};
     ghost use Rattle.bson.specs.declared.bson.Bson.TheVariants as value;
-    ghost use Rattle.bson.specs.LoanTypes.{array_row, boolean_row, bytes_row, date_row, decimal_row};
-    ghost use Rattle.bson.specs.LoanTypes.{double_row, int32_row, int64_row, object_id_row, string_row};
-    ghost use Rattle.bson.specs.LoanTypes.{timestamp_row};
-    ghost use Rattle.bson.specs.Kinds.{typed_get, ok_copied, ok_copied_mut};
+    ghost use Rattle.bson.specs.LoanTypes.{array_rust_type, boolean_rust_type, bytes_rust_type, date_rust_type, decimal_rust_type};
+    ghost use Rattle.bson.specs.LoanTypes.{double_rust_type, int32_rust_type, int64_rust_type, object_id_rust_type, string_rust_type};
+    ghost use Rattle.bson.specs.LoanTypes.{timestamp_rust_type};
+    ghost use Rattle.bson.specs.Kinds.{typed_get, dereferenced_result, dereferenced_mut_result};
     ghost use Rattle.bson.specs.Kinds.{array_of, boolean_of, date_of, decimal_of, document_of};
     ghost use Rattle.bson.specs.Kinds.{double_of};
-    ghost use Rattle.bson.specs.Kinds.{generic, generic_of, int32_of, int64_of, object_id_of};
+    ghost use Rattle.bson.specs.Kinds.{generic_binary_value, generic_binary_bytes_of, int32_of, int64_of, object_id_of};
     ghost use Rattle.bson.specs.Kinds.{string_of};
     ghost use Rattle.bson.specs.Kinds.{text_bytes_of, timestamp_of};
 
@@ -62,7 +62,7 @@ impl Document {
     pub fn get_f64(&self, key: &str) -> ValueAccessResult<u64>
         ensures { result ≡ typed_get double_of key.now self.now }
     {
-        Ok(*self.kind_at::<u64>(key)?)
+        Ok(*self.get_as::<u64>(key)?)
     }
 
     /// Returns the pattern of the double at the key, to write.
@@ -71,10 +71,10 @@ impl Document {
     ///
     /// The errors of [`Document::get_f64`].
     pub fn get_f64_mut(&mut self, key: &str) -> ValueAccessResult<&mut u64>
-        ensures* writes_back { sem 𝓛 (LoanAtKey double_row value.Double self.entry self.old key.now result) }
-        ensures value { ok_copied_mut result ≡ typed_get double_of key.now self.old }
+        ensures* writes_back { sem 𝓛 (WritesBackAtKey double_rust_type value.Double self.entry self.old key.now result) }
+        ensures value { dereferenced_mut_result result ≡ typed_get double_of key.now self.old }
     {
-        self.kind_at_mut::<u64>(key)
+        self.get_as_mut::<u64>(key)
     }
 
     /// Returns the string at the key.
@@ -84,9 +84,9 @@ impl Document {
     /// - `NotPresent`: the key is absent.
     /// - `UnexpectedType`: the value of the key is of another kind.
     pub fn get_str(&self, key: &str) -> ValueAccessResult<&str>
-        ensures { ok_copied result ≡ typed_get (text_bytes_of string_of) key.now self.now }
+        ensures { dereferenced_result result ≡ typed_get (text_bytes_of string_of) key.now self.now }
     {
-        let text = self.kind_at::<String>(key)?;
+        let text = self.get_as::<String>(key)?;
         Ok(text.as_str())
     }
 
@@ -96,10 +96,10 @@ impl Document {
     ///
     /// The errors of [`Document::get_str`].
     pub fn get_str_mut(&mut self, key: &str) -> ValueAccessResult<&mut String>
-        ensures* writes_back { sem 𝓛 (LoanAtKey string_row value.String self.entry self.old key.now result) }
-        ensures value { ok_copied_mut result ≡ typed_get string_of key.now self.old }
+        ensures* writes_back { sem 𝓛 (WritesBackAtKey string_rust_type value.String self.entry self.old key.now result) }
+        ensures value { dereferenced_mut_result result ≡ typed_get string_of key.now self.old }
     {
-        self.kind_at_mut::<String>(key)
+        self.get_as_mut::<String>(key)
     }
 
     /// Returns the array at the key.
@@ -109,9 +109,9 @@ impl Document {
     /// - `NotPresent`: the key is absent.
     /// - `UnexpectedType`: the value of the key is of another kind.
     pub fn get_array(&self, key: &str) -> ValueAccessResult<&Array>
-        ensures { ok_copied result ≡ typed_get array_of key.now self.now }
+        ensures { dereferenced_result result ≡ typed_get array_of key.now self.now }
     {
-        self.kind_at::<Array>(key)
+        self.get_as::<Array>(key)
     }
 
     /// Returns the array at the key, to write.
@@ -120,10 +120,10 @@ impl Document {
     ///
     /// The errors of [`Document::get_array`].
     pub fn get_array_mut(&mut self, key: &str) -> ValueAccessResult<&mut Array>
-        ensures* writes_back { sem 𝓛 (LoanAtKey array_row value.Array self.entry self.old key.now result) }
-        ensures value { ok_copied_mut result ≡ typed_get array_of key.now self.old }
+        ensures* writes_back { sem 𝓛 (WritesBackAtKey array_rust_type value.Array self.entry self.old key.now result) }
+        ensures value { dereferenced_mut_result result ≡ typed_get array_of key.now self.old }
     {
-        self.kind_at_mut::<Array>(key)
+        self.get_as_mut::<Array>(key)
     }
 
     /// Returns the document at the key.
@@ -133,9 +133,9 @@ impl Document {
     /// - `NotPresent`: the key is absent.
     /// - `UnexpectedType`: the value of the key is of another kind.
     pub fn get_document(&self, key: &str) -> ValueAccessResult<&Document>
-        ensures { ok_copied result ≡ typed_get document_of key.now self.now }
+        ensures { dereferenced_result result ≡ typed_get document_of key.now self.now }
     {
-        self.kind_at::<Document>(key)
+        self.get_as::<Document>(key)
     }
 
     /// Returns the document at the key, to write.
@@ -148,9 +148,9 @@ impl Document {
     ///
     /// The errors of [`Document::get_document`].
     pub fn get_document_mut(&mut self, key: &str) -> ValueAccessResult<&mut Document>
-        ensures value { ok_copied_mut result ≡ typed_get document_of key.now self.old }
+        ensures value { dereferenced_mut_result result ≡ typed_get document_of key.now self.old }
     {
-        self.kind_at_mut::<Document>(key)
+        self.get_as_mut::<Document>(key)
     }
 
     /// Calls `change` on the document at the key, and returns its result. The document that
@@ -166,13 +166,13 @@ impl Document {
         key: &str,
         change: F,
     ) -> ValueAccessResult<U>
-        requires { (d : MutBor document.Document)
-            → typed_get document_of key.now self.old ≡ Ok d.now → F.pre change d }
-        ensures changed { IfOk result (λ u. (d e : document.Document)
-            × (typed_get document_of key.now self.old ≡ Ok d)
-            × FnOnceReturnsAtMut F.FnOnce change d u e
-            × (contents self.new ≡ insert_pair key.now (value.Document e) (contents self.old))) }
-        ensures refused { IfErr result (λ e. (typed_get document_of key.now self.old ≡ Err e)
+        requires { (loaned : MutBor document.Document)
+            → typed_get document_of key.now self.old ≡ Ok loaned.now → F.pre change loaned }
+        ensures changed { IfOk result (λ returned. (document_before document_after : document.Document)
+            × (typed_get document_of key.now self.old ≡ Ok document_before)
+            × FnOnceReturnsAtMut F.FnOnce change document_before returned document_after
+            × (contents self.new ≡ insert_pair key.now (value.Document document_after) (contents self.old))) }
+        ensures refused { IfErr result (λ error. (typed_get document_of key.now self.old ≡ Err error)
             × (contents self.new ≡ contents self.old)) }
     {
         match self.get_mut(key) {
@@ -193,7 +193,7 @@ impl Document {
     pub fn get_bool(&self, key: &str) -> ValueAccessResult<bool>
         ensures { result ≡ typed_get boolean_of key.now self.now }
     {
-        Ok(*self.kind_at::<bool>(key)?)
+        Ok(*self.get_as::<bool>(key)?)
     }
 
     /// Returns the boolean at the key, to write.
@@ -202,10 +202,10 @@ impl Document {
     ///
     /// The errors of [`Document::get_bool`].
     pub fn get_bool_mut(&mut self, key: &str) -> ValueAccessResult<&mut bool>
-        ensures* writes_back { sem 𝓛 (LoanAtKey boolean_row value.Boolean self.entry self.old key.now result) }
-        ensures value { ok_copied_mut result ≡ typed_get boolean_of key.now self.old }
+        ensures* writes_back { sem 𝓛 (WritesBackAtKey boolean_rust_type value.Boolean self.entry self.old key.now result) }
+        ensures value { dereferenced_mut_result result ≡ typed_get boolean_of key.now self.old }
     {
-        self.kind_at_mut::<bool>(key)
+        self.get_as_mut::<bool>(key)
     }
 
     /// Returns the number of 32 bits at the key.
@@ -217,7 +217,7 @@ impl Document {
     pub fn get_i32(&self, key: &str) -> ValueAccessResult<i32>
         ensures { result ≡ typed_get int32_of key.now self.now }
     {
-        Ok(*self.kind_at::<i32>(key)?)
+        Ok(*self.get_as::<i32>(key)?)
     }
 
     /// Returns the number of 32 bits at the key, to write.
@@ -226,10 +226,10 @@ impl Document {
     ///
     /// The errors of [`Document::get_i32`].
     pub fn get_i32_mut(&mut self, key: &str) -> ValueAccessResult<&mut i32>
-        ensures* writes_back { sem 𝓛 (LoanAtKey int32_row value.Int32 self.entry self.old key.now result) }
-        ensures value { ok_copied_mut result ≡ typed_get int32_of key.now self.old }
+        ensures* writes_back { sem 𝓛 (WritesBackAtKey int32_rust_type value.Int32 self.entry self.old key.now result) }
+        ensures value { dereferenced_mut_result result ≡ typed_get int32_of key.now self.old }
     {
-        self.kind_at_mut::<i32>(key)
+        self.get_as_mut::<i32>(key)
     }
 
     /// Returns the number of 64 bits at the key.
@@ -241,7 +241,7 @@ impl Document {
     pub fn get_i64(&self, key: &str) -> ValueAccessResult<i64>
         ensures { result ≡ typed_get int64_of key.now self.now }
     {
-        Ok(*self.kind_at::<i64>(key)?)
+        Ok(*self.get_as::<i64>(key)?)
     }
 
     /// Returns the number of 64 bits at the key, to write.
@@ -250,10 +250,10 @@ impl Document {
     ///
     /// The errors of [`Document::get_i64`].
     pub fn get_i64_mut(&mut self, key: &str) -> ValueAccessResult<&mut i64>
-        ensures* writes_back { sem 𝓛 (LoanAtKey int64_row value.Int64 self.entry self.old key.now result) }
-        ensures value { ok_copied_mut result ≡ typed_get int64_of key.now self.old }
+        ensures* writes_back { sem 𝓛 (WritesBackAtKey int64_rust_type value.Int64 self.entry self.old key.now result) }
+        ensures value { dereferenced_mut_result result ≡ typed_get int64_of key.now self.old }
     {
-        self.kind_at_mut::<i64>(key)
+        self.get_as_mut::<i64>(key)
     }
 
     /// Returns the timestamp at the key.
@@ -265,7 +265,7 @@ impl Document {
     pub fn get_timestamp(&self, key: &str) -> ValueAccessResult<Timestamp>
         ensures { result ≡ typed_get timestamp_of key.now self.now }
     {
-        Ok(*self.kind_at::<Timestamp>(key)?)
+        Ok(*self.get_as::<Timestamp>(key)?)
     }
 
     /// Returns the timestamp at the key, to write.
@@ -274,10 +274,10 @@ impl Document {
     ///
     /// The errors of [`Document::get_timestamp`].
     pub fn get_timestamp_mut(&mut self, key: &str) -> ValueAccessResult<&mut Timestamp>
-        ensures* writes_back { sem 𝓛 (LoanAtKey timestamp_row value.Timestamp self.entry self.old key.now result) }
-        ensures value { ok_copied_mut result ≡ typed_get timestamp_of key.now self.old }
+        ensures* writes_back { sem 𝓛 (WritesBackAtKey timestamp_rust_type value.Timestamp self.entry self.old key.now result) }
+        ensures value { dereferenced_mut_result result ≡ typed_get timestamp_of key.now self.old }
     {
-        self.kind_at_mut::<Timestamp>(key)
+        self.get_as_mut::<Timestamp>(key)
     }
 
     /// Returns the bytes of the binary of subtype `Generic` at the key.
@@ -287,9 +287,9 @@ impl Document {
     /// - `NotPresent`: the key is absent.
     /// - `UnexpectedType`: the value is of another kind or subtype, for example `UserDefined(0)`.
     pub fn get_binary_generic(&self, key: &str) -> ValueAccessResult<&Vec<u8>>
-        ensures { ok_copied result ≡ typed_get generic_of key.now self.now }
+        ensures { dereferenced_result result ≡ typed_get generic_binary_bytes_of key.now self.now }
     {
-        self.kind_at::<Vec<u8>>(key)
+        self.get_as::<Vec<u8>>(key)
     }
 
     /// Returns the bytes of the binary of subtype `Generic` at the key, to write.
@@ -298,10 +298,10 @@ impl Document {
     ///
     /// The errors of [`Document::get_binary_generic`].
     pub fn get_binary_generic_mut(&mut self, key: &str) -> ValueAccessResult<&mut Vec<u8>>
-        ensures* writes_back { sem 𝓛 (LoanAtKey bytes_row generic self.entry self.old key.now result) }
-        ensures value { ok_copied_mut result ≡ typed_get generic_of key.now self.old }
+        ensures* writes_back { sem 𝓛 (WritesBackAtKey bytes_rust_type generic_binary_value self.entry self.old key.now result) }
+        ensures value { dereferenced_mut_result result ≡ typed_get generic_binary_bytes_of key.now self.old }
     {
-        self.kind_at_mut::<Vec<u8>>(key)
+        self.get_as_mut::<Vec<u8>>(key)
     }
 
     /// Returns the object id at the key.
@@ -313,7 +313,7 @@ impl Document {
     pub fn get_object_id(&self, key: &str) -> ValueAccessResult<ObjectId>
         ensures { result ≡ typed_get object_id_of key.now self.now }
     {
-        Ok(*self.kind_at::<ObjectId>(key)?)
+        Ok(*self.get_as::<ObjectId>(key)?)
     }
 
     /// Returns the object id at the key, to write.
@@ -322,10 +322,10 @@ impl Document {
     ///
     /// The errors of [`Document::get_object_id`].
     pub fn get_object_id_mut(&mut self, key: &str) -> ValueAccessResult<&mut ObjectId>
-        ensures* writes_back { sem 𝓛 (LoanAtKey object_id_row value.ObjectId self.entry self.old key.now result) }
-        ensures value { ok_copied_mut result ≡ typed_get object_id_of key.now self.old }
+        ensures* writes_back { sem 𝓛 (WritesBackAtKey object_id_rust_type value.ObjectId self.entry self.old key.now result) }
+        ensures value { dereferenced_mut_result result ≡ typed_get object_id_of key.now self.old }
     {
-        self.kind_at_mut::<ObjectId>(key)
+        self.get_as_mut::<ObjectId>(key)
     }
 
     /// Returns the moment at the key.
@@ -335,9 +335,9 @@ impl Document {
     /// - `NotPresent`: the key is absent.
     /// - `UnexpectedType`: the value of the key is of another kind.
     pub fn get_datetime(&self, key: &str) -> ValueAccessResult<&DateTime>
-        ensures { ok_copied result ≡ typed_get date_of key.now self.now }
+        ensures { dereferenced_result result ≡ typed_get date_of key.now self.now }
     {
-        self.kind_at::<DateTime>(key)
+        self.get_as::<DateTime>(key)
     }
 
     /// Returns the moment at the key, to write.
@@ -346,10 +346,10 @@ impl Document {
     ///
     /// The errors of [`Document::get_datetime`].
     pub fn get_datetime_mut(&mut self, key: &str) -> ValueAccessResult<&mut DateTime>
-        ensures* writes_back { sem 𝓛 (LoanAtKey date_row value.DateTime self.entry self.old key.now result) }
-        ensures value { ok_copied_mut result ≡ typed_get date_of key.now self.old }
+        ensures* writes_back { sem 𝓛 (WritesBackAtKey date_rust_type value.DateTime self.entry self.old key.now result) }
+        ensures value { dereferenced_mut_result result ≡ typed_get date_of key.now self.old }
     {
-        self.kind_at_mut::<DateTime>(key)
+        self.get_as_mut::<DateTime>(key)
     }
 
     /// Returns the decimal at the key.
@@ -359,9 +359,9 @@ impl Document {
     /// - `NotPresent`: the key is absent.
     /// - `UnexpectedType`: the value of the key is of another kind.
     pub fn get_decimal128(&self, key: &str) -> ValueAccessResult<&Decimal128>
-        ensures { ok_copied result ≡ typed_get decimal_of key.now self.now }
+        ensures { dereferenced_result result ≡ typed_get decimal_of key.now self.now }
     {
-        self.kind_at::<Decimal128>(key)
+        self.get_as::<Decimal128>(key)
     }
 
     /// Returns the decimal at the key, to write.
@@ -370,29 +370,29 @@ impl Document {
     ///
     /// The errors of [`Document::get_decimal128`].
     pub fn get_decimal128_mut(&mut self, key: &str) -> ValueAccessResult<&mut Decimal128>
-        ensures* writes_back { sem 𝓛 (LoanAtKey decimal_row value.Decimal128 self.entry self.old key.now result) }
-        ensures value { ok_copied_mut result ≡ typed_get decimal_of key.now self.old }
+        ensures* writes_back { sem 𝓛 (WritesBackAtKey decimal_rust_type value.Decimal128 self.entry self.old key.now result) }
+        ensures value { dereferenced_mut_result result ≡ typed_get decimal_of key.now self.old }
     {
-        self.kind_at_mut::<Decimal128>(key)
+        self.get_as_mut::<Decimal128>(key)
     }
 
-    // The value at the key, of the one kind that the type stands for.
-    fn kind_at<T: Kind>(&self, key: &str) -> ValueAccessResult<&T>
-        ensures { ok_copied result ≡ typed_get T.content_of key.now self.now }
+    // The value at the key, of the one kind that the type represents.
+    fn get_as<T: Kind>(&self, key: &str) -> ValueAccessResult<&T>
+        ensures { dereferenced_result result ≡ typed_get T.content_of key.now self.now }
     {
         let value = self.get(key).ok_or(ValueAccessError::NotPresent)?;
-        T::kind(value).ok_or(ValueAccessError::UnexpectedType)
+        T::get_from(value).ok_or(ValueAccessError::UnexpectedType)
     }
 
     // The same, to write.
-    fn kind_at_mut<T: Kind>(&mut self, key: &str) -> ValueAccessResult<&mut T>
-        ensures* writes_back { sem 𝓛 (LoanAtKey T.row T.value_of self.entry self.old key.now result) }
-        ensures value { ok_copied_mut result ≡ typed_get T.content_of key.now self.old }
+    fn get_as_mut<T: Kind>(&mut self, key: &str) -> ValueAccessResult<&mut T>
+        ensures* writes_back { sem 𝓛 (WritesBackAtKey T.row T.value_of self.entry self.old key.now result) }
+        ensures value { dereferenced_mut_result result ≡ typed_get T.content_of key.now self.old }
     {
         match self.get_mut(key) {
             None => Err(ValueAccessError::NotPresent),
-            Some(value) => match T::kind_mut(value) {
-                Some(held) => Ok(held),
+            Some(value) => match T::get_mut_from(value) {
+                Some(content) => Ok(content),
                 None => Err(ValueAccessError::UnexpectedType),
             },
         }

@@ -63,11 +63,11 @@ impl<'a> Iterator for Iter<'a> {
 
     ghost use Rattle.std.specs.Prelude.{string_bytes};
     ghost use Rattle.std.specs.Iterator.{YieldsFirstBy, item_count};
-    ghost use Rattle.bson.specs.Iter.{pairs_left};
+    ghost use Rattle.bson.specs.Iter.{remaining_entries};
 
-    ghost next_gives = { YieldsFirstBy (λ p. (string_bytes p.0.now, p.1.now)) pairs_left };
+    ghost next_gives = { YieldsFirstBy (λ key_and_value. (string_bytes key_and_value.0.now, key_and_value.1.now)) remaining_entries };
 
-    ghost remaining = { item_count pairs_left };
+    ghost remaining = { item_count remaining_entries };
 
     fn next(&mut self) -> Option<(&'a String, &'a Bson)> {
         self.pairs.next()
@@ -79,11 +79,11 @@ impl<'a> Iterator for Keys<'a> {
 
     ghost use Rattle.std.specs.Prelude.{string_bytes};
     ghost use Rattle.std.specs.Iterator.{YieldsFirstBy, item_count};
-    ghost use Rattle.bson.specs.Iter.{keys_left};
+    ghost use Rattle.bson.specs.Iter.{remaining_keys};
 
-    ghost next_gives = { YieldsFirstBy (λ k. string_bytes k.now) keys_left };
+    ghost next_gives = { YieldsFirstBy (λ key_reference. string_bytes key_reference.now) remaining_keys };
 
-    ghost remaining = { item_count keys_left };
+    ghost remaining = { item_count remaining_keys };
 
     fn next(&mut self) -> Option<&'a String> {
         match self.pairs.next() {
@@ -97,11 +97,11 @@ impl<'a> Iterator for Values<'a> {
     type Item = &'a Bson;
 
     ghost use Rattle.std.specs.Iterator.{YieldsFirstRef, item_count};
-    ghost use Rattle.bson.specs.Iter.{values_left};
+    ghost use Rattle.bson.specs.Iter.{remaining_values};
 
-    ghost next_gives = { YieldsFirstRef values_left };
+    ghost next_gives = { YieldsFirstRef remaining_values };
 
-    ghost remaining = { item_count values_left };
+    ghost remaining = { item_count remaining_values };
 
     fn next(&mut self) -> Option<&'a Bson> {
         match self.pairs.next() {
@@ -116,11 +116,11 @@ impl Iterator for IntoIter {
 
     ghost use Rattle.std.specs.Prelude.{string_bytes};
     ghost use Rattle.std.specs.Iterator.{YieldsFirstBy, item_count};
-    ghost use Rattle.bson.specs.Iter.{pairs_to_come};
+    ghost use Rattle.bson.specs.Iter.{remaining_owned_pairs};
 
-    ghost next_gives = { YieldsFirstBy (λ p. (string_bytes p.0, p.1)) pairs_to_come };
+    ghost next_gives = { YieldsFirstBy (λ key_and_value. (string_bytes key_and_value.0, key_and_value.1)) remaining_owned_pairs };
 
-    ghost remaining = { item_count pairs_to_come };
+    ghost remaining = { item_count remaining_owned_pairs };
 
     fn next(&mut self) -> Option<(String, Bson)> {
         self.pairs.next()
@@ -130,12 +130,12 @@ impl Iterator for IntoIter {
 impl Document {
     ghost use Rattle.std.specs.Prelude.{◌≡◌};
     ghost use Rattle.bson_store.specs.Pairs.{keys, values};
-    ghost use Rattle.bson.specs.Iter.{pairs_left, keys_left, values_left};
+    ghost use Rattle.bson.specs.Iter.{remaining_entries, remaining_keys, remaining_values};
     ghost use Rattle.bson.specs.View.{contents};
 
     /// Iterates over the pairs in their order, each as a key and a value.
     pub fn iter(&self) -> Iter<'_>
-        ensures { pairs_left result ≡ contents self.now }
+        ensures { remaining_entries result ≡ contents self.now }
     {
         Iter {
             pairs: self.pairs.iter(),
@@ -144,14 +144,14 @@ impl Document {
 
     /// Iterates over the keys in their order.
     pub fn keys(&self) -> Keys<'_>
-        ensures { keys_left result ≡ keys (contents self.now) }
+        ensures { remaining_keys result ≡ keys (contents self.now) }
     {
         Keys { pairs: self.iter() }
     }
 
     /// Iterates over the values in the order of their keys.
     pub fn values(&self) -> Values<'_>
-        ensures { values_left result ≡ values (contents self.now) }
+        ensures { remaining_values result ≡ values (contents self.now) }
     {
         Values { pairs: self.iter() }
     }
@@ -164,10 +164,11 @@ impl IntoIterator for Document {
 
     ghost use Rattle.std.specs.Prelude.{◌≡◌};
     ghost use Rattle.bson_store.specs.Pairs.{HasDistinctKeys};
-    ghost use Rattle.bson.specs.Iter.{pairs_to_come};
+    ghost use Rattle.bson.specs.Iter.{remaining_owned_pairs};
     ghost use Rattle.bson.specs.View.{contents};
 
-    ghost into_iter_gives = { λ d r. (pairs_to_come r ≡ contents d) × HasDistinctKeys (contents d) };
+    ghost into_iter_gives = { λ owned_document iterator. (remaining_owned_pairs iterator ≡ contents owned_document)
+        × HasDistinctKeys (contents owned_document) };
 
     fn into_iter(self) -> IntoIter {
         IntoIter {
@@ -182,10 +183,10 @@ impl<'a> IntoIterator for &'a Document {
     type IntoIter = Iter<'a>;
 
     ghost use Rattle.std.specs.Prelude.{◌≡◌};
-    ghost use Rattle.bson.specs.Iter.{pairs_left};
+    ghost use Rattle.bson.specs.Iter.{remaining_entries};
     ghost use Rattle.bson.specs.View.{contents};
 
-    ghost into_iter_gives = { λ d r. pairs_left r ≡ contents d.now };
+    ghost into_iter_gives = { λ owned_document iterator. remaining_entries iterator ≡ contents owned_document.now };
 
     fn into_iter(self) -> Iter<'a> {
         self.iter()

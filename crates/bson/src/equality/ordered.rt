@@ -1,6 +1,6 @@
 //! Equality of values with the order of their keys, which `==` ignores.
 ghost use Rattle.std.specs.Prelude.{◌≡◌, ◌↔◌, IsTrue};
-ghost use Rattle.bson.specs.View.{bson_view, document_view, scoped_view, values_view};
+ghost use Rattle.bson.specs.View.{bson_view, document_view, code_with_scope_view, values_view};
 ghost use Rattle.bson.specs.SameInOrder.{same_in_order, same_items_in_order, same_pairs_in_order};
 
 use crate::bson::{Bson, JavaScriptCodeWithScope};
@@ -15,7 +15,7 @@ impl Bson {
     pub fn eq_ordered(&self, other: &Bson) -> bool
         ensures { IsTrue result ↔ (bson_view self.now ≡ bson_view other.now) }
     {
-        values_in_order(self, other)
+        same_values_in_order(self, other)
     }
 }
 
@@ -25,65 +25,74 @@ impl Document {
     pub fn eq_ordered(&self, other: &Document) -> bool
         ensures { IsTrue result ↔ (document_view self.now ≡ document_view other.now) }
     {
-        documents_in_order(self, other)
+        same_documents_in_order(self, other)
     }
 }
 
 #[cycle(in_order)]
 #[tactic(auto, unfolding(crate::specs::SameInOrder::same_in_order, bson_model::specs::Same::same))]
-fn values_in_order(left: &Bson, right: &Bson) -> bool
+fn same_values_in_order(left: &Bson, right: &Bson) -> bool
     ensures { result ≡ same_in_order (bson_view left.now) (bson_view right.now) }
 {
     match (left, right) {
-        (Bson::Array(a), Bson::Array(b)) => lists_in_order(a, b),
-        (Bson::Document(a), Bson::Document(b)) => documents_in_order(a, b),
-        (Bson::JavaScriptCodeWithScope(a), Bson::JavaScriptCodeWithScope(b)) => {
-            scoped_in_order(a, b)
-        }
-        (a, b) => a == b,
+        (Bson::Array(left_content), Bson::Array(right_content)) => same_lists_in_order(
+            left_content,
+            right_content,
+        ),
+        (Bson::Document(left_content), Bson::Document(right_content)) => same_documents_in_order(
+            left_content,
+            right_content,
+        ),
+        (
+            Bson::JavaScriptCodeWithScope(left_content),
+            Bson::JavaScriptCodeWithScope(right_content),
+        ) => { same_code_in_order(left_content, right_content) }
+        (left_content, right_content) => left_content == right_content,
     }
 }
 
 #[cycle(in_order)]
 #[tactic(auto, unfolding(crate::specs::SameInOrder::same_in_order))]
-fn scoped_in_order(left: &JavaScriptCodeWithScope, right: &JavaScriptCodeWithScope) -> bool
-    ensures { result ≡ same_in_order (scoped_view left.now) (scoped_view right.now) }
+fn same_code_in_order(left: &JavaScriptCodeWithScope, right: &JavaScriptCodeWithScope) -> bool
+    ensures { result ≡ same_in_order (code_with_scope_view left.now) (code_with_scope_view right.now) }
 {
-    left.code == right.code && documents_in_order(&left.scope, &right.scope)
+    left.code == right.code && same_documents_in_order(&left.scope, &right.scope)
 }
 
 #[cycle(in_order)]
-fn lists_in_order(left: &Vec<Bson>, right: &Vec<Bson>) -> bool
+fn same_lists_in_order(left: &Vec<Bson>, right: &Vec<Bson>) -> bool
     ensures { result ≡ same_items_in_order (values_view left.now.items) (values_view right.now.items) }
 {
     if left.len() != right.len() {
         return false;
     }
-    let mut at = 0;
-    'items: while at < left.len() && values_in_order(&left[at], &right[at]) {
-        at += 1;
+    let mut item_index = 0;
+    'items: while item_index < left.len()
+        && same_values_in_order(&left[item_index], &right[item_index])
+    {
+        item_index += 1;
     }
-    at == left.len()
+    item_index == left.len()
 }
 
 #[cycle(in_order)]
-fn documents_in_order(left: &Document, right: &Document) -> bool
+fn same_documents_in_order(left: &Document, right: &Document) -> bool
     ensures { result ≡ same_pairs_in_order (document_view left.now) (document_view right.now) }
 {
-    let mut lefts = left.iter();
-    let mut rights = right.iter();
-    'pairs: while let Some((key, value)) = lefts.next() {
-        match rights.next() {
+    let mut left_pairs = left.iter();
+    let mut right_pairs = right.iter();
+    'pairs: while let Some((key, value)) = left_pairs.next() {
+        match right_pairs.next() {
             None => return false,
-            Some((other_key, other)) => {
+            Some((other_key, other_value)) => {
                 if key != other_key {
                     return false;
                 }
-                if !values_in_order(value, other) {
+                if !same_values_in_order(value, other_value) {
                     return false;
                 }
             }
         }
     }
-    rights.next().is_none()
+    right_pairs.next().is_none()
 }

@@ -1,10 +1,10 @@
 //! Values in memory that a text is read into.
 ghost use Rattle.std.specs.Prelude.{◌≡◌, ◌++◌, ◌∷◌, [], string_bytes, IfOk, OnOk, IfErr};
-ghost use Rattle.bson_text.specs.ErrorDenials.{RulesOutText};
-ghost use Rattle.bson_text.specs.TraversalErrors.{MayFail};
+ghost use Rattle.bson_text.specs.ErrorDenials.{ErrorRulesOutText};
+ghost use Rattle.bson_text.specs.TraversalErrors.{IsWriterError};
 ghost use Rattle.bson.specs.SortedMembers.{pairs_of_members};
-ghost use Rattle.bson.specs.BsonWriterState.{HasPushed, key_in_container, document_in_order};
-ghost use Rattle.bson.specs.TextMeaning.{HasTextMeaningBy};
+ghost use Rattle.bson.specs.BsonWriterState.{HasPushedBson, key_in_container, document_in_order};
+ghost use Rattle.bson.specs.TextMeaning.{HasTextMeaningInKeyOrder};
 ghost use Rattle.bson.specs.View.{bson_view, document_view};
 
 use crate::bson::Bson;
@@ -28,7 +28,7 @@ use std::mem::replace;
 #[derive(Drop)]
 pub(crate) struct BsonWriter {
     pub(crate) alloc: Global,
-    pub(crate) order: KeyOrder,
+    pub(crate) key_order: KeyOrder,
     // The innermost array or document that is open. Outside of them, and around a scope, it is an
     // array.
     pub(crate) container: Container,
@@ -45,15 +45,17 @@ pub(crate) enum Container {
 
 /// The container around an array, a document or code, and its key there.
 #[derive(Drop)]
-pub(crate) struct Enclosing {
+pub(crate) struct EnclosingContainer {
     pub(crate) outer: Container,
     pub(crate) key: String,
 }
 
 impl BsonWriter {
     // Returns a copy of the name if the container has keys.
-    fn key_of(&self, name: &str) -> Result<String, AllocError>
-        ensures { IfOk result (λ key. key_in_container self.now.container (string_bytes key) ≡ key_in_container self.now.container name.now) }
+    fn copy_key_for_container(&self, name: &str) -> Result<String, AllocError>
+        ensures { IfOk result
+            (λ key. key_in_container self.now.container (string_bytes key)
+            ≡ key_in_container self.now.container name.now) }
     {
         match &self.container {
             Container::Array(_) => Ok(String::new(self.alloc)),
@@ -62,27 +64,27 @@ impl BsonWriter {
     }
 
     fn push(&mut self, key: String, value: Bson) -> Result<(), TraversalError>
-        ensures pushed { OnOk result (HasPushed self.old (string_bytes key) value self.new) }
-        ensures stops { IfErr result (MayFail (λ doubles. ⊥)) }
+        ensures pushed { OnOk result (HasPushedBson self.old (string_bytes key) value self.new) }
+        ensures stops { IfErr result (IsWriterError (λ doubles. ⊥)) }
     {
         match &mut self.container {
-            Container::Array(items) => push_to(items, value),
-            Container::Document(entries) => push_to(entries, Pair { key, value }),
+            Container::Array(items) => push_to_list(items, value),
+            Container::Document(entries) => push_to_list(entries, Pair { key, value }),
         }
     }
 
-    fn push_under(&mut self, name: &str, value: Bson) -> Result<(), TraversalError>
-        ensures pushed { OnOk result (HasPushed self.old name.now value self.new) }
-        ensures stops { IfErr result (MayFail (λ doubles. ⊥)) }
+    fn push_with_name(&mut self, name: &str, value: Bson) -> Result<(), TraversalError>
+        ensures pushed { OnOk result (HasPushedBson self.old name.now value self.new) }
+        ensures stops { IfErr result (IsWriterError (λ doubles. ⊥)) }
     {
-        let key = self.key_of(name)?;
+        let key = self.copy_key_for_container(name)?;
         self.push(key, value)
     }
 }
 
-fn push_to<T: Drop>(list: &mut Vec<T>, value: T) -> Result<(), TraversalError>
+fn push_to_list<T: Drop>(list: &mut Vec<T>, value: T) -> Result<(), TraversalError>
     ensures pushed { OnOk result (list.new.items ≡ list.old.items ++ value ∷ []) }
-    ensures stops { IfErr result (MayFail (λ doubles. ⊥)) }
+    ensures stops { IfErr result (IsWriterError (λ doubles. ⊥)) }
 {
     let Ok(()) = list.push(value) else {
         return Err(TraversalError::OutOfMemory);
@@ -91,7 +93,7 @@ fn push_to<T: Drop>(list: &mut Vec<T>, value: T) -> Result<(), TraversalError>
 }
 
 impl ValueWriter for BsonWriter {
-    type Open = Enclosing;
+    type OpenContainer = EnclosingContainer;
 
     ghost use Rattle.bson.specs.BsonWriterState.{HasPushedValue, HasPushedDocument, HasBegunArray, HasBegunDocument, HasBegunCode};
 
@@ -99,50 +101,50 @@ impl ValueWriter for BsonWriter {
 
     ghost sorts_keys = { ⊥ };
 
-    ghost item_name_of = { λ n. [] };
+    ghost item_name_of = { λ item_index. [] };
 
-    ghost wrote_value = { λ old k v new. HasPushedValue old k v new };
+    ghost wrote_value = { λ old name_bytes bson_value new. HasPushedValue old name_bytes bson_value new };
 
-    ghost wrote_document = { λ old ps new. HasPushedDocument old ps new };
+    ghost wrote_document = { λ old pair_list new. HasPushedDocument old pair_list new };
 
-    ghost began_array = { λ old k enclosing new. HasBegunArray old k enclosing new };
+    ghost began_array = { λ old name_bytes enclosing new. HasBegunArray old name_bytes enclosing new };
 
     ghost began_document = { λ old enclosing new. HasBegunDocument old enclosing new };
 
-    ghost wrote_key = { λ old k new. new ≡ old };
+    ghost wrote_key = { λ old name_bytes new. new ≡ old };
 
-    ghost began_code = { λ old k s enclosing new. HasBegunCode old k s enclosing new };
+    ghost began_code = { λ old name_bytes code_bytes enclosing new. HasBegunCode old name_bytes code_bytes enclosing new };
 
     fn string(&mut self, name: &str, text: &str) -> Result<(), TraversalError> {
         let text = String::from_str(self.alloc, text)?;
-        self.push_under(name, Bson::String(text))
+        self.push_with_name(name, Bson::String(text))
     }
 
     fn boolean(&mut self, name: &str, truth: bool) -> Result<(), TraversalError> {
-        self.push_under(name, Bson::Boolean(truth))
+        self.push_with_name(name, Bson::Boolean(truth))
     }
 
     fn null(&mut self, name: &str) -> Result<(), TraversalError> {
-        self.push_under(name, Bson::Null)
+        self.push_with_name(name, Bson::Null)
     }
 
     fn scalar(&mut self, name: &str, value: Scalar) -> Result<(), TraversalError> {
-        self.push_under(name, from_scalar(value))
+        self.push_with_name(name, from_scalar(value))
     }
 
-    fn item_name<'b>(_buffer: &'b mut Buffer, _place: usize) -> &'b str {
+    fn item_name<'b>(_buffer: &'b mut Buffer, _index: usize) -> &'b str {
         ""
     }
 
-    fn begin_array(&mut self, name: &str) -> Result<Enclosing, TraversalError> {
-        let key = self.key_of(name)?;
+    fn begin_array(&mut self, name: &str) -> Result<EnclosingContainer, TraversalError> {
+        let key = self.copy_key_for_container(name)?;
         let items = Container::Array(Vec::new(self.alloc));
         let outer = replace(&mut self.container, items);
-        Ok(Enclosing { outer, key })
+        Ok(EnclosingContainer { outer, key })
     }
 
-    fn end_array(&mut self, enclosing: Enclosing) -> Result<(), TraversalError> {
-        let Enclosing { outer, key } = enclosing;
+    fn end_array(&mut self, enclosing: EnclosingContainer) -> Result<(), TraversalError> {
+        let EnclosingContainer { outer, key } = enclosing;
         let Container::Array(mut items) = replace(&mut self.container, outer) else {
             unreachable!()
         };
@@ -150,42 +152,46 @@ impl ValueWriter for BsonWriter {
         self.push(key, Bson::Array(items))
     }
 
-    fn embed(&mut self, name: &str) -> Result<(), TraversalError> {
-        self.key = self.key_of(name)?;
+    fn embed_document(&mut self, name: &str) -> Result<(), TraversalError> {
+        self.key = self.copy_key_for_container(name)?;
         Ok(())
     }
 
-    fn begin(&mut self) -> Result<Enclosing, TraversalError> {
+    fn begin_document(&mut self) -> Result<EnclosingContainer, TraversalError> {
         let key = replace(&mut self.key, String::new(self.alloc));
         let entries = Container::Document(Vec::new(self.alloc));
         let outer = replace(&mut self.container, entries);
-        Ok(Enclosing { outer, key })
+        Ok(EnclosingContainer { outer, key })
     }
 
     fn key(&mut self, _name: &str) -> Result<(), TraversalError> {
         Ok(())
     }
 
-    fn end(&mut self, enclosing: Enclosing, _keys: &mut [&str]) -> Result<(), TraversalError> {
-        let Enclosing { outer, key } = enclosing;
+    fn end_document(
+        &mut self,
+        enclosing: EnclosingContainer,
+        _keys: &mut [&str],
+    ) -> Result<(), TraversalError> {
+        let EnclosingContainer { outer, key } = enclosing;
         let Container::Document(entries) = replace(&mut self.container, outer) else {
             unreachable!()
         };
-        let document = document_of(self.alloc, self.order, entries)?;
+        let document = document_of(self.alloc, self.key_order, entries)?;
         self.push(key, Bson::Document(document))
     }
 
-    fn begin_code(&mut self, name: &str, code: &str) -> Result<Enclosing, TraversalError> {
-        let key = self.key_of(name)?;
+    fn begin_code(&mut self, name: &str, code: &str) -> Result<EnclosingContainer, TraversalError> {
+        let key = self.copy_key_for_container(name)?;
         let items = Container::Array(Vec::new(self.alloc));
         let outer = replace(&mut self.container, items);
         let code = String::from_str(self.alloc, code)?;
-        self.push_under("", Bson::JavaScriptCode(code))?;
-        Ok(Enclosing { outer, key })
+        self.push_with_name("", Bson::JavaScriptCode(code))?;
+        Ok(EnclosingContainer { outer, key })
     }
 
-    fn end_code(&mut self, enclosing: Enclosing) -> Result<(), TraversalError> {
-        let Enclosing { outer, key } = enclosing;
+    fn end_code(&mut self, enclosing: EnclosingContainer) -> Result<(), TraversalError> {
+        let EnclosingContainer { outer, key } = enclosing;
         let Container::Array(mut items) = replace(&mut self.container, outer) else {
             unreachable!()
         };
@@ -202,12 +208,13 @@ impl ValueWriter for BsonWriter {
 // Makes the document of the entries. If a key is duplicated, its last value wins.
 fn document_of(
     alloc: Global,
-    order: KeyOrder,
+    key_order: KeyOrder,
     entries: Vec<Pair<Bson>>,
 ) -> Result<Document, AllocError>
-    ensures { IfOk result (λ document. document_view document ≡ document_in_order order (pairs_of_members entries.items)) }
+    ensures { IfOk result
+        (λ document. document_view document ≡ document_in_order key_order (pairs_of_members entries.items)) }
 {
-    match order {
+    match key_order {
         KeyOrder::Ascending => document_of_members(alloc, entries),
         KeyOrder::AsGiven => Document::from_entries(alloc, entries),
     }
@@ -217,15 +224,16 @@ fn document_of(
 pub(crate) fn read_once(
     alloc: Global,
     doubles: Doubles,
-    order: KeyOrder,
+    key_order: KeyOrder,
     text: &str,
 ) -> Result<Bson, TraversalError>
-    ensures ok { IfOk result (λ v. HasTextMeaningBy order doubles text.now (bson_view v)) }
-    ensures stops { IfErr result (λ e. RulesOutText doubles ⊥ ⊥ e text.now) }
+    ensures ok { IfOk result
+        (λ bson_value. HasTextMeaningInKeyOrder key_order doubles text.now (bson_view bson_value)) }
+    ensures stops { IfErr result (λ reading_error. ErrorRulesOutText doubles ⊥ ⊥ reading_error text.now) }
 {
     let writer = BsonWriter {
         alloc,
-        order,
+        key_order,
         container: Container::Array(Vec::new(alloc)),
         key: String::new(alloc),
     };

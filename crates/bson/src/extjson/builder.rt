@@ -1,7 +1,7 @@
 //! A `Bson`, built from its parts as a tree is read.
 ghost use Rattle.std.specs.Prelude.{◌≡◌, string_bytes};
 ghost use Rattle.bson_model.specs.Value.{code_scope};
-ghost use Rattle.bson_model.specs.Normal.{InRange, ItemsInRange, PairsInRange};
+ghost use Rattle.bson_model.specs.Normal.{NumbersInRange, ItemsInRange, PairsInRange};
 ghost use Rattle.bson.specs.View.{bson_view, document_view, pairs_view, values_view};
 
 use crate::bson::{Bson, JavaScriptCodeWithScope};
@@ -12,7 +12,7 @@ use bson_store::{PairStore, SmallPairs};
 use bson_tree::builder::ValueBuilder;
 use std::alloc::{AllocError, Global};
 
-/// Builds the `Bson` that stands for each value.
+/// Builds the `Bson` of each value.
 pub(crate) struct BsonBuilder;
 
 impl ValueBuilder for BsonBuilder {
@@ -22,11 +22,13 @@ impl ValueBuilder for BsonBuilder {
 
     type Pairs = SmallPairs<Bson>;
 
-    ghost built = { λ b v. (bson_view b ≡ v) × InRange (bson_view b) };
+    ghost represents = { λ built_value model_value. (bson_view built_value ≡ model_value)
+        × NumbersInRange (bson_view built_value) };
 
-    ghost listed = { λ items vs. (values_view items.items ≡ vs) × ItemsInRange (values_view items.items) };
+    ghost represents_items = { λ items model_values. (values_view items.items ≡ model_values)
+        × ItemsInRange (values_view items.items) };
 
-    ghost paired = { λ pairs ps. (pairs_view pairs ≡ ps) × PairsInRange (pairs_view pairs) };
+    ghost represents_pairs = { λ pairs model_pairs. (pairs_view pairs ≡ model_pairs) × PairsInRange (pairs_view pairs) };
 
     fn scalar(value: Scalar) -> Bson {
         from_scalar(value)

@@ -7,8 +7,8 @@ ghost use Rattle.bson_model.specs.Value.{Pairs};
 ghost use Rattle.bson_scalar.specs.Faults.{IsReadResult};
 ghost use Rattle.bson_model.specs.Means.{Means, MeansIn, MeansDocument, MeansDocumentIn};
 ghost use Rattle.bson_model.specs.Sorted.{KeysAscend};
-ghost use Rattle.bson_model.specs.Texts.{Ascends, ValueRoundTrips, ValueRoundTripsIn};
-ghost use Rattle.bson_model.specs.Normal.{InRange, PairsInRange};
+ghost use Rattle.bson_model.specs.Texts.{MemberKeysAscend, ValueRoundTrips, ValueRoundTripsIn};
+ghost use Rattle.bson_model.specs.Normal.{NumbersInRange, PairsInRange};
 ghost use Rattle.bson_model.specs.Laws.{HasMeaning, HasMeaningIn, HasDocumentMeaning, HasDocumentMeaningIn};
 ghost use Rattle.bson_model.specs.Fault.{IsFaultOf, IsFaultOfIn, IsDocumentFault, IsDocumentFaultIn};
 ghost use Rattle.bson.specs.View.{bson_view, document_view};
@@ -41,11 +41,12 @@ impl Bson {
     /// - `DeserializationError`: the tree has another fault.
     /// - `OutOfMemory`: a request for memory was refused.
     pub fn try_from_value(alloc: Global, value: Value) -> Result<Bson>
-        ensures ok { IfOk result (λ v. HasMeaning (view value) (bson_view v)) }
-        ensures accepts { (v : model.Value) → Means (view value) v → IsReadResult bson_view result (Ok v) }
-        ensures fault { IfErr result (λ e. IsFaultOf (view value) e) }
-        ensures ranged { IfOk result (λ v. InRange (bson_view v)) }
-        ensures comes_back { IfOk result (λ v. ValueRoundTrips (bson_view v)) }
+        ensures ok { IfOk result (λ parsed. HasMeaning (view value) (bson_view parsed)) }
+        ensures accepts { (parsed : model.Value) → Means (view value) parsed
+            → IsReadResult bson_view result (Ok parsed) }
+        ensures fault { IfErr result (λ read_error. IsFaultOf (view value) read_error) }
+        ensures within_type_range { IfOk result (λ parsed. NumbersInRange (bson_view parsed)) }
+        ensures round_trips { IfOk result (λ parsed. ValueRoundTrips (bson_view parsed)) }
     {
         read(alloc, Doubles::Special, value)
     }
@@ -59,11 +60,12 @@ impl Bson {
     ///
     /// The errors of `try_from_value`.
     pub fn from_tree(alloc: Global, doubles: Doubles, value: Value) -> Result<Bson>
-        ensures ok { IfOk result (λ v. HasMeaningIn doubles (view value) (bson_view v)) }
-        ensures accepts { (v : model.Value) → MeansIn doubles (view value) v → IsReadResult bson_view result (Ok v) }
-        ensures fault { IfErr result (λ e. IsFaultOfIn doubles (view value) e) }
-        ensures ranged { IfOk result (λ v. InRange (bson_view v)) }
-        ensures comes_back { IfOk result (λ v. ValueRoundTripsIn doubles (bson_view v)) }
+        ensures ok { IfOk result (λ parsed. HasMeaningIn doubles (view value) (bson_view parsed)) }
+        ensures accepts { (parsed : model.Value) → MeansIn doubles (view value) parsed
+            → IsReadResult bson_view result (Ok parsed) }
+        ensures fault { IfErr result (λ read_error. IsFaultOfIn doubles (view value) read_error) }
+        ensures within_type_range { IfOk result (λ parsed. NumbersInRange (bson_view parsed)) }
+        ensures round_trips { IfOk result (λ parsed. ValueRoundTripsIn doubles (bson_view parsed)) }
     {
         read(alloc, doubles, value)
     }
@@ -74,12 +76,12 @@ impl Bson {
     ///
     /// The errors of `try_from_value`.
     pub fn try_from_map(alloc: Global, map: Map<String, Value>) -> Result<Bson>
-        ensures ok { IfOk result (λ v. HasMeaning (object (members_view map.entries)) (bson_view v)) }
-        ensures accepts { (v : model.Value) → Means (object (members_view map.entries)) v
-            → IsReadResult bson_view result (Ok v) }
-        ensures fault { IfErr result (λ e. IsFaultOf (object (members_view map.entries)) e) }
-        ensures ranged { IfOk result (λ v. InRange (bson_view v)) }
-        ensures comes_back { IfOk result (λ v. ValueRoundTrips (bson_view v)) }
+        ensures ok { IfOk result (λ parsed. HasMeaning (object (members_view map.entries)) (bson_view parsed)) }
+        ensures accepts { (parsed : model.Value) → Means (object (members_view map.entries)) parsed
+            → IsReadResult bson_view result (Ok parsed) }
+        ensures fault { IfErr result (λ read_error. IsFaultOf (object (members_view map.entries)) read_error) }
+        ensures within_type_range { IfOk result (λ parsed. NumbersInRange (bson_view parsed)) }
+        ensures round_trips { IfOk result (λ parsed. ValueRoundTrips (bson_view parsed)) }
     {
         Bson::try_from_value(alloc, Value::Object(map))
     }
@@ -98,14 +100,14 @@ impl Document {
     /// - `DeserializationError`: the value has another fault.
     /// - `OutOfMemory`: a request for memory was refused.
     pub fn try_from_map(alloc: Global, map: Map<String, Value>) -> Result<Document>
-        ensures ok { IfOk result (λ v. HasDocumentMeaning (members_view map.entries) (document_view v)) }
-        ensures accepts { (ps : Pairs) → MeansDocument (members_view map.entries) ps
-            → IsReadResult document_view result (Ok ps) }
-        ensures ascends { IfOk result (λ v. KeysAscend (document_view v)) }
-        ensures fault { IfErr result (λ e. IsDocumentFault (members_view map.entries) e) }
-        ensures ranged { IfOk result (λ v. PairsInRange (document_view v)) }
+        ensures ok { IfOk result (λ parsed. HasDocumentMeaning (members_view map.entries) (document_view parsed)) }
+        ensures accepts { (meant_pairs : Pairs) → MeansDocument (members_view map.entries) meant_pairs
+            → IsReadResult document_view result (Ok meant_pairs) }
+        ensures ascends { IfOk result (λ parsed. KeysAscend (document_view parsed)) }
+        ensures fault { IfErr result (λ read_error. IsDocumentFault (members_view map.entries) read_error) }
+        ensures within_type_range { IfOk result (λ parsed. PairsInRange (document_view parsed)) }
     {
-        ascending(&map);
+        keys_ascend(&map);
         read_members(alloc, Doubles::Special, map)
     }
 
@@ -120,21 +122,21 @@ impl Document {
         map: Map<String, Value>,
     ) -> Result<Document>
         ensures ok { IfOk result
-            (λ v. HasDocumentMeaningIn doubles (members_view map.entries) (document_view v)) }
-        ensures accepts { (ps : Pairs) → MeansDocumentIn doubles (members_view map.entries) ps
-            → IsReadResult document_view result (Ok ps) }
-        ensures ascends { IfOk result (λ v. KeysAscend (document_view v)) }
-        ensures fault { IfErr result (λ e. IsDocumentFaultIn doubles (members_view map.entries) e) }
-        ensures ranged { IfOk result (λ v. PairsInRange (document_view v)) }
+            (λ parsed. HasDocumentMeaningIn doubles (members_view map.entries) (document_view parsed)) }
+        ensures accepts { (meant_pairs : Pairs) → MeansDocumentIn doubles (members_view map.entries) meant_pairs
+            → IsReadResult document_view result (Ok meant_pairs) }
+        ensures ascends { IfOk result (λ parsed. KeysAscend (document_view parsed)) }
+        ensures fault { IfErr result (λ read_error. IsDocumentFaultIn doubles (members_view map.entries) read_error) }
+        ensures within_type_range { IfOk result (λ parsed. PairsInRange (document_view parsed)) }
     {
-        ascending(&map);
+        keys_ascend(&map);
         read_members(alloc, doubles, map)
     }
 }
 
 // The keys of a map are in ascending order.
-fn ascending(map: &Map<String, Value>)
-    ensures { Ascends (members_view map.now.entries) }
+fn keys_ascend(map: &Map<String, Value>)
+    ensures { MemberKeysAscend (members_view map.now.entries) }
 {
     let _pairs = map.iter();
 }

@@ -4,9 +4,9 @@ ghost use Rattle.serde_json.specs.View.{view, number_view, members_view};
 ghost use Rattle.bson_scalar.specs.Faults.{IsReadResult};
 ghost use Rattle.bson_scalar.specs.Reading.{number_read_in, optional_wrapper_read_in};
 ghost use Rattle.bson_scalar.specs.Table.{wrapper_of};
-ghost use Rattle.bson_model.specs.Normal.{InRange, PairsInRange};
-ghost use Rattle.bson_model.specs.Reading.{scalar_value, reads_in, reads_members_in};
-ghost use Rattle.bson.specs.ReadErrors.{IsErrorOf};
+ghost use Rattle.bson_model.specs.Normal.{NumbersInRange, PairsInRange};
+ghost use Rattle.bson_model.specs.Reading.{scalar_result_as_value, reads_tree_in, reads_members_in};
+ghost use Rattle.bson.specs.ReadErrors.{IsErrorForReason};
 ghost use Rattle.bson.specs.View.{bson_view, document_view};
 
 use crate::bson::Bson;
@@ -23,30 +23,32 @@ use serde_json::{Map, Number, Value};
 use std::alloc::Global;
 
 // What the value at the key of a wrapper means.
-pub(crate) fn single_value(
+pub(crate) fn single_key_value(
     alloc: Global,
     doubles: Doubles,
     key: &str,
     value: Value,
 ) -> Result<Bson, Error>
-    ensures given { IsReadResult bson_view result (scalar_value (optional_wrapper_read_in doubles (wrapper_of key.now) (view value))) }
-    ensures ranged { IfOk result (λ v. InRange (bson_view v)) }
+    ensures read_result { IsReadResult bson_view result
+        (scalar_result_as_value (optional_wrapper_read_in doubles (wrapper_of key.now) (view value))) }
+    ensures within_type_range { IfOk result (λ parsed. NumbersInRange (bson_view parsed)) }
 {
     Ok(from_scalar(read_single_key_in(alloc, doubles, key, value)?))
 }
 
 // What a number of JSON means.
-pub(crate) fn number_value(doubles: Doubles, n: &Number) -> Result<Bson, Error>
-    ensures given { IsReadResult bson_view result (scalar_value (number_read_in doubles (number_view n.now))) }
-    ensures ranged { IfOk result (λ v. InRange (bson_view v)) }
+pub(crate) fn number_value(doubles: Doubles, json_number: &Number) -> Result<Bson, Error>
+    ensures read_result { IsReadResult bson_view result
+        (scalar_result_as_value (number_read_in doubles (number_view json_number.now))) }
+    ensures within_type_range { IfOk result (λ parsed. NumbersInRange (bson_view parsed)) }
 {
-    Ok(from_scalar(read_number(doubles, n)?))
+    Ok(from_scalar(read_number(doubles, json_number)?))
 }
 
 // What a tree means.
 pub(crate) fn read(alloc: Global, doubles: Doubles, value: Value) -> Result<Bson, Error>
-    ensures given { IsReadResult bson_view result (reads_in doubles (view value)) }
-    ensures ranged { IfOk result (λ v. InRange (bson_view v)) }
+    ensures read_result { IsReadResult bson_view result (reads_tree_in doubles (view value)) }
+    ensures within_type_range { IfOk result (λ parsed. NumbersInRange (bson_view parsed)) }
 {
     match read_tree::<BsonBuilder>(alloc, doubles, value)? {
         Ok(value) => Ok(value),
@@ -60,8 +62,8 @@ pub(crate) fn read_members(
     doubles: Doubles,
     members: Map<String, Value>,
 ) -> Result<Document, Error>
-    ensures given { IsReadResult document_view result (reads_members_in doubles (members_view members.entries)) }
-    ensures ranged { IfOk result (λ d. PairsInRange (document_view d)) }
+    ensures read_result { IsReadResult document_view result (reads_members_in doubles (members_view members.entries)) }
+    ensures within_type_range { IfOk result (λ parsed_document. PairsInRange (document_view parsed_document)) }
 {
     match read_pairs::<BsonBuilder>(alloc, doubles, members)? {
         Ok(pairs) => Ok(Document { pairs }),
@@ -71,7 +73,7 @@ pub(crate) fn read_members(
 
 // Returns the error for the reason.
 fn error_of(reason: Reason) -> Error
-    ensures { IsErrorOf reason result }
+    ensures { IsErrorForReason reason result }
 {
     match reason {
         Reason::BadObjectId(id) => Error::InvalidObjectId(id),

@@ -3,8 +3,8 @@ ghost use Rattle.std.specs.Prelude.{◌≡◌, ◌<◌, true, IfOk};
 ghost use Rattle.bson_scalar.specs.Normal.{writable_scalar_in};
 ghost use Rattle.bson_scalar.specs.View.{scalar_of, scalar_view};
 ghost use Rattle.bson_scalar.specs.declared.form.Doubles.TheVariants.{Finite};
-ghost use Rattle.bson_model.specs.Normal.{InRange};
-ghost use Rattle.bson_types.specs.DbPointer.{id_of};
+ghost use Rattle.bson_model.specs.Normal.{NumbersInRange};
+ghost use Rattle.bson_types.specs.DbPointer.{pointer_id};
 ghost use Rattle.bson_types.specs.ObjectIds.{IsBytes, IsObjectId};
 ghost use Rattle.bson_types.specs.BinarySubtypes.{subtype_byte};
 ghost use Rattle.bson_model.specs.Value.{scalar};
@@ -23,22 +23,22 @@ use std::alloc::{AllocError, Global};
 
 pub(crate) fn from_scalar(value: Scalar) -> Bson
     ensures value { bson_view result ≡ scalar (scalar_view value) }
-    ensures ranged { InRange (bson_view result) }
+    ensures within_type_range { NumbersInRange (bson_view result) }
 {
     match value {
         Scalar::Null => Bson::Null,
         Scalar::Undefined => Bson::Undefined,
         Scalar::MinKey => Bson::MinKey,
         Scalar::MaxKey => Bson::MaxKey,
-        Scalar::Boolean(b) => Bson::Boolean(b),
+        Scalar::Boolean(truth) => Bson::Boolean(truth),
         Scalar::Double(pattern) => Bson::Double(pattern),
-        Scalar::Int32(z) => Bson::Int32(z),
-        Scalar::Int64(z) => Bson::Int64(z),
+        Scalar::Int32(integer) => Bson::Int32(integer),
+        Scalar::Int64(integer) => Bson::Int64(integer),
         Scalar::String(text) => Bson::String(text),
         Scalar::Symbol(text) => Bson::Symbol(text),
         Scalar::JavaScriptCode(code) => Bson::JavaScriptCode(code),
         Scalar::RegularExpression(regex) => Bson::RegularExpression(regex),
-        Scalar::Timestamp(stamp) => Bson::Timestamp(stamp),
+        Scalar::Timestamp(timestamp) => Bson::Timestamp(timestamp),
         Scalar::Binary(binary) => Bson::Binary(binary_in_range(binary)),
         Scalar::ObjectId(id) => Bson::ObjectId(object_id_in_range(id)),
         Scalar::DateTime(date) => Bson::DateTime(date),
@@ -70,7 +70,7 @@ pub(crate) fn can_be_written(value: &Scalar)
 }
 
 // The same by reference.
-pub(crate) fn has_text(value: &ScalarRef<'_>)
+pub(crate) fn can_be_printed(value: &ScalarRef<'_>)
     ensures { writable_scalar_in Finite (scalar_of value.now) ≡ true }
 {
     if let ScalarRef::Double(pattern) = *value {
@@ -79,8 +79,8 @@ pub(crate) fn has_text(value: &ScalarRef<'_>)
 }
 
 fn binary_in_range(binary: Binary) -> Binary
-    ensures same { result ≡ binary }
-    ensures ranged { (subtype_byte binary.subtype < 256) × IsBytes binary.bytes.items }
+    ensures unchanged { result ≡ binary }
+    ensures within_type_range { (subtype_byte binary.subtype < 256) × IsBytes binary.bytes.items }
 {
     bytes_in_range(binary.bytes.as_slice());
     subtype_in_range(binary.subtype);
@@ -88,16 +88,16 @@ fn binary_in_range(binary: Binary) -> Binary
 }
 
 fn object_id_in_range(id: ObjectId) -> ObjectId
-    ensures same { result ≡ id }
-    ensures ranged { IsObjectId id }
+    ensures unchanged { result ≡ id }
+    ensures within_type_range { IsObjectId id }
 {
     let _bytes = id.bytes();
     id
 }
 
 fn pointer_in_range(pointer: DbPointer) -> DbPointer
-    ensures same { result ≡ pointer }
-    ensures ranged { IsObjectId (id_of pointer) }
+    ensures unchanged { result ≡ pointer }
+    ensures within_type_range { IsObjectId (pointer_id pointer) }
 {
     let _id = object_id_in_range(pointer.id());
     pointer
@@ -106,7 +106,7 @@ fn pointer_in_range(pointer: DbPointer) -> DbPointer
 // The same, the other way: of a value that holds no other. What it owns is moved.
 pub(crate) fn to_scalar(alloc: Global, value: Bson) -> Result<Scalar, AllocError>
     requires { IsScalar (bson_view value) }
-    ensures { IfOk result (λ x. scalar (scalar_view x) ≡ bson_view value) }
+    ensures { IfOk result (λ scalar_value. scalar (scalar_view scalar_value) ≡ bson_view value) }
 {
     match value {
         Bson::String(text) => Ok(Scalar::String(text)),

@@ -5,11 +5,11 @@ ghost use Rattle.serde_json.specs.View.{view};
 ghost use Rattle.bson_scalar.specs.declared.form.Form.TheVariants.{Canonical, Relaxed};
 ghost use Rattle.bson_scalar.specs.declared.write_error.WriteError.{WriteError};
 ghost use Rattle.bson_model.specs.Texts.{ReadsAgain, ReadsAgainIn};
-ghost use Rattle.bson_model.specs.Normal.{InRange, writable, writable_in};
+ghost use Rattle.bson_model.specs.Normal.{NumbersInRange, writable, writable_in};
 ghost use Rattle.bson_model.specs.Laws.{IsTreeOf, IsTreeOfIn, FormsAreIdempotent, FormsAreIdempotentIn};
 ghost use Rattle.bson_model.specs.DistinctKeys.{AllKeysDistinct};
-ghost use Rattle.bson.specs.OutputCapacity.{IsAllocationFree, value_room};
-ghost use Rattle.bson.specs.Texts.{IsTextBy, IsTextIn, IsTextInOrder, IsWriteErrorIn};
+ghost use Rattle.bson.specs.OutputCapacity.{IsAllocationFree, value_capacity};
+ghost use Rattle.bson.specs.Texts.{IsTextInKeyOrder, IsTextIn, IsTextInOrder, IsWriteErrorIn};
 ghost use Rattle.bson.specs.View.{bson_view};
 
 use crate::bson::Bson;
@@ -33,10 +33,10 @@ impl Bson {
     /// - `FiniteDouble`: the value contains a finite double other than zero.
     /// - `OutOfMemory`: a request for memory was refused.
     pub fn into_canonical_extjson(self, alloc: Global) -> Result<Value, WriteError>
-        ensures tree { IfOk result (λ t. IsTreeOf Canonical (bson_view self) (view t)) }
-        ensures reads_again { IfOk result (λ t. ReadsAgain Canonical (bson_view self) (view t)) }
+        ensures tree { IfOk result (λ json_tree. IsTreeOf Canonical (bson_view self) (view json_tree)) }
+        ensures reads_again { IfOk result (λ json_tree. ReadsAgain Canonical (bson_view self) (view json_tree)) }
         ensures idempotent { FormsAreIdempotent (bson_view self) }
-        ensures ranged { OnOk result (InRange (bson_view self)) }
+        ensures within_type_range { OnOk result (NumbersInRange (bson_view self)) }
         ensures writable { OnOk result (writable (bson_view self) ≡ true) }
         ensures finite { result ≡ Err WriteError.FiniteDouble → writable (bson_view self) ≡ false }
     {
@@ -52,10 +52,10 @@ impl Bson {
     /// - `FiniteDouble`: the value contains a finite double other than zero.
     /// - `OutOfMemory`: a request for memory was refused.
     pub fn into_relaxed_extjson(self, alloc: Global) -> Result<Value, WriteError>
-        ensures tree { IfOk result (λ t. IsTreeOf Relaxed (bson_view self) (view t)) }
-        ensures reads_again { IfOk result (λ t. ReadsAgain Relaxed (bson_view self) (view t)) }
+        ensures tree { IfOk result (λ json_tree. IsTreeOf Relaxed (bson_view self) (view json_tree)) }
+        ensures reads_again { IfOk result (λ json_tree. ReadsAgain Relaxed (bson_view self) (view json_tree)) }
         ensures idempotent { FormsAreIdempotent (bson_view self) }
-        ensures ranged { OnOk result (InRange (bson_view self)) }
+        ensures within_type_range { OnOk result (NumbersInRange (bson_view self)) }
         ensures writable { OnOk result (writable (bson_view self) ≡ true) }
         ensures finite { result ≡ Err WriteError.FiniteDouble → writable (bson_view self) ≡ false }
     {
@@ -80,13 +80,13 @@ impl Bson {
         doubles: Doubles,
         form: Form,
     ) -> Result<Value, WriteError>
-        ensures tree { IfOk result (λ t. IsTreeOfIn doubles form (bson_view self) (view t)) }
-        ensures reads_again { IfOk result (λ t. ReadsAgainIn doubles form (bson_view self) (view t)) }
+        ensures tree { IfOk result (λ json_tree. IsTreeOfIn doubles form (bson_view self) (view json_tree)) }
+        ensures reads_again { IfOk result (λ json_tree. ReadsAgainIn doubles form (bson_view self) (view json_tree)) }
         ensures idempotent { FormsAreIdempotentIn doubles (bson_view self) }
-        ensures ranged { OnOk result (InRange (bson_view self)) }
+        ensures within_type_range { OnOk result (NumbersInRange (bson_view self)) }
         ensures writable { OnOk result (writable_in doubles (bson_view self) ≡ true) }
         ensures finite { result ≡ Err WriteError.FiniteDouble → writable_in doubles (bson_view self) ≡ false }
-        ensures every { IfErr result (IsWriteErrorIn doubles) }
+        ensures possible_errors { IfErr result (IsWriteErrorIn doubles) }
     {
         write(alloc, doubles, form, self)
     }
@@ -99,8 +99,8 @@ impl Bson {
     /// - `FiniteDouble`: the value contains a finite double other than zero.
     /// - `OutOfMemory`: a request for memory was refused.
     pub fn to_canonical_text(&self, alloc: Global) -> Result<String, WriteError>
-        ensures text { IfOk result (λ s. IsTextIn Canonical (bson_view self.now) (string_bytes s)) }
-        ensures ranged { OnOk result (InRange (bson_view self.now)) }
+        ensures text { IfOk result (λ text. IsTextIn Canonical (bson_view self.now) (string_bytes text)) }
+        ensures within_type_range { OnOk result (NumbersInRange (bson_view self.now)) }
         ensures writable { OnOk result (writable (bson_view self.now) ≡ true) }
         ensures finite { result ≡ Err WriteError.FiniteDouble → writable (bson_view self.now) ≡ false }
     {
@@ -113,8 +113,8 @@ impl Bson {
     ///
     /// The errors of [`Bson::to_canonical_text`].
     pub fn into_canonical_text(self, alloc: Global) -> Result<String, WriteError>
-        ensures text { IfOk result (λ s. IsTextIn Canonical (bson_view self) (string_bytes s)) }
-        ensures ranged { OnOk result (InRange (bson_view self)) }
+        ensures text { IfOk result (λ text. IsTextIn Canonical (bson_view self) (string_bytes text)) }
+        ensures within_type_range { OnOk result (NumbersInRange (bson_view self)) }
         ensures writable { OnOk result (writable (bson_view self) ≡ true) }
         ensures finite { result ≡ Err WriteError.FiniteDouble → writable (bson_view self) ≡ false }
     {
@@ -129,8 +129,8 @@ impl Bson {
     /// - `FiniteDouble`: the value contains a finite double other than zero.
     /// - `OutOfMemory`: a request for memory was refused.
     pub fn to_relaxed_text(&self, alloc: Global) -> Result<String, WriteError>
-        ensures text { IfOk result (λ s. IsTextIn Relaxed (bson_view self.now) (string_bytes s)) }
-        ensures ranged { OnOk result (InRange (bson_view self.now)) }
+        ensures text { IfOk result (λ text. IsTextIn Relaxed (bson_view self.now) (string_bytes text)) }
+        ensures within_type_range { OnOk result (NumbersInRange (bson_view self.now)) }
         ensures writable { OnOk result (writable (bson_view self.now) ≡ true) }
         ensures finite { result ≡ Err WriteError.FiniteDouble → writable (bson_view self.now) ≡ false }
     {
@@ -143,8 +143,8 @@ impl Bson {
     ///
     /// The errors of [`Bson::to_relaxed_text`].
     pub fn into_relaxed_text(self, alloc: Global) -> Result<String, WriteError>
-        ensures text { IfOk result (λ s. IsTextIn Relaxed (bson_view self) (string_bytes s)) }
-        ensures ranged { OnOk result (InRange (bson_view self)) }
+        ensures text { IfOk result (λ text. IsTextIn Relaxed (bson_view self) (string_bytes text)) }
+        ensures within_type_range { OnOk result (NumbersInRange (bson_view self)) }
         ensures writable { OnOk result (writable (bson_view self) ≡ true) }
         ensures finite { result ≡ Err WriteError.FiniteDouble → writable (bson_view self) ≡ false }
     {
@@ -179,13 +179,13 @@ impl Bson {
     /// ```
     pub fn to_text(&self, alloc: Global, options: Options, form: Form) -> Result<String, WriteError>
         ensures text { IfOk result
-            (λ s. IsTextBy options.key_order options.doubles form (bson_view self.now) (string_bytes s)) }
-        ensures ranged { OnOk result (InRange (bson_view self.now)) }
+            (λ text. IsTextInKeyOrder options.key_order options.doubles form (bson_view self.now) (string_bytes text)) }
+        ensures within_type_range { OnOk result (NumbersInRange (bson_view self.now)) }
         ensures distinct { OnOk result (AllKeysDistinct (bson_view self.now)) }
         ensures writable { OnOk result (writable_in options.doubles (bson_view self.now) ≡ true) }
         ensures finite { result ≡ Err WriteError.FiniteDouble
             → writable_in options.doubles (bson_view self.now) ≡ false }
-        ensures every { IfErr result (IsWriteErrorIn options.doubles) }
+        ensures possible_errors { IfErr result (IsWriteErrorIn options.doubles) }
     {
         text_of(alloc, options, form, self)
     }
@@ -202,22 +202,22 @@ impl Bson {
         form: Form,
     ) -> Result<String, WriteError>
         ensures text { IfOk result
-            (λ s. IsTextBy options.key_order options.doubles form (bson_view self) (string_bytes s)) }
-        ensures ranged { OnOk result (InRange (bson_view self)) }
+            (λ text. IsTextInKeyOrder options.key_order options.doubles form (bson_view self) (string_bytes text)) }
+        ensures within_type_range { OnOk result (NumbersInRange (bson_view self)) }
         ensures distinct { OnOk result (AllKeysDistinct (bson_view self)) }
         ensures writable { OnOk result (writable_in options.doubles (bson_view self) ≡ true) }
         ensures finite { result ≡ Err WriteError.FiniteDouble → writable_in options.doubles (bson_view self) ≡ false }
-        ensures every { IfErr result (IsWriteErrorIn options.doubles) }
+        ensures possible_errors { IfErr result (IsWriteErrorIn options.doubles) }
     {
         self.to_text(alloc, options, form)
     }
 
-    /// Appends the text of [`Bson::to_text`] to `out`, whose keys are as given whatever the options say.
-    /// On an error `out` has the bytes that it had.
+    /// Appends the text of [`Bson::to_text`] to `output`, whose keys are as given whatever the options say.
+    /// On an error `output` has the bytes that it had.
     ///
-    /// If the value is direct, it runs out of memory only if `out` has too little room: twice the
-    /// length of the text is enough. The room of a vector is its capacity without its length. A value
-    /// is direct unless it contains one of these, whose texts are first made in memory of their own:
+    /// If the value is allocation-free, it runs out of memory only if `output` has too little spare
+    /// capacity: twice the length of the text is enough. A value is allocation-free unless it contains
+    /// one of these, whose texts are first made in memory of their own:
     ///
     /// - a binary;
     /// - a decimal;
@@ -242,24 +242,25 @@ impl Bson {
         alloc: Global,
         options: Options,
         form: Form,
-        out: &mut Vec<u8>,
+        output: &mut Vec<u8>,
     ) -> Result<(), WriteError>
-        ensures text { IfOk result (λ _. (s : List ℕ) × IsTextInOrder options.doubles form (bson_view self.now) s
-            × (out.new.items ≡ out.old.items ++ s)) }
-        ensures unchanged { OnErr result (out.new.items ≡ out.old.items) }
+        ensures text { IfOk result (λ _. (text : List ℕ) × IsTextInOrder options.doubles form (bson_view self.now) text
+            × (output.new.items ≡ output.old.items ++ text)) }
+        ensures unchanged { OnErr result (output.new.items ≡ output.old.items) }
 
         // With enough room memory is never wanting.
         ensures room { IsAllocationFree form (bson_view self.now) → result ≡ Err WriteError.OutOfMemory
-            → vec_capacity out.old - vec_len out.old < value_room options.doubles form (bson_view self.now) }
-        ensures twice { (s : List ℕ) → IsTextInOrder options.doubles form (bson_view self.now) s
-            → InRange (bson_view self.now) → value_room options.doubles form (bson_view self.now) ≤ 2 * length s }
-        ensures ranged { OnOk result (InRange (bson_view self.now)) }
+            → vec_capacity output.old - vec_len output.old < value_capacity options.doubles form (bson_view self.now) }
+        ensures capacity_bound { (text : List ℕ) → IsTextInOrder options.doubles form (bson_view self.now) text
+            → NumbersInRange (bson_view self.now)
+            → value_capacity options.doubles form (bson_view self.now) ≤ 2 * length text }
+        ensures within_type_range { OnOk result (NumbersInRange (bson_view self.now)) }
         ensures distinct { OnOk result (AllKeysDistinct (bson_view self.now)) }
         ensures writable { OnOk result (writable_in options.doubles (bson_view self.now) ≡ true) }
         ensures finite { result ≡ Err WriteError.FiniteDouble
             → writable_in options.doubles (bson_view self.now) ≡ false }
-        ensures every { IfErr result (IsWriteErrorIn options.doubles) }
+        ensures possible_errors { IfErr result (IsWriteErrorIn options.doubles) }
     {
-        append_text(alloc, options.doubles, form, self, out)
+        append_text(alloc, options.doubles, form, self, output)
     }
 }

@@ -5,12 +5,12 @@
 ghost use Rattle.std.specs.Prelude.{◌≡◌, IfOk, IfErr};
 ghost use Rattle.serde_json.specs.Data.{Data};
 ghost use Rattle.bson_model.specs.Means.{Means, MeansIn};
-ghost use Rattle.bson_model.specs.Normal.{InRange};
+ghost use Rattle.bson_model.specs.Normal.{NumbersInRange};
 ghost use Rattle.bson_model.specs.Texts.{ValueRoundTrips};
 ghost use Rattle.bson_model.specs.Value as model;
 ghost use Rattle.bson.specs.View.{bson_view};
 ghost use Rattle.bson.specs.TextMeaning.{IsTextOf, HasTextMeaning, IsTextFault};
-ghost use Rattle.bson.specs.TextMeaning.{ComesBackBy, HasTextMeaningBy, IsTextFaultIn, TextMeansBy};
+ghost use Rattle.bson.specs.TextMeaning.{RoundTripsInKeyOrder, HasTextMeaningInKeyOrder, IsTextFaultIn, TextMeansInKeyOrder};
 ghost use Rattle.bson.specs.declared.extjson.text_error.TextError.TheVariants.{OutOfMemory};
 
 mod retry;
@@ -52,14 +52,15 @@ impl Bson {
     /// println!(rt; "{value:?}")?; // Document({"n": Int64(5)})
     /// ```
     pub fn try_from_text(alloc: Global, bytes: &[u8]) -> Result<Bson, TextError>
-        ensures ok { IfOk result (λ v. HasTextMeaning bytes.now (bson_view v)) }
-        ensures accepts { (t : Data) (v : model.Value) → IsTextOf bytes.now t → Means t v
-            → IfErr result (λ e. e ≡ OutOfMemory) }
-        ensures fault { IfErr result (λ e. IsTextFault bytes.now e) }
-        ensures ranged { IfOk result (λ v. InRange (bson_view v)) }
-        ensures comes_back { IfOk result (λ v. ValueRoundTrips (bson_view v)) }
+        ensures ok { IfOk result (λ parsed. HasTextMeaning bytes.now (bson_view parsed)) }
+        ensures accepts { (json_tree : Data) (parsed : model.Value) → IsTextOf bytes.now json_tree
+            → Means json_tree parsed
+            → IfErr result (λ error. error ≡ OutOfMemory) }
+        ensures fault { IfErr result (λ error. IsTextFault bytes.now error) }
+        ensures within_type_range { IfOk result (λ parsed. NumbersInRange (bson_view parsed)) }
+        ensures round_trips { IfOk result (λ parsed. ValueRoundTrips (bson_view parsed)) }
     {
-        read_by(alloc, Doubles::Special, KeyOrder::Ascending, bytes)
+        read_text(alloc, Doubles::Special, KeyOrder::Ascending, bytes)
     }
 
     /// Returns the value that the bytes mean, read as the options say, otherwise as
@@ -98,35 +99,38 @@ impl Bson {
     /// ```
     pub fn from_text(alloc: Global, options: Options, bytes: &[u8]) -> Result<Bson, TextError>
         ensures ok { IfOk result
-            (λ v. HasTextMeaningBy options.key_order options.doubles bytes.now (bson_view v)) }
-        ensures accepts { (t : Data) (v : model.Value) → IsTextOf bytes.now t → MeansIn options.doubles t v
-            → IfErr result (λ e. e ≡ OutOfMemory) }
-        ensures accepts_by { (v : model.Value) → TextMeansBy options.key_order options.doubles bytes.now v
-            → IfErr result (λ e. e ≡ OutOfMemory) }
-        ensures fault { IfErr result (λ e. IsTextFaultIn options.doubles bytes.now e) }
-        ensures ranged { IfOk result (λ v. InRange (bson_view v)) }
-        ensures comes_back { IfOk result (λ v. ComesBackBy options.key_order options.doubles (bson_view v)) }
+            (λ parsed. HasTextMeaningInKeyOrder options.key_order options.doubles bytes.now (bson_view parsed)) }
+        ensures accepts { (json_tree : Data) (parsed : model.Value) → IsTextOf bytes.now json_tree
+            → MeansIn options.doubles json_tree parsed
+            → IfErr result (λ error. error ≡ OutOfMemory) }
+        ensures accepts_in_key_order { (parsed : model.Value)
+            → TextMeansInKeyOrder options.key_order options.doubles bytes.now parsed
+            → IfErr result (λ error. error ≡ OutOfMemory) }
+        ensures fault { IfErr result (λ error. IsTextFaultIn options.doubles bytes.now error) }
+        ensures within_type_range { IfOk result (λ parsed. NumbersInRange (bson_view parsed)) }
+        ensures round_trips { IfOk result
+            (λ parsed. RoundTripsInKeyOrder options.key_order options.doubles (bson_view parsed)) }
     {
-        read_by(alloc, options.doubles, options.key_order, bytes)
+        read_text(alloc, options.doubles, options.key_order, bytes)
     }
 }
 
 // The value that the bytes mean in the order.
-fn read_by(
+fn read_text(
     alloc: Global,
     doubles: Doubles,
-    order: KeyOrder,
+    key_order: KeyOrder,
     bytes: &[u8],
 ) -> Result<Bson, TextError>
-    ensures ok { IfOk result (λ v. HasTextMeaningBy order doubles bytes.now (bson_view v)) }
-    ensures fault { IfErr result (λ e. IsTextFaultIn doubles bytes.now e) }
+    ensures ok { IfOk result (λ parsed. HasTextMeaningInKeyOrder key_order doubles bytes.now (bson_view parsed)) }
+    ensures fault { IfErr result (λ error. IsTextFaultIn doubles bytes.now error) }
 {
     let Ok(text) = simdutf8::compat::from_utf8(bytes) else {
         return Err(TextError::NotJson);
     };
-    match read_once(alloc, doubles, order, text) {
+    match read_once(alloc, doubles, key_order, text) {
         Ok(value) => Ok(value),
         Err(TraversalError::OutOfMemory) => Err(TextError::OutOfMemory),
-        Err(_) => read_again(alloc, doubles, order, text),
+        Err(_) => read_again(alloc, doubles, key_order, text),
     }
 }

@@ -8,22 +8,22 @@ ghost use Rattle.serde_json.specs.Data as tree;
 ghost use Rattle.serde_json.specs.Find.{of_integer};
 ghost use Rattle.bson_double.specs.FiniteDoubles.{is_finite};
 ghost use Rattle.bson_double.specs.DoubleText.{IsDoubleText};
-ghost use Rattle.bson_types.specs.DbPointer.{namespace_of, id_of};
+ghost use Rattle.bson_types.specs.DbPointer.{pointer_namespace, pointer_id};
 ghost use Rattle.bson_types.specs.ObjectIds.{IsObjectId, encode_lower};
 ghost use Rattle.bson_scalar.specs.Dates.{date_tree};
 ghost use Rattle.bson_scalar.specs.Doubles as spec;
 ghost use Rattle.bson_scalar.specs.Ids.{oid_tree, pointer_tree};
 ghost use Rattle.bson_scalar.specs.Constants.{undefined_tree};
 ghost use Rattle.bson_scalar.specs.Normal.{ScalarInRange};
-ghost use Rattle.bson_scalar.specs.TreeParts.{object_of_one, natural};
+ghost use Rattle.bson_scalar.specs.TreeParts.{one_key_object, natural};
 ghost use Rattle.bson_scalar.specs.Timestamps.{timestamp_tree};
-ghost use Rattle.bson_scalar.specs.Tokens.{code_tokens, tokens_of, Puts};
+ghost use Rattle.bson_scalar.specs.Tokens.{code_tokens, tokens_of, AppendsTreeTokens};
 ghost use Rattle.bson_scalar.specs.View.{scalar_of};
 ghost use Rattle.bson_scalar.specs.Written.{double_writes_in, int32_form, int64_form, number_tree};
 ghost use Rattle.bson_scalar.specs.Written.{special_double_tree, writes_scalar_in};
 ghost use Rattle.bson_scalar.specs.declared.form.Doubles.TheVariants.{Finite};
 ghost use Rattle.bson_scalar.specs.declared.form.Form.TheVariants.{Canonical, Relaxed};
-ghost use Rattle.bson.specs.OutputCapacity.{is_allocation_free as is_scalar_allocation_free, tree_room, written_room, Spends, SpendsOrStops};
+ghost use Rattle.bson.specs.OutputCapacity.{is_allocation_free as is_scalar_allocation_free, tree_capacity, written_tree_capacity, StaysWithinCapacity, StaysWithinCapacityOrStops};
 
 use bson_scalar::form::{Doubles, Form};
 use bson_scalar::laws::number_texts;
@@ -54,165 +54,172 @@ pub(crate) fn print_without_allocation(
     doubles: Doubles,
     form: Form,
     scalar: &ScalarRef<'_>,
-    out: &mut Writer,
+    writer: &mut Writer,
 ) -> Result<(), WriteError>
     requires { is_scalar_allocation_free form (scalar_of scalar.now) ≡ true }
-    ensures printed { Puts result (writes_scalar_in doubles form (scalar_of scalar.now)) out.old.tokens out.new.tokens }
-    ensures before { out.new.before ≡ out.old.before }
-    ensures ranged { OnOk result (ScalarInRange (scalar_of scalar.now)) }
-    ensures room { SpendsOrStops result out.old.spare out.new.spare
-        (written_room (writes_scalar_in doubles form (scalar_of scalar.now))) }
+    ensures printed { AppendsTreeTokens result
+        (writes_scalar_in doubles form (scalar_of scalar.now)) writer.old.tokens writer.new.tokens }
+    ensures before { writer.new.before ≡ writer.old.before }
+    ensures within_type_range { OnOk result (ScalarInRange (scalar_of scalar.now)) }
+    ensures room { StaysWithinCapacityOrStops result writer.old.spare writer.new.spare
+        (written_tree_capacity (writes_scalar_in doubles form (scalar_of scalar.now))) }
 {
     let written = match *scalar {
-        ScalarRef::Null => out.null(),
-        ScalarRef::Undefined => put_undefined(out),
-        ScalarRef::MinKey => put_one("$minKey", out),
-        ScalarRef::MaxKey => put_one("$maxKey", out),
-        ScalarRef::Boolean(b) => out.boolean(b),
-        ScalarRef::Double(pattern) => return put_double(doubles, form, pattern, out),
-        ScalarRef::Int32(z) => put_int32(form, z, out),
-        ScalarRef::Int64(z) => put_int64(form, z, out),
-        ScalarRef::String(text) => out.string(text),
-        ScalarRef::Symbol(text) => put_text("$symbol", text, out),
-        ScalarRef::JavaScriptCode(code) => put_text("$code", code, out),
-        ScalarRef::Timestamp(stamp) => put_timestamp(stamp, out),
-        ScalarRef::ObjectId(id) => put_id(id, out),
-        ScalarRef::DateTime(date) => put_millis(date, out),
-        ScalarRef::DbPointer(pointer) => put_pointer(pointer, out),
+        ScalarRef::Null => writer.null(),
+        ScalarRef::Undefined => put_undefined(writer),
+        ScalarRef::MinKey => put_wrapper_of_one("$minKey", writer),
+        ScalarRef::MaxKey => put_wrapper_of_one("$maxKey", writer),
+        ScalarRef::Boolean(truth) => writer.boolean(truth),
+        ScalarRef::Double(pattern) => return put_double(doubles, form, pattern, writer),
+        ScalarRef::Int32(integer) => put_int32(form, integer, writer),
+        ScalarRef::Int64(integer) => put_int64(form, integer, writer),
+        ScalarRef::String(text) => writer.string(text),
+        ScalarRef::Symbol(text) => put_text("$symbol", text, writer),
+        ScalarRef::JavaScriptCode(code) => put_text("$code", code, writer),
+        ScalarRef::Timestamp(timestamp) => put_timestamp(timestamp, writer),
+        ScalarRef::ObjectId(id) => put_object_id(id, writer),
+        ScalarRef::DateTime(date) => put_millis(date, writer),
+        ScalarRef::DbPointer(pointer) => put_pointer(pointer, writer),
         _ => unreachable!(),
     };
     Ok(written?)
 }
 
 // Writes the part of the text of code with its scope that is before the scope.
-pub(crate) fn put_code(code: &str, out: &mut Writer) -> Result<(), AllocError>
-    ensures put { OnOk result (out.new.tokens ≡ out.old.tokens ++ code_tokens code.now) }
-    ensures before { out.new.before ≡ out.old.before }
-    ensures room { Spends result out.old.spare out.new.spare (room (code_tokens code.now)) }
+pub(crate) fn put_code(code: &str, writer: &mut Writer) -> Result<(), AllocError>
+    ensures put { OnOk result (writer.new.tokens ≡ writer.old.tokens ++ code_tokens code.now) }
+    ensures before { writer.new.before ≡ writer.old.before }
+    ensures room { StaysWithinCapacity result writer.old.spare writer.new.spare (room (code_tokens code.now)) }
 {
-    out.begin_object()?;
-    out.key("$code")?;
-    out.string(code)?;
-    out.key("$scope")
+    writer.begin_object()?;
+    writer.key("$code")?;
+    writer.string(code)?;
+    writer.key("$scope")
 }
 
 // An object of one key that holds a text.
-fn put_text(name: &str, text: &str, out: &mut Writer) -> Result<(), AllocError>
-    ensures put { OnOk result (out.new.tokens ≡ out.old.tokens
-        ++ tokens_of (object_of_one name.now (string text.now))) }
-    ensures before { out.new.before ≡ out.old.before }
-    ensures room { Spends result out.old.spare out.new.spare (tree_room (object_of_one name.now (string text.now))) }
+fn put_text(name: &str, text: &str, writer: &mut Writer) -> Result<(), AllocError>
+    ensures put { OnOk result (writer.new.tokens ≡ writer.old.tokens
+        ++ tokens_of (one_key_object name.now (string text.now))) }
+    ensures before { writer.new.before ≡ writer.old.before }
+    ensures room { StaysWithinCapacity result writer.old.spare writer.new.spare
+        (tree_capacity (one_key_object name.now (string text.now))) }
 {
-    out.begin_object()?;
-    out.key(name)?;
-    out.string(text)?;
-    out.end_object()
+    writer.begin_object()?;
+    writer.key(name)?;
+    writer.string(text)?;
+    writer.end_object()
 }
 
 // An object of one key that holds the text of a number.
-fn put_numeral(name: &str, number: i64, out: &mut Writer) -> Result<(), AllocError>
-    ensures put { OnOk result (out.new.tokens ≡ out.old.tokens
-        ++ tokens_of (object_of_one name.now (string (signed_decimal number)))) }
-    ensures before { out.new.before ≡ out.old.before }
-    ensures room { Spends result out.old.spare out.new.spare
-        (tree_room (object_of_one name.now (string (signed_decimal number)))) }
+fn put_quoted_i64(name: &str, number: i64, writer: &mut Writer) -> Result<(), AllocError>
+    ensures put { OnOk result (writer.new.tokens ≡ writer.old.tokens
+        ++ tokens_of (one_key_object name.now (string (signed_decimal number)))) }
+    ensures before { writer.new.before ≡ writer.old.before }
+    ensures room { StaysWithinCapacity result writer.old.spare writer.new.spare
+        (tree_capacity (one_key_object name.now (string (signed_decimal number)))) }
 {
-    out.begin_object()?;
-    out.key(name)?;
-    out.quoted_i64(number)?;
-    out.end_object()
+    writer.begin_object()?;
+    writer.key(name)?;
+    writer.quoted_i64(number)?;
+    writer.end_object()
 }
 
 // The number 1 under a key.
-fn put_one(name: &str, out: &mut Writer) -> Result<(), AllocError>
-    ensures put { OnOk result (out.new.tokens ≡ out.old.tokens ++ tokens_of (object_of_one name.now (natural 1))) }
-    ensures before { out.new.before ≡ out.old.before }
-    ensures room { Spends result out.old.spare out.new.spare (tree_room (object_of_one name.now (natural 1))) }
+fn put_wrapper_of_one(name: &str, writer: &mut Writer) -> Result<(), AllocError>
+    ensures put { OnOk result
+        (writer.new.tokens ≡ writer.old.tokens ++ tokens_of (one_key_object name.now (natural 1))) }
+    ensures before { writer.new.before ≡ writer.old.before }
+    ensures room { StaysWithinCapacity result writer.old.spare writer.new.spare
+        (tree_capacity (one_key_object name.now (natural 1))) }
 {
-    out.begin_object()?;
-    out.key(name)?;
-    out.u64(1)?;
-    out.end_object()
+    writer.begin_object()?;
+    writer.key(name)?;
+    writer.u64(1)?;
+    writer.end_object()
 }
 
-fn put_undefined(out: &mut Writer) -> Result<(), AllocError>
-    ensures put { OnOk result (out.new.tokens ≡ out.old.tokens ++ tokens_of undefined_tree) }
-    ensures before { out.new.before ≡ out.old.before }
-    ensures room { Spends result out.old.spare out.new.spare (tree_room undefined_tree) }
+fn put_undefined(writer: &mut Writer) -> Result<(), AllocError>
+    ensures put { OnOk result (writer.new.tokens ≡ writer.old.tokens ++ tokens_of undefined_tree) }
+    ensures before { writer.new.before ≡ writer.old.before }
+    ensures room { StaysWithinCapacity result writer.old.spare writer.new.spare (tree_capacity undefined_tree) }
 {
-    out.begin_object()?;
-    out.key("$undefined")?;
-    out.boolean(true)?;
-    out.end_object()
+    writer.begin_object()?;
+    writer.key("$undefined")?;
+    writer.boolean(true)?;
+    writer.end_object()
 }
 
-fn put_int32(form: Form, number: i32, out: &mut Writer) -> Result<(), AllocError>
-    ensures put { OnOk result (out.new.tokens ≡ out.old.tokens ++ tokens_of (int32_form form number)) }
-    ensures before { out.new.before ≡ out.old.before }
-    ensures room { Spends result out.old.spare out.new.spare (tree_room (int32_form form number)) }
+fn put_int32(form: Form, number: i32, writer: &mut Writer) -> Result<(), AllocError>
+    ensures put { OnOk result (writer.new.tokens ≡ writer.old.tokens ++ tokens_of (int32_form form number)) }
+    ensures before { writer.new.before ≡ writer.old.before }
+    ensures room { StaysWithinCapacity result writer.old.spare writer.new.spare
+        (tree_capacity (int32_form form number)) }
 {
     match form {
-        Form::Canonical => put_numeral("$numberInt", number as i64, out),
-        Form::Relaxed => put_integer(number as i64, out),
+        Form::Canonical => put_quoted_i64("$numberInt", number as i64, writer),
+        Form::Relaxed => put_integer(number as i64, writer),
     }
 }
 
-fn put_int64(form: Form, number: i64, out: &mut Writer) -> Result<(), AllocError>
-    ensures put { OnOk result (out.new.tokens ≡ out.old.tokens ++ tokens_of (int64_form form number)) }
-    ensures before { out.new.before ≡ out.old.before }
-    ensures room { Spends result out.old.spare out.new.spare (tree_room (int64_form form number)) }
+fn put_int64(form: Form, number: i64, writer: &mut Writer) -> Result<(), AllocError>
+    ensures put { OnOk result (writer.new.tokens ≡ writer.old.tokens ++ tokens_of (int64_form form number)) }
+    ensures before { writer.new.before ≡ writer.old.before }
+    ensures room { StaysWithinCapacity result writer.old.spare writer.new.spare
+        (tree_capacity (int64_form form number)) }
 {
     match form {
-        Form::Canonical => put_numeral("$numberLong", number, out),
-        Form::Relaxed => put_integer(number, out),
+        Form::Canonical => put_quoted_i64("$numberLong", number, writer),
+        Form::Relaxed => put_integer(number, writer),
     }
 }
 
 // A number.
-fn put_integer(number: i64, out: &mut Writer) -> Result<(), AllocError>
-    ensures put { OnOk result (out.new.tokens ≡ out.old.tokens ++ tokens_of (tree.number (of_integer number))) }
-    ensures before { out.new.before ≡ out.old.before }
-    ensures room { Spends result out.old.spare out.new.spare (tree_room (tree.number (of_integer number))) }
+fn put_integer(number: i64, writer: &mut Writer) -> Result<(), AllocError>
+    ensures put { OnOk result (writer.new.tokens ≡ writer.old.tokens ++ tokens_of (tree.number (of_integer number))) }
+    ensures before { writer.new.before ≡ writer.old.before }
+    ensures room { StaysWithinCapacity result writer.old.spare writer.new.spare
+        (tree_capacity (tree.number (of_integer number))) }
 {
-    out.i64(number)
+    writer.i64(number)
 }
 
-fn put_timestamp(timestamp: Timestamp, out: &mut Writer) -> Result<(), AllocError>
-    ensures put { OnOk result (out.new.tokens ≡ out.old.tokens
+fn put_timestamp(timestamp: Timestamp, writer: &mut Writer) -> Result<(), AllocError>
+    ensures put { OnOk result (writer.new.tokens ≡ writer.old.tokens
         ++ tokens_of (timestamp_tree timestamp.time timestamp.increment)) }
-    ensures before { out.new.before ≡ out.old.before }
-    ensures ranged { OnOk result ((timestamp.time < 2 ^ 32) × (timestamp.increment < 2 ^ 32)) }
-    ensures room { Spends result out.old.spare out.new.spare
-        (tree_room (timestamp_tree timestamp.time timestamp.increment)) }
+    ensures before { writer.new.before ≡ writer.old.before }
+    ensures within_type_range { OnOk result ((timestamp.time < 2 ^ 32) × (timestamp.increment < 2 ^ 32)) }
+    ensures room { StaysWithinCapacity result writer.old.spare writer.new.spare
+        (tree_capacity (timestamp_tree timestamp.time timestamp.increment)) }
 {
-    out.begin_object()?;
-    out.key("$timestamp")?;
-    out.begin_object()?;
-    out.key("i")?;
-    out.u64(timestamp.increment as u64)?;
-    out.key("t")?;
-    out.u64(timestamp.time as u64)?;
-    out.end_object()?;
-    out.end_object()
+    writer.begin_object()?;
+    writer.key("$timestamp")?;
+    writer.begin_object()?;
+    writer.key("i")?;
+    writer.u64(timestamp.increment as u64)?;
+    writer.key("t")?;
+    writer.u64(timestamp.time as u64)?;
+    writer.end_object()?;
+    writer.end_object()
 }
 
 // A moment as its milliseconds.
-fn put_millis(date: DateTime, out: &mut Writer) -> Result<(), AllocError>
-    ensures put { OnOk result (out.new.tokens ≡ out.old.tokens ++ tokens_of (date_tree date)) }
-    ensures before { out.new.before ≡ out.old.before }
-    ensures ranged { OnOk result (FitsSigned w64 date) }
-    ensures room { Spends result out.old.spare out.new.spare (tree_room (date_tree date)) }
+fn put_millis(date: DateTime, writer: &mut Writer) -> Result<(), AllocError>
+    ensures put { OnOk result (writer.new.tokens ≡ writer.old.tokens ++ tokens_of (date_tree date)) }
+    ensures before { writer.new.before ≡ writer.old.before }
+    ensures within_type_range { OnOk result (FitsSigned w64 date) }
+    ensures room { StaysWithinCapacity result writer.old.spare writer.new.spare (tree_capacity (date_tree date)) }
 {
-    out.begin_object()?;
-    out.key("$date")?;
-    put_numeral("$numberLong", date.timestamp_millis(), out)?;
-    out.end_object()
+    writer.begin_object()?;
+    writer.key("$date")?;
+    put_quoted_i64("$numberLong", date.timestamp_millis(), writer)?;
+    writer.end_object()
 }
 
 // The 24 digits of an object id, on the stack.
 fn digits_of(id: ObjectId) -> [u8; 24]
     ensures digits { result ≡ encode_lower id }
-    ensures ranged { IsObjectId id }
+    ensures within_type_range { IsObjectId id }
 {
     let mut digits = [0u8; 24];
     let bytes = id.bytes();
@@ -222,41 +229,41 @@ fn digits_of(id: ObjectId) -> [u8; 24]
     }
 }
 
-fn put_id(id: ObjectId, out: &mut Writer) -> Result<(), AllocError>
-    ensures put { OnOk result (out.new.tokens ≡ out.old.tokens ++ tokens_of (oid_tree id)) }
-    ensures before { out.new.before ≡ out.old.before }
-    ensures ranged { OnOk result (IsObjectId id) }
-    ensures room { Spends result out.old.spare out.new.spare (tree_room (oid_tree id)) }
+fn put_object_id(id: ObjectId, writer: &mut Writer) -> Result<(), AllocError>
+    ensures put { OnOk result (writer.new.tokens ≡ writer.old.tokens ++ tokens_of (oid_tree id)) }
+    ensures before { writer.new.before ≡ writer.old.before }
+    ensures within_type_range { OnOk result (IsObjectId id) }
+    ensures room { StaysWithinCapacity result writer.old.spare writer.new.spare (tree_capacity (oid_tree id)) }
 {
     let digits = digits_of(id);
     match str::from_utf8(&digits) {
-        Ok(text) => put_text("$oid", text, out),
+        Ok(text) => put_text("$oid", text, writer),
         Err(_) => unreachable!(),
     }
 }
 
-fn put_pointer(pointer: &DbPointer, out: &mut Writer) -> Result<(), AllocError>
-    ensures put { OnOk result (out.new.tokens ≡ out.old.tokens
-        ++ tokens_of (pointer_tree (namespace_of pointer.now) (id_of pointer.now))) }
-    ensures before { out.new.before ≡ out.old.before }
-    ensures ranged { OnOk result (IsObjectId (id_of pointer.now)) }
-    ensures room { Spends result out.old.spare out.new.spare
-        (tree_room (pointer_tree (namespace_of pointer.now) (id_of pointer.now))) }
+fn put_pointer(pointer: &DbPointer, writer: &mut Writer) -> Result<(), AllocError>
+    ensures put { OnOk result (writer.new.tokens ≡ writer.old.tokens
+        ++ tokens_of (pointer_tree (pointer_namespace pointer.now) (pointer_id pointer.now))) }
+    ensures before { writer.new.before ≡ writer.old.before }
+    ensures within_type_range { OnOk result (IsObjectId (pointer_id pointer.now)) }
+    ensures room { StaysWithinCapacity result writer.old.spare writer.new.spare
+        (tree_capacity (pointer_tree (pointer_namespace pointer.now) (pointer_id pointer.now))) }
 {
-    out.begin_object()?;
-    out.key("$dbPointer")?;
-    out.begin_object()?;
-    out.key("$id")?;
-    put_id(pointer.id(), out)?;
-    out.key("$ref")?;
-    out.string(pointer.namespace())?;
-    out.end_object()?;
-    out.end_object()
+    writer.begin_object()?;
+    writer.key("$dbPointer")?;
+    writer.begin_object()?;
+    writer.key("$id")?;
+    put_object_id(pointer.id(), writer)?;
+    writer.key("$ref")?;
+    writer.string(pointer.namespace())?;
+    writer.end_object()?;
+    writer.end_object()
 }
 
 // The text of a double that is a zero, an infinity or a NaN.
-fn special_text(pattern: u64) -> Option<&'static str>
-    ensures { option_map (λ s. s.now) result ≡ spec.double_text pattern }
+fn special_double_text(pattern: u64) -> Option<&'static str>
+    ensures { option_map (λ text_bytes. text_bytes.now) result ≡ spec.double_text pattern }
 {
     if pattern == 0 {
         Some("0.0")
@@ -275,69 +282,72 @@ fn special_text(pattern: u64) -> Option<&'static str>
     }
 }
 
-fn put_special(pattern: u64, out: &mut Writer) -> Result<(), WriteError>
-    ensures printed { Puts result (special_double_tree (spec.double_text pattern)) out.old.tokens out.new.tokens }
-    ensures before { out.new.before ≡ out.old.before }
-    ensures room { SpendsOrStops result out.old.spare out.new.spare
-        (written_room (special_double_tree (spec.double_text pattern))) }
+fn put_special_double(pattern: u64, writer: &mut Writer) -> Result<(), WriteError>
+    ensures printed { AppendsTreeTokens result
+        (special_double_tree (spec.double_text pattern)) writer.old.tokens writer.new.tokens }
+    ensures before { writer.new.before ≡ writer.old.before }
+    ensures room { StaysWithinCapacityOrStops result writer.old.spare writer.new.spare
+        (written_tree_capacity (special_double_tree (spec.double_text pattern))) }
 {
-    match special_text(pattern) {
-        Some(text) => Ok(put_text("$numberDouble", text, out)?),
+    match special_double_text(pattern) {
+        Some(text) => Ok(put_text("$numberDouble", text, writer)?),
         None => Err(WriteError::FiniteDouble),
     }
 }
 
 // The shortest decimal of a finite double.
-fn put_finite(pattern: u64, out: &mut Writer) -> Result<(), AllocError>
+fn put_finite_double(pattern: u64, writer: &mut Writer) -> Result<(), AllocError>
     requires { IsTrue (is_finite pattern) }
     ensures finite { IsTrue (is_finite pattern) }
-    ensures put { OnOk result ((s : List ℕ) × IsDoubleText pattern s
-        × (out.new.tokens ≡ out.old.tokens ++ tokens_of (spec.double_tree s))) }
-    ensures before { out.new.before ≡ out.old.before }
-    ensures room { (s : List ℕ) × IsDoubleText pattern s
-        × Spends result out.old.spare out.new.spare (tree_room (spec.double_tree s)) }
+    ensures put { OnOk result ((text_bytes : List ℕ) × IsDoubleText pattern text_bytes
+        × (writer.new.tokens ≡ writer.old.tokens ++ tokens_of (spec.double_tree text_bytes))) }
+    ensures before { writer.new.before ≡ writer.old.before }
+    ensures room { (text_bytes : List ℕ) × IsDoubleText pattern text_bytes
+        × StaysWithinCapacity result writer.old.spare writer.new.spare (tree_capacity (spec.double_tree text_bytes)) }
 {
     put_text(
         "$numberDouble",
         bson_double::double_text(pattern).as_str(),
-        out,
+        writer,
     )
 }
 
-fn put_canonical(pattern: u64, out: &mut Writer) -> Result<(), WriteError>
-    ensures printed { Puts result (double_writes_in Finite Canonical pattern) out.old.tokens out.new.tokens }
-    ensures before { out.new.before ≡ out.old.before }
-    ensures room { SpendsOrStops result out.old.spare out.new.spare
-        (written_room (double_writes_in Finite Canonical pattern)) }
+fn put_canonical_double(pattern: u64, writer: &mut Writer) -> Result<(), WriteError>
+    ensures printed { AppendsTreeTokens result
+        (double_writes_in Finite Canonical pattern) writer.old.tokens writer.new.tokens }
+    ensures before { writer.new.before ≡ writer.old.before }
+    ensures room { StaysWithinCapacityOrStops result writer.old.spare writer.new.spare
+        (written_tree_capacity (double_writes_in Finite Canonical pattern)) }
 {
-    match special_text(pattern) {
-        Some(text) => Ok(put_text("$numberDouble", text, out)?),
-        None => Ok(put_finite(pattern, out)?),
+    match special_double_text(pattern) {
+        Some(text) => Ok(put_text("$numberDouble", text, writer)?),
+        None => Ok(put_finite_double(pattern, writer)?),
     }
 }
 
 // A finite double as a number.
-fn put_number(pattern: u64, out: &mut Writer) -> Result<(), AllocError>
+fn put_double_number(pattern: u64, writer: &mut Writer) -> Result<(), AllocError>
     requires { IsTrue (is_finite pattern) }
-    ensures put { OnOk result (out.new.tokens ≡ out.old.tokens ++ tokens_of (number_tree pattern)) }
-    ensures before { out.new.before ≡ out.old.before }
-    ensures room { Spends result out.old.spare out.new.spare (tree_room (number_tree pattern)) }
+    ensures put { OnOk result (writer.new.tokens ≡ writer.old.tokens ++ tokens_of (number_tree pattern)) }
+    ensures before { writer.new.before ≡ writer.old.before }
+    ensures room { StaysWithinCapacity result writer.old.spare writer.new.spare (tree_capacity (number_tree pattern)) }
 {
     // What is known of the text of a number.
     number_texts();
-    out.number(bson_double::double_text(pattern).as_str())
+    writer.number(bson_double::double_text(pattern).as_str())
 }
 
-fn put_relaxed(pattern: u64, out: &mut Writer) -> Result<(), WriteError>
-    ensures printed { Puts result (double_writes_in Finite Relaxed pattern) out.old.tokens out.new.tokens }
-    ensures before { out.new.before ≡ out.old.before }
-    ensures room { SpendsOrStops result out.old.spare out.new.spare
-        (written_room (double_writes_in Finite Relaxed pattern)) }
+fn put_relaxed_double(pattern: u64, writer: &mut Writer) -> Result<(), WriteError>
+    ensures printed { AppendsTreeTokens result
+        (double_writes_in Finite Relaxed pattern) writer.old.tokens writer.new.tokens }
+    ensures before { writer.new.before ≡ writer.old.before }
+    ensures room { StaysWithinCapacityOrStops result writer.old.spare writer.new.spare
+        (written_tree_capacity (double_writes_in Finite Relaxed pattern)) }
 {
     if bson_double::is_finite(pattern) {
-        Ok(put_number(pattern, out)?)
+        Ok(put_double_number(pattern, writer)?)
     } else {
-        put_special(pattern, out)
+        put_special_double(pattern, writer)
     }
 }
 
@@ -345,16 +355,17 @@ fn put_double(
     doubles: Doubles,
     form: Form,
     pattern: u64,
-    out: &mut Writer,
+    writer: &mut Writer,
 ) -> Result<(), WriteError>
-    ensures printed { Puts result (double_writes_in doubles form pattern) out.old.tokens out.new.tokens }
-    ensures before { out.new.before ≡ out.old.before }
-    ensures room { SpendsOrStops result out.old.spare out.new.spare
-        (written_room (double_writes_in doubles form pattern)) }
+    ensures printed { AppendsTreeTokens result
+        (double_writes_in doubles form pattern) writer.old.tokens writer.new.tokens }
+    ensures before { writer.new.before ≡ writer.old.before }
+    ensures room { StaysWithinCapacityOrStops result writer.old.spare writer.new.spare
+        (written_tree_capacity (double_writes_in doubles form pattern)) }
 {
     match (doubles, form) {
-        (Doubles::Special, _) => put_special(pattern, out),
-        (Doubles::Finite, Form::Canonical) => put_canonical(pattern, out),
-        (Doubles::Finite, Form::Relaxed) => put_relaxed(pattern, out),
+        (Doubles::Special, _) => put_special_double(pattern, writer),
+        (Doubles::Finite, Form::Canonical) => put_canonical_double(pattern, writer),
+        (Doubles::Finite, Form::Relaxed) => put_relaxed_double(pattern, writer),
     }
 }

@@ -1,16 +1,16 @@
 //! The writer of both forms.
 ghost use Rattle.std.specs.Prelude.{IfErr, OnOk};
 ghost use Rattle.serde_json.specs.View.{view, items_view, members_view};
-ghost use Rattle.bson_scalar.specs.Written.{Writes};
-ghost use Rattle.bson_model.specs.Normal.{InRange, ItemsInRange, PairsInRange};
-ghost use Rattle.bson_model.specs.Writing.{writes_in, writes_items_in, writes_pairs_in};
+ghost use Rattle.bson_scalar.specs.Written.{IsWriteResult};
+ghost use Rattle.bson_model.specs.Normal.{NumbersInRange, ItemsInRange, PairsInRange};
+ghost use Rattle.bson_model.specs.Writing.{writes_value_in, writes_items_in, writes_pairs_in};
 ghost use Rattle.bson.specs.Texts.{IsWriteErrorIn};
-ghost use Rattle.bson.specs.View.{bson_view, scoped_view, document_view, values_view};
+ghost use Rattle.bson.specs.View.{bson_view, code_with_scope_view, document_view, values_view};
 
 use crate::bson::{Bson, JavaScriptCodeWithScope};
 use crate::document::Document;
 use crate::extjson::scalars::{can_be_written, to_scalar};
-use bson_scalar::code::wrapped_code;
+use bson_scalar::code::code_with_scope_tree;
 use bson_scalar::form::{Doubles, Form};
 use bson_scalar::write::write_scalar_in;
 use bson_scalar::write_error::WriteError;
@@ -24,14 +24,19 @@ pub(crate) fn write(
     form: Form,
     value: Bson,
 ) -> Result<Value, WriteError>
-    ensures written { Writes view result (writes_in doubles form (bson_view value)) }
-    ensures ranged { OnOk result (InRange (bson_view value)) }
-    ensures every { IfErr result (IsWriteErrorIn doubles) }
+    ensures written { IsWriteResult view result (writes_value_in doubles form (bson_view value)) }
+    ensures within_type_range { OnOk result (NumbersInRange (bson_view value)) }
+    ensures possible_errors { IfErr result (IsWriteErrorIn doubles) }
 {
     match value {
         Bson::Array(values) => Ok(Value::Array(write_items(alloc, doubles, form, values)?)),
         Bson::Document(document) => Ok(Value::Object(write_pairs(alloc, doubles, form, document)?)),
-        Bson::JavaScriptCodeWithScope(scoped) => write_scoped(alloc, doubles, form, scoped),
+        Bson::JavaScriptCodeWithScope(code_with_scope) => write_code_with_scope(
+            alloc,
+            doubles,
+            form,
+            code_with_scope,
+        ),
         value => {
             let scalar = to_scalar(alloc, value)?;
             can_be_written(&scalar);
@@ -41,19 +46,19 @@ pub(crate) fn write(
 }
 
 #[cycle(write)]
-fn write_scoped(
+fn write_code_with_scope(
     alloc: Global,
     doubles: Doubles,
     form: Form,
-    scoped: JavaScriptCodeWithScope,
+    code_with_scope: JavaScriptCodeWithScope,
 ) -> Result<Value, WriteError>
-    ensures written { Writes view result (writes_in doubles form (scoped_view scoped)) }
-    ensures ranged { OnOk result (InRange (scoped_view scoped)) }
-    ensures every { IfErr result (IsWriteErrorIn doubles) }
+    ensures written { IsWriteResult view result (writes_value_in doubles form (code_with_scope_view code_with_scope)) }
+    ensures within_type_range { OnOk result (NumbersInRange (code_with_scope_view code_with_scope)) }
+    ensures possible_errors { IfErr result (IsWriteErrorIn doubles) }
 {
-    let JavaScriptCodeWithScope { code, scope } = scoped;
+    let JavaScriptCodeWithScope { code, scope } = code_with_scope;
     let scope = write_pairs(alloc, doubles, form, scope)?;
-    Ok(wrapped_code(alloc, code, scope)?)
+    Ok(code_with_scope_tree(alloc, code, scope)?)
 }
 
 #[cycle(write)]
@@ -63,10 +68,10 @@ fn write_items(
     form: Form,
     values: Vec<Bson>,
 ) -> Result<Vec<Value>, WriteError>
-    ensures written { Writes (λ v. items_view v.items) result
+    ensures written { IsWriteResult (λ written_items. items_view written_items.items) result
         (writes_items_in doubles form (values_view values.items)) }
-    ensures ranged { OnOk result (ItemsInRange (values_view values.items)) }
-    ensures every { IfErr result (IsWriteErrorIn doubles) }
+    ensures within_type_range { OnOk result (ItemsInRange (values_view values.items)) }
+    ensures possible_errors { IfErr result (IsWriteErrorIn doubles) }
 {
     let mut items = Vec::with_capacity(alloc, values.len())?;
     for value in values {
@@ -82,10 +87,10 @@ pub(crate) fn write_pairs(
     form: Form,
     document: Document,
 ) -> Result<Map<String, Value>, WriteError>
-    ensures written { Writes (λ m. members_view m.entries) result
+    ensures written { IsWriteResult (λ written_map. members_view written_map.entries) result
         (writes_pairs_in doubles form (document_view document)) }
-    ensures ranged { OnOk result (PairsInRange (document_view document)) }
-    ensures every { IfErr result (IsWriteErrorIn doubles) }
+    ensures within_type_range { OnOk result (PairsInRange (document_view document)) }
+    ensures possible_errors { IfErr result (IsWriteErrorIn doubles) }
 {
     let Document { pairs } = document;
     let mut members = Map::new(alloc);

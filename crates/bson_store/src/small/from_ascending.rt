@@ -15,9 +15,9 @@ impl<V: Drop> SmallPairs<V> {
         ensures ok { IfOk result (λ store. store ≡ stored_pairs pairs.items) }
         ensures ascending { IfOk result (λ _. HasAscendingKeys (stored_pairs pairs.items)) }
         ensures taken { HasAscendingKeys (stored_pairs pairs.items) → IsOk result }
-        ensures refused { IfErr result (λ back. back ≡ pairs) }
+        ensures refused { IfErr result (λ returned_pairs. returned_pairs ≡ pairs) }
     {
-        if !pairs.is_sorted_by(|one, next| one.key < next.key) {
+        if !pairs.is_sorted_by(|pair, next_pair| pair.key < next_pair.key) {
             return Err(pairs);
         }
         pairs.shrink_to_fit();

@@ -35,12 +35,15 @@ impl<V: Drop> SmallPairs<V> {
         match SmallPairs::try_from_ascending(pairs) {
             Ok(store) => Ok(store),
             Err(pairs) if pairs.len() <= MAX_UNINDEXED => insert_each(alloc, pairs),
-            Err(pairs) => from_many(alloc, pairs),
+            Err(pairs) => from_unsorted_pairs(alloc, pairs),
         }
     }
 }
 
-fn from_many<V: Drop>(alloc: Global, mut pairs: Vec<Pair<V>>) -> Result<SmallPairs<V>, AllocError>
+fn from_unsorted_pairs<V: Drop>(
+    alloc: Global,
+    mut pairs: Vec<Pair<V>>,
+) -> Result<SmallPairs<V>, AllocError>
     requires { 16 < length (stored_pairs pairs.items) }
     ensures { IfOk result (λ store. store ≡ insert_pairs (stored_pairs pairs.items) []) }
 {

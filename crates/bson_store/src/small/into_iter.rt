@@ -30,7 +30,7 @@ impl<V> Model for IntoIter<V> {
 
     ghost coded = { pairs_code V.code };
 
-    ghost view = { λ a. stored_pairs (into_iter_items a.pairs) };
+    ghost view = { λ iterator. stored_pairs (into_iter_items iterator.pairs) };
 }
 
 impl<V> IntoIter<V> {
@@ -44,9 +44,9 @@ impl<V> IntoIter<V> {
 impl<V: Drop> Iterator for IntoIter<V> {
     type Item = (String, V);
 
-    ghost next_gives = { TakesFirst (λ p. (string_bytes p.0, p.1)) };
+    ghost next_gives = { TakesFirst (λ pair. (string_bytes pair.0, pair.1)) };
 
-    ghost remaining = { λ s. at_most (length s) };
+    ghost remaining = { λ pair_list. at_most (length pair_list) };
 
     fn next(&mut self) -> Option<(String, V)> {
         let Pair { key, value } = self.pairs.next()?;

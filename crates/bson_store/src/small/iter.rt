@@ -8,7 +8,7 @@ ghost use Rattle.bson_store.specs.Pairs.{HasDistinctKeys};
 ghost use Rattle.bson_store.specs.KeyIndex.{stored_pairs, StoreInvariant};
 ghost use Rattle.bson_store.specs.Cursors.{remaining_pairs, IsCursorInBounds, IsCursorByKey, IsCursorStep};
 
-use crate::ascending_keys::ascends;
+use crate::ascending_keys::has_ascending_keys;
 use crate::key_index::{Index, MAX_UNINDEXED};
 use crate::order::next_above;
 use crate::pair_store::PairStore;
@@ -49,9 +49,9 @@ enum Cursor<'a> {
 impl<'a, V> Model for Iter<'a, V> {
     ghost Value = { List (List ℕ × V) };
 
-    ghost view = { λ a. remaining_pairs a.cursor a.pairs.now };
+    ghost view = { λ iterator. remaining_pairs iterator.cursor iterator.pairs.now };
 
-    ghost invariant = { λ a. IsCursorInBounds a.cursor a.pairs.now };
+    ghost invariant = { λ iterator. IsCursorInBounds iterator.cursor iterator.pairs.now };
 }
 
 impl<V: Drop> SmallPairs<V> {
@@ -93,7 +93,7 @@ fn cursor_by_key<'a, V>(pairs: &Vec<Pair<V>>, positions: &'a Option<Box<Index>>)
             Index::Sorted(positions) => Cursor::Sorted(positions.iter()),
             Index::Map(map) => Cursor::Mapped(map.values()),
         },
-        None if pairs.len() > MAX_UNINDEXED || ascends(pairs) => Cursor::From(0),
+        None if pairs.len() > MAX_UNINDEXED || has_ascending_keys(pairs) => Cursor::From(0),
         None => Cursor::Above(None),
     }
 }
@@ -101,13 +101,13 @@ fn cursor_by_key<'a, V>(pairs: &Vec<Pair<V>>, positions: &'a Option<Box<Index>>)
 impl<'a, V: Drop> Iterator for Iter<'a, V> {
     type Item = (&'a String, &'a V);
 
-    ghost next_gives = { TakesFirst (λ p. (string_bytes p.0.now, p.1.now)) };
+    ghost next_gives = { TakesFirst (λ pair. (string_bytes pair.0.now, pair.1.now)) };
 
-    ghost remaining = { λ s. at_most (length s) };
+    ghost remaining = { λ pair_list. at_most (length pair_list) };
 
     fn next(&mut self) -> Option<(&'a String, &'a V)> {
-        let at = next_position(self.pairs, &mut self.cursor)?;
-        Some((self.pairs.key_at(at), self.pairs.value_at(at)))
+        let position = next_position(self.pairs, &mut self.cursor)?;
+        Some((self.pairs.key_at(position), self.pairs.value_at(position)))
     }
 }
 
@@ -117,30 +117,31 @@ fn next_position<'a, V: Drop>(pairs: &'a SmallPairs<V>, cursor: &mut Cursor<'a>)
     ensures { IsCursorStep pairs.now cursor.old result cursor.new }
 {
     match cursor {
-        Cursor::From(at) => {
-            if *at == pairs.len() {
+        Cursor::From(position) => {
+            if *position == pairs.len() {
                 return None;
             }
-            *at += 1;
-            Some(*at - 1)
+            *position += 1;
+            Some(*position - 1)
         }
         Cursor::Sorted(positions) => positions.next().copied(),
         Cursor::Mapped(positions) => positions.next().copied(),
-        Cursor::Above(last) => {
-            let at = next_by_scan(pairs, *last)?;
-            *last = Some(pairs.key_at(at));
-            Some(at)
+        Cursor::Above(previous_key) => {
+            let position = next_by_scan(pairs, *previous_key)?;
+            *previous_key = Some(pairs.key_at(position));
+            Some(position)
         }
     }
 }
 
 // The position of the least key above the last one, or of the least key of all. Compares each pair.
-fn next_by_scan<V: Drop>(pairs: &SmallPairs<V>, last: Option<&String>) -> Option<usize>
-    ensures in_bounds { IfSome result (λ i. i < length pairs.now) }
-    ensures least { IsLeastKeyAbove (option_map (λ s. string_bytes s.now) last.entry) pairs.now
+fn next_by_scan<V: Drop>(pairs: &SmallPairs<V>, previous_key: Option<&String>) -> Option<usize>
+    ensures in_bounds { IfSome result (λ next_position. next_position < length pairs.now) }
+    ensures least { IsLeastKeyAbove
+        (option_map (λ key_reference. string_bytes key_reference.now) previous_key.entry) pairs.now
         (option_and_then (slice_get pairs.now) result) }
 {
-    match last {
+    match previous_key {
         Some(key) => next_above(pairs, Some(key.as_str())),
         None => next_above(pairs, None),
     }

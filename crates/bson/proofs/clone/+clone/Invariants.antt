@@ -6,5 +6,5 @@ use Rattle.bson.proofs.clone.+clone.Given as goal
 abbrev pub invariant-copy_values-loop-value : goal.invariant-copy_values-loop-value
 invariant-copy_values-loop-value l = map bson_view l.copies.items ≡ map bson_view (take l.value-index l.value-items)
 
-abbrev pub invariant-copy_pairs-loop-i : goal.invariant-copy_pairs-loop-i
-invariant-copy_pairs-loop-i l = viewed l.pairs ≡ viewed (take l.i l.document.pairs)
+abbrev pub invariant-copy_pairs-loop-pair_index : goal.invariant-copy_pairs-loop-pair_index
+invariant-copy_pairs-loop-pair_index l = viewed l.pairs ≡ viewed (take l.pair_index l.document.pairs)

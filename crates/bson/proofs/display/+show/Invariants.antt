@@ -4,12 +4,12 @@ use Rattle.std.specs.List.{join_by}
 use Rattle.bson.proofs.Texts.{item_text, entry_text}
 use Rattle.bson.proofs.display.+show.Given as goal
 
-abbrev pub invariant-show_items-loop-i : goal.invariant-show_items-loop-i
-invariant-show_items-loop-i g l =
-    IsPlainFormatter l.initial.f → HasWritten g.W.Write.write_str_gives l.initial.f
-    (join_by item_text (codes ", ") (take l.i l.items.items)) l.f
+abbrev pub invariant-show_items-loop-element_index : goal.invariant-show_items-loop-element_index
+invariant-show_items-loop-element_index g l =
+    IsPlainFormatter l.initial.formatter → HasWritten g.W.Write.write_str_gives l.initial.formatter
+    (join_by item_text (codes ", ") (take l.element_index l.items.items)) l.formatter
 
-abbrev pub invariant-show_pairs-loop-i : goal.invariant-show_pairs-loop-i
-invariant-show_pairs-loop-i g l =
-    IsPlainFormatter l.initial.f → HasWritten g.W.Write.write_str_gives l.initial.f
-    (join_by entry_text (codes ", ") (take l.i l.document.pairs)) l.f
+abbrev pub invariant-show_pairs-loop-element_index : goal.invariant-show_pairs-loop-element_index
+invariant-show_pairs-loop-element_index g l =
+    IsPlainFormatter l.initial.formatter → HasWritten g.W.Write.write_str_gives l.initial.formatter
+    (join_by entry_text (codes ", ") (take l.element_index l.document.pairs)) l.formatter

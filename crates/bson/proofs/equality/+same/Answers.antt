@@ -13,83 +13,83 @@ use Rattle.bson.proofs.equality.+same.Goals.{same_lists-then-items-test+else-sam
 
 pub same_documents-returns-then-len : goal.same_documents-returns-then-len
 same_documents-returns-then-len t c =
-    let n : length c.args.a.now.pairs ≡ length c.args.b.now.pairs → ⊥ =
+    let n : length c.args.left.now.pairs ≡ length c.args.right.now.pairs → ⊥ =
     λ e. c.if-len.true (c.len.ensures.len ∙ e ∙ sym c.len-2.ensures.len) in
-    not_same _ (lengths_differ c.args.a.now.pairs c.args.b.now.pairs c.len.ensures.distinct c.len-2.ensures.distinct n)
+    not_same _ (lengths_differ c.args.left.now.pairs c.args.right.now.pairs c.len.ensures.distinct c.len-2.ensures.distinct n)
 
 pub same_documents-returns-in-None : goal.same_documents-returns-in-None
 same_documents-returns-in-None t c =
-    let ps = c.args.a.now.pairs in
-    let qs = c.args.b.now.pairs in
-    let p = pair_of_key ps c.loop-i.i (string_bytes c.key_at.result.now) c.key_at.ensures in
-    not_same _ (lacking ps qs c.loop-i.i (string_bytes c.key_at.result.now, p.0) c.len.ensures.distinct p.1
+    let ps = c.args.left.now.pairs in
+    let qs = c.args.right.now.pairs in
+    let p = pair_of_key ps c.loop-left_index.left_index (string_bytes c.key_at.result.now) c.key_at.ensures in
+    not_same _ (lacking ps qs c.loop-left_index.left_index (string_bytes c.key_at.result.now, p.0) c.len.ensures.distinct p.1
     (ap (λ k. store.get k qs) (sym c.as_str.ensures.value) ∙ get-absent c.as_str.result.now qs (sym c.in-None.ensures)))
 
 pub same_documents-value_at-requires-in-Some : goal.same_documents-value_at-requires-in-Some
-same_documents-value_at-requires-in-Some t c = place-within c.as_str.result.now c.args.b.now.pairs c.in-Some.j
+same_documents-value_at-requires-in-Some t c = place-within c.as_str.result.now c.args.right.now.pairs c.in-Some.right_index
     (sym c.in-Some.ensures)
 
 pub same_documents-same_values-requires : goal.same_documents-same_values-requires
 same_documents-same_values-requires t c =
-    let h = value_smaller c.args.a.now c.loop-i.i c.value_at.result.now (sym c.value_at.ensures) in
+    let h = value_smaller c.args.left.now c.loop-left_index.left_index c.value_at.result.now (sym c.value_at.ensures) in
     (omega (arith, h, c.decreases), tt)
 
 pub same_documents-returns-then-not-same_values : goal.same_documents-returns-then-not-same_values
 same_documents-returns-then-not-same_values t c =
-    let ps = c.args.a.now.pairs in
-    let qs = c.args.b.now.pairs in
-    let p = pair_from ps c.loop-i.i (string_bytes c.key_at.result.now) c.value_at.result.now c.key_at.ensures
+    let ps = c.args.left.now.pairs in
+    let qs = c.args.right.now.pairs in
+    let p = pair_from ps c.loop-left_index.left_index (string_bytes c.key_at.result.now) c.value_at.result.now c.key_at.ensures
     c.value_at.ensures in
     let f = ap (λ k. store.get k qs) (sym c.as_str.ensures.value)
-    ∙ sym (get-place c.as_str.result.now qs c.in-Some.j (sym c.in-Some.ensures)) ∙ sym c.value_at-in-Some.ensures in
-    not_same _ (differing ps qs c.loop-i.i (string_bytes c.key_at.result.now, c.value_at.result.now)
+    ∙ sym (get-place c.as_str.result.now qs c.in-Some.right_index (sym c.in-Some.ensures)) ∙ sym c.value_at-in-Some.ensures in
+    not_same _ (differing ps qs c.loop-left_index.left_index (string_bytes c.key_at.result.now, c.value_at.result.now)
     c.value_at-in-Some.result.now c.len.ensures.distinct p f (sym c.if-not-same_values.ensures))
 
-pub same_documents-loop-i-preserved : goal.same_documents-loop-i-preserved
-same_documents-loop-i-preserved t c =
-    let ps = c.args.a.now.pairs in
-    let qs = c.args.b.now.pairs in
+pub same_documents-loop-left_index-preserved : goal.same_documents-loop-left_index-preserved
+same_documents-loop-left_index-preserved t c =
+    let ps = c.args.left.now.pairs in
+    let qs = c.args.right.now.pairs in
     let v = c.value_at.result.now in
-    let p = pair_from ps c.loop-i.i (string_bytes c.key_at.result.now) v c.key_at.ensures c.value_at.ensures in
+    let p = pair_from ps c.loop-left_index.left_index (string_bytes c.key_at.result.now) v c.key_at.ensures c.value_at.ensures in
     let f = ap (λ k. store.get k qs) (sym c.as_str.ensures.value)
-    ∙ sym (get-place c.as_str.result.now qs c.in-Some.j (sym c.in-Some.ensures)) ∙ sym c.value_at-in-Some.ensures in
+    ∙ sym (get-place c.as_str.result.now qs c.in-Some.right_index (sym c.in-Some.ensures)) ∙ sym c.value_at-in-Some.ensures in
     let g = get-bson_view (string_bytes c.key_at.result.now) qs in
-    below_more _ _ c.loop-i.invariant
-    (IsSameAt-from ps qs c.loop-i.i (string_bytes c.key_at.result.now, v) p
+    below_more _ _ c.loop-left_index.invariant
+    (IsSameAt-from ps qs c.loop-left_index.left_index (string_bytes c.key_at.result.now, v) p
     (ap (option_same (Some (bson_view v))) (g ∙ ap (λ o. elim o [ None ↦ None | Some w ↦ Some (bson_view w) ]) f)
     ∙ sym c.if-not-same_values.ensures))
 
 pub same_documents-returns : goal.same_documents-returns
 same_documents-returns t c =
-    let ps = c.args.a.now.pairs in
-    let qs = c.args.b.now.pairs in
+    let ps = c.args.left.now.pairs in
+    let qs = c.args.right.now.pairs in
     let n : length ps ≡ length qs = sym c.len.ensures.len ∙ c.if-len.false ∙ c.len-2.ensures.len in
     sym (all_places ps qs n c.len.ensures.distinct
-    (λ i l. c.loop-i.invariant i (omega (arith, l, c.loop-i-test.false))))
+    (λ left_index l. c.loop-left_index.invariant left_index (omega (arith, l, c.loop-left_index-test.false))))
 
 pub same_lists-returns-then-len : goal.same_lists-returns-then-len
 same_lists-returns-then-len t c =
-    let n : length c.args.a.now.items ≡ length c.args.b.now.items → ⊥ =
-    λ e. c.if-len.true (omega (arith, e, c.args.a.now.ok.0, c.args.b.now.ok.0)) in
-    not_same _ (items_differ c.args.a.now.items c.args.b.now.items n)
+    let n : length c.args.left.now.items ≡ length c.args.right.now.items → ⊥ =
+    λ e. c.if-len.true (omega (arith, e, c.args.left.now.ok.0, c.args.right.now.ok.0)) in
+    not_same _ (items_differ c.args.left.now.items c.args.right.now.items n)
 
 pub same_lists-returns : goal.same_lists-returns
 same_lists-returns t c =
-    let xs = c.args.a.now.items in
-    let ys = c.args.b.now.items in
-    let at = c.items.at in
-    let n : length xs ≡ length ys = omega (arith, c.args.a.now.ok.0, c.args.b.now.ok.0) in
+    let xs = c.args.left.now.items in
+    let ys = c.args.right.now.items in
+    let item_index = c.items.item_index in
+    let n : length xs ≡ length ys = omega (arith, c.args.left.now.ok.0, c.args.right.now.ok.0) in
     elim c.items-test.branch [
       | same_lists-then-items-test+else-same_values w ↦
-          let in_xs : at < length xs = omega (arith, w.items-test.true, c.args.a.now.ok.0) in
+          let in_xs : item_index < length xs = omega (arith, w.items-test.true, c.args.left.now.ok.0) in
           let v = w.index.result.now in
           let u = w.index-in-items.result.now in
-          ne_eqb at _ (λ e. omega (arith, e, w.items-test.true))
-          ∙ not_same _ (items_differ_at xs ys at v u
-          (slice_get-get_or xs at v in_xs ∙ ap Some (sym w.index.ensures))
-          (slice_get-get_or ys at u (omega (arith, in_xs, n)) ∙ ap Some (sym w.index-in-items.ensures))
+          ne_eqb item_index _ (λ e. omega (arith, e, w.items-test.true))
+          ∙ not_same _ (items_differ_at xs ys item_index v u
+          (slice_get-get_or xs item_index v in_xs ∙ ap Some (sym w.index.ensures))
+          (slice_get-get_or ys item_index u (omega (arith, in_xs, n)) ∙ ap Some (sym w.index-in-items.ensures))
           (sym w.if-same_values.ensures))
       | same_lists-else-items-test w ↦
-          eq-eqb at _ (omega (arith, w.items-test.false, c.items.invariant.0))
-          ∙ sym (items_all xs ys n (λ i d l. c.items.invariant.1 i d (omega (arith, l, w.items-test.false))))
+          eq-eqb item_index _ (omega (arith, w.items-test.false, c.items.invariant.0))
+          ∙ sym (items_all xs ys n (λ left_index d l. c.items.invariant.1 left_index d (omega (arith, l, w.items-test.false))))
     ]

@@ -2,7 +2,7 @@ use Rattle.std.proofs.Common.{string_bytes, ◌≡◌, ◌∙◌, sym, ap, subst
 use Rattle.std.proofs.Common.{[]}
 use Rattle.std.proofs.lemmas.List.{drop_all}
 use Rattle.bson_store.specs.AscendingOrder.{sorted_by_key}
-use Rattle.bson_model.specs.HashInput.{feed as words_of}
+use Rattle.bson_model.specs.HashInput.{sorted_hash_input as words_of}
 use Rattle.bson_model.specs.Value.{document, array}
 use Rattle.bson.specs.View.{values_view, pairs_view}
 use Rattle.bson.specs.declared.extjson.key_order.KeyOrder.TheVariants.{Ascending}

@@ -3,10 +3,10 @@ use Rattle.std.specs.List.{join_by}
 use Rattle.bson.specs.PrettyLines.{item_line, entry_line}
 use Rattle.bson.proofs.pretty.+pretty.Given as goal
 
-abbrev pub invariant-push_items-loop-i : goal.invariant-push_items-loop-i
-invariant-push_items-loop-i l = string_bytes l.out
-    ≡ string_bytes l.initial.out ++ join_by (item_line l.indent) (codes ", ") (take l.i l.items.items)
+abbrev pub invariant-push_items-loop-element_index : goal.invariant-push_items-loop-element_index
+invariant-push_items-loop-element_index l = string_bytes l.output
+    ≡ string_bytes l.initial.output ++ join_by (item_line l.indent) (codes ", ") (take l.element_index l.items.items)
 
-abbrev pub invariant-push_pairs-loop-i : goal.invariant-push_pairs-loop-i
-invariant-push_pairs-loop-i l = string_bytes l.out
-    ≡ string_bytes l.initial.out ++ join_by (entry_line l.indent) (codes ",\n") (take l.i l.document.pairs)
+abbrev pub invariant-push_pairs-loop-element_index : goal.invariant-push_pairs-loop-element_index
+invariant-push_pairs-loop-element_index l = string_bytes l.output
+    ≡ string_bytes l.initial.output ++ join_by (entry_line l.indent) (codes ",\n") (take l.element_index l.document.pairs)

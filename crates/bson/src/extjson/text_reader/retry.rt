@@ -5,9 +5,9 @@ ghost use Rattle.bson_tokens.specs.Normalized.{IsNormalizedText};
 ghost use Rattle.bson_tokens.specs.declared.arrangement.Arrangement.TheVariants as normalized;
 ghost use Rattle.bson_scalar.specs.declared.form.Doubles.{Doubles};
 ghost use Rattle.bson_model.specs.Value as model;
-ghost use Rattle.bson_tokens.specs.ReadOutcomes.{InvalidIfNotRead};
+ghost use Rattle.bson_tokens.specs.ReadOutcomes.{NothingReadIfInvalid};
 ghost use Rattle.bson.specs.View.{bson_view};
-ghost use Rattle.bson.specs.TextMeaning.{HasTextMeaningBy, IsTextFaultIn};
+ghost use Rattle.bson.specs.TextMeaning.{HasTextMeaningInKeyOrder, IsTextFaultIn};
 
 use crate::bson::Bson;
 use crate::extjson::bson_writer::read_once;
@@ -29,15 +29,15 @@ use std::alloc::{AllocError, Global};
 pub(crate) fn read_again(
     alloc: Global,
     doubles: Doubles,
-    order: KeyOrder,
+    key_order: KeyOrder,
     text: &str,
 ) -> Result<Bson, TextError>
-    ensures ok { IfOk result (λ v. HasTextMeaningBy order doubles text.now (bson_view v)) }
-    ensures fault { IfErr result (λ e. IsTextFaultIn doubles text.now e) }
+    ensures ok { IfOk result (λ parsed. HasTextMeaningInKeyOrder key_order doubles text.now (bson_view parsed)) }
+    ensures fault { IfErr result (λ read_error. IsTextFaultIn doubles text.now read_error) }
 {
-    let ascending = normalize_faultless(alloc, doubles, text)?;
-    let normalized = normalize_by(alloc, order, text, ascending)?;
-    match read_once(alloc, doubles, order, normalized.as_str()) {
+    let ascending_text = normalize_faultless(alloc, doubles, text)?;
+    let normalized = normalize_by_key_order(alloc, key_order, text, ascending_text)?;
+    match read_once(alloc, doubles, key_order, normalized.as_str()) {
         Ok(value) => Ok(value),
         // Only memory: the text has no fault, and no key twice.
         Err(_) => Err(TextError::OutOfMemory),
@@ -46,47 +46,50 @@ pub(crate) fn read_again(
 
 // The text by ascending keys of a text that has a meaning.
 fn normalize_faultless(alloc: Global, doubles: Doubles, text: &str) -> Result<String, TextError>
-    ensures ok { IfOk result (λ ascending. IsNormalizedText normalized.Ascending text.now (string_bytes ascending)) }
-    ensures fault { IfErr result (λ e. IsTextFaultIn doubles text.now e) }
+    ensures ok { IfOk result
+        (λ ascending_text. IsNormalizedText normalized.Ascending text.now (string_bytes ascending_text)) }
+    ensures fault { IfErr result (λ read_error. IsTextFaultIn doubles text.now read_error) }
 {
-    let ascending = match normalize_text(alloc, Arrangement::Ascending, text) {
-        Ok(ascending) => ascending,
-        Err(error) => return Err(no_tree(error)),
+    let ascending_text = match normalize_text(alloc, Arrangement::Ascending, text) {
+        Ok(ascending_text) => ascending_text,
+        Err(error) => return Err(error_of_tree(error)),
     };
-    match first_fault_of_normalized(alloc, doubles, ascending.as_str()) {
-        Ok(None) => Ok(ascending),
+    match first_fault_of_normalized(alloc, doubles, ascending_text.as_str()) {
+        Ok(None) => Ok(ascending_text),
         Ok(Some(place)) => Err(TextError::NotExtendedJson(place)),
         Err(AllocError) => Err(TextError::OutOfMemory),
     }
 }
 
 // The text of the same tree in which each key occurs once, with its last value, in the order.
-fn normalize_by(
+fn normalize_by_key_order(
     alloc: Global,
-    order: KeyOrder,
+    key_order: KeyOrder,
     text: &str,
-    ascending: String,
+    ascending_text: String,
 ) -> Result<String, TextError>
-    requires { IsNormalizedText normalized.Ascending text.now (string_bytes ascending) }
-    ensures same { (doubles : Doubles) (v : model.Value) → IfOk result
-        (λ written. HasTextMeaningBy order doubles (string_bytes written) v → HasTextMeaningBy order doubles text.now v) }
-    ensures fault { (doubles : Doubles) → IfErr result (λ e. IsTextFaultIn doubles text.now e) }
+    requires { IsNormalizedText normalized.Ascending text.now (string_bytes ascending_text) }
+    ensures keeps_meaning { (doubles : Doubles) (parsed : model.Value) → IfOk result
+        (λ written. HasTextMeaningInKeyOrder key_order doubles (string_bytes written) parsed
+        → HasTextMeaningInKeyOrder key_order doubles text.now parsed) }
+    ensures fault { (doubles : Doubles) → IfErr result (λ read_error. IsTextFaultIn doubles text.now read_error) }
 {
-    match order {
-        KeyOrder::Ascending => Ok(ascending),
+    match key_order {
+        KeyOrder::Ascending => Ok(ascending_text),
         KeyOrder::AsGiven => {
-            drop(ascending);
+            drop(ascending_text);
             match normalize_text(alloc, Arrangement::FirstPositions, text) {
                 Ok(normalized) => Ok(normalized),
-                Err(error) => Err(no_tree(error)),
+                Err(error) => Err(error_of_tree(error)),
             }
         }
     }
 }
 
 // The error for a text of which no tree was read.
-fn no_tree(error: Error) -> TextError
-    ensures { (doubles : Doubles) (text : List ℕ) → InvalidIfNotRead (tree_of text) error → IsTextFaultIn doubles text result }
+fn error_of_tree(error: Error) -> TextError
+    ensures { (doubles : Doubles) (text : List ℕ) → NothingReadIfInvalid (tree_of text) error
+        → IsTextFaultIn doubles text result }
 {
     match error {
         Error::Invalid => TextError::NotJson,

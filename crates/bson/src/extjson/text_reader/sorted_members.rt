@@ -14,36 +14,37 @@ use std::cmp::Ordering;
 
 // Returns the position of the key, or the position where it would be inserted. The search goes from the end, since
 // most keys ascend.
-fn find_from_end(found: &Vec<Pair<Bson>>, key: &str) -> Result<usize, usize>
-    requires { KeysAscend (pairs_of_members found.now.items) }
-    ensures { MatchResult result (λ at. IsKeyAt key.now found.now.items at) (λ at. IsInsertionPoint key.now found.now.items at) }
+fn find_from_end(unique_members: &Vec<Pair<Bson>>, key: &str) -> Result<usize, usize>
+    requires { KeysAscend (pairs_of_members unique_members.now.items) }
+    ensures { MatchResult result (λ member_index. IsKeyAt key.now unique_members.now.items member_index)
+        (λ member_index. IsInsertionPoint key.now unique_members.now.items member_index) }
 {
-    let mut at = found.len();
-    'walk: while at > 0 {
-        match key.cmp(found[at - 1].key.as_str()) {
-            Ordering::Less => at -= 1,
-            Ordering::Equal => return Ok(at - 1),
-            Ordering::Greater => return Err(at),
+    let mut member_index = unique_members.len();
+    'walk: while member_index > 0 {
+        match key.cmp(unique_members[member_index - 1].key.as_str()) {
+            Ordering::Less => member_index -= 1,
+            Ordering::Equal => return Ok(member_index - 1),
+            Ordering::Greater => return Err(member_index),
         }
     }
     Err(0)
 }
 
-// Inserts the value at the key, or replaces the value there.
+// Inserts the value under the key, or replaces the value there.
 fn insert_or_replace(
     members: &mut Vec<Pair<Bson>>,
     position: Result<usize, usize>,
     key: String,
     value: Bson,
 ) -> Result<(), AllocError>
-    requires { MatchResult position (λ at. IsKeyAt (string_bytes key) members.old.items at)
-        (λ at. IsInsertionPoint (string_bytes key) members.old.items at) }
+    requires { MatchResult position (λ member_index. IsKeyAt (string_bytes key) members.old.items member_index)
+        (λ member_index. IsInsertionPoint (string_bytes key) members.old.items member_index) }
     ensures { OnOk result (pairs_of_members members.new.items
         ≡ insert_sorted_pair (string_bytes key) (bson_view value) (pairs_of_members members.old.items)) }
 {
     match position {
-        Ok(at) => members[at] = Pair { key, value },
-        Err(at) => members.insert(at, Pair { key, value })?,
+        Ok(member_index) => members[member_index] = Pair { key, value },
+        Err(member_index) => members.insert(member_index, Pair { key, value })?,
     }
     Ok(())
 }
@@ -78,8 +79,8 @@ pub(crate) fn document_of_members(
 fn document_of_few(alloc: Global, members: Vec<Pair<Bson>>) -> Result<Document, AllocError>
     ensures { IfOk result (λ document. document_view document ≡ insert_members members.items no_pairs) }
 {
-    let found = last_of_each_key(alloc, members)?;
-    Ok(document_of_ascending(found))
+    let unique_members = last_of_each_key(alloc, members)?;
+    Ok(document_of_ascending(unique_members))
 }
 
 // The first bytes distinguish almost all of the keys.
@@ -111,18 +112,19 @@ fn sort_by_prefix(members: &mut Vec<Pair<Bson>>) -> Result<(), AllocError>
 fn sort_by_key(members: &mut Vec<Pair<Bson>>) -> Result<(), AllocError>
     ensures { OnOk result (IsStableSort members.old.items members.new.items) }
 {
-    members.sort_by(|one, other| one.key.cmp(&other.key))?;
+    members.sort_by(|first_member, second_member| first_member.key.cmp(&second_member.key))?;
     Ok(())
 }
 
 // The last member of each key, by ascending key. It is fast if the keys do not descend.
 fn last_of_each_key(alloc: Global, members: Vec<Pair<Bson>>) -> Result<Vec<Pair<Bson>>, AllocError>
-    ensures { IfOk result (λ found. pairs_of_members found.items ≡ insert_members members.items no_pairs) }
+    ensures { IfOk result
+        (λ unique_members. pairs_of_members unique_members.items ≡ insert_members members.items no_pairs) }
 {
-    let mut found = Vec::with_capacity(alloc, members.len())?;
+    let mut unique_members = Vec::with_capacity(alloc, members.len())?;
     'members: for Pair { key, value } in members {
-        let position = find_from_end(&found, key.as_str());
-        insert_or_replace(&mut found, position, key, value)?;
+        let position = find_from_end(&unique_members, key.as_str());
+        insert_or_replace(&mut unique_members, position, key, value)?;
     }
-    Ok(found)
+    Ok(unique_members)
 }

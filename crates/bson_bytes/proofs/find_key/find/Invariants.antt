@@ -5,9 +5,9 @@ use Rattle.bson_bytes.proofs.find_key.find.Given as goal
 
 abbrev pub invariant-elements : goal.invariant-elements
 invariant-elements l = record {
-  finds : FindsIn l.bytes l.key (option_map (λ i. drop i l.bytes) l.found) (drop l.at l.bytes);
-  in_bounds : IfSome l.found (λ i. i ≤ length l.bytes);
+  finds : FindsIn l.bytes l.key (option_map (λ i. drop i l.bytes) l.found_position) (drop l.position l.bytes);
+  in_bounds : IfSome l.found_position (λ i. i ≤ length l.bytes);
 }
 
 abbrev pub decreases-elements : goal.decreases-elements
-decreases-elements l = length l.bytes - l.at
+decreases-elements l = length l.bytes - l.position

@@ -5,9 +5,9 @@ use Rattle.bson_bytes.proofs.raw_element.document_bytes.Goals as goal
 
 pub returns-in_default : goal.returns-in_default
 returns-in_default c =
-    λ d ps h. sized_there d c.args.bytes.now ps h (none_next c.skip_sized.result _ c.skip_sized.ensures.outcome c.in_default.is)
+    λ d ps h. sized_there d c.args.bytes.now ps h (none_next c.skip_length_prefixed.result _ c.skip_length_prefixed.ensures.outcome c.in_default.is)
 
 pub returns : goal.returns
 returns c =
     λ d ps h. alone d c.args.bytes.now c.in-Some.rest.now ps (λ i. omega (arith, c.type_inv.bytes i)) h
-    (some_next c.skip_sized.result _ c.in-Some.rest c.skip_sized.ensures.outcome c.in-Some.is)
+    (some_next c.skip_length_prefixed.result _ c.in-Some.rest c.skip_length_prefixed.ensures.outcome c.in-Some.is)

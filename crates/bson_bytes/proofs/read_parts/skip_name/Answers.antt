@@ -8,13 +8,13 @@ use Rattle.bson_bytes.proofs.read_parts.skip_name.Goals as goal
 pub returns-then-byte-eq0-clause-outcome : goal.returns-then-byte-eq0-clause-outcome
 returns-then-byte-eq0-clause-outcome c =
     let bytes = c.args.bytes.now in
-    let i = c.loop-i.i in
-    let name = take i bytes in
-    passed_name bytes name _ (zero_here bytes i _ c.loop-i-test.true c.if-byte-eq0.true c.loop-i.invariant.0)
-    (is_utf8-from_IsUtf8 name (IsUtf8-from_ascii name c.loop-i.invariant.1))
-    ∙ ap (λ rest. Ok rest) (sym (between_to_end bytes (i + 1) (length bytes) (omega arith)))
+    let index = c.loop-index.index in
+    let name = take index bytes in
+    passed_name bytes name _ (zero_here bytes index _ c.loop-index-test.true c.if-byte-eq0.true c.loop-index.invariant.0)
+    (is_utf8-from_IsUtf8 name (IsUtf8-from_ascii name c.loop-index.invariant.1))
+    ∙ ap (λ rest. Ok rest) (sym (between_to_end bytes (index + 1) (length bytes) (omega arith)))
 
 pub returns-clause-outcome : goal.returns-clause-outcome
 returns-clause-outcome c =
     rw c.fault_at.ensures (passed_short c.args.bytes.now
-    (no_zero c.args.bytes.now c.loop-i.i _ (omega (arith, c.loop-i-test.false)) c.loop-i.invariant.0))
+    (no_zero c.args.bytes.now c.loop-index.index _ (omega (arith, c.loop-index-test.false)) c.loop-index.invariant.0))

@@ -4,6 +4,6 @@ use Rattle.bson_bytes.specs.Reading.{split_at_nul}
 use Rattle.bson_bytes.proofs.Splits.{before}
 use Rattle.bson_bytes.proofs.read_parts.skip_name.Given as goal
 
-abbrev pub invariant-loop-i : goal.invariant-loop-i
-invariant-loop-i l =
-    (before (take l.i l.bytes) (split_at_nul (drop l.i l.bytes)) ≡ split_at_nul l.bytes) × IsAscii (take l.i l.bytes)
+abbrev pub invariant-loop-index : goal.invariant-loop-index
+invariant-loop-index l =
+    (before (take l.index l.bytes) (split_at_nul (drop l.index l.bytes)) ≡ split_at_nul l.bytes) × IsAscii (take l.index l.bytes)

@@ -14,8 +14,8 @@ decreases-read_first_document g l = 5 * l.depth + 1
 abbrev pub decreases-read_array : goal.decreases-read_array
 decreases-read_array g l = 5 * l.depth + 2
 
-abbrev pub decreases-read_embedded : goal.decreases-read_embedded
-decreases-read_embedded g l = 5 * l.depth + 2
+abbrev pub decreases-read_embedded_document : goal.decreases-read_embedded_document
+decreases-read_embedded_document g l = 5 * l.depth + 2
 
 abbrev pub decreases-read_code_with_scope : goal.decreases-read_code_with_scope
 decreases-read_code_with_scope g l = 5 * l.depth + 2
@@ -30,7 +30,7 @@ abbrev pub invariant-read_elements-elements : goal.invariant-read_elements-eleme
 invariant-read_elements-elements g l = (ps : Pairs)
     × ListLeft g.S.ValueSink.keys l.is_document l.depth ps l.rest (elements g.S.ValueSink.keys l.depth
     (earlier_keys g.S.ValueSink.keys l.is_document no_pairs) (length l.bytes) l.bytes)
-    × Given (g.S.ValueSink.list_opened l.is_document) ps l.initial.list l.initial.out l.list l.out
+    × Given (g.S.ValueSink.list_opened l.is_document) ps l.initial.open_list l.initial.value_sink l.open_list l.value_sink
     × (length l.rest ≤ length l.bytes)
 
 abbrev pub decreases-read_elements-elements : goal.decreases-read_elements-elements

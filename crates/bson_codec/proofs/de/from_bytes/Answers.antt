@@ -1,6 +1,6 @@
 use Rattle.std.proofs.Common.{◌≡◌, arith, sym, subst, ◌∙◌}
 use Rattle.bson_bytes.proofs.Offered.{grammar_from, is_read, fault_stands}
-use Rattle.bson_bytes.specs.ReadDocuments.{IsReadIn}
+use Rattle.bson_bytes.specs.ReadDocuments.{IsReadAsDocumentIn}
 use Rattle.bson_bytes.specs.Reading.{reads_bytes_in}
 use Rattle.bson_codec.proofs.Ends.{same_ok, memory_alone, stands, fault_of}
 use Rattle.bson_codec.proofs.de.from_bytes.Goals as goal
@@ -8,7 +8,7 @@ use Rattle.bson_codec.proofs.de.from_bytes.Goals as goal
 pub returns-in-Ok-clause-ok : goal.returns-in-Ok-clause-ok
 returns-in-Ok-clause-ok c =
     let x = c.in-Ok.ensures in
-    subst (IsReadIn c.args.options.duplicate_keys c.args.options.depth c.args.bytes.now) (sym x.2)
+    subst (IsReadAsDocumentIn c.args.options.duplicate_keys c.args.options.depth c.args.bytes.now) (sym x.2)
     (grammar_from c.args.options.duplicate_keys c.args.options.depth c.args.bytes.now x.0
     (λ i. omega (arith, c.type_inv.bytes i)) x.1)
 

@@ -20,14 +20,14 @@ loop-documents-preserved g c =
     let after = g.W.Write.contents c.write_or_skip.new.writer in
     let diagnostics_after = g.T.Write.contents c.loop-documents.report in
     let after_tells = g.T.Write.contents c.write_or_skip.new.report in
-    let given = subst (λ (b : List ℕ). IsLineOrSkip c.in-Ok.passed c.args.run number c.loop-documents.start b before after diagnostics_after after_tells)
+    let given = subst (λ (b : List ℕ). IsLineOrSkip c.in-Ok.newly_skipped c.args.run number c.loop-documents.start b before after diagnostics_after after_tells)
     c.as_slice-bytes.ensures.value c.in-Ok.ensures.ok in (
-      omega (arith, c.loop-documents.invariant.0, one_at_most c.in-Ok.passed c.args.run number c.loop-documents.start bytes before after diagnostics_after after_tells given),
+      omega (arith, c.loop-documents.invariant.0, one_at_most c.in-Ok.newly_skipped c.args.run number c.loop-documents.start bytes before after diagnostics_after after_tells given),
       run_goes_on c.args.run (g.R.Read.remaining c.args.reader.now)
           (g.R.Read.remaining c.loop-documents.reader) (g.R.Read.remaining c.read_document_bytes.new.reader)
           (g.W.Write.contents c.args.writer.now) before after (g.T.Write.contents c.args.report.now) diagnostics_after after_tells
           c.loop-documents.documents c.loop-documents.refused
-          c.loop-documents.start c.in-Ok.passed c.in-Some.following bytes c.loop-documents.invariant.1
+          c.loop-documents.start c.in-Ok.newly_skipped c.in-Some.next_start bytes c.loop-documents.invariant.1
           c.in_default.ensures.bytes_read given
           (omega (arith, c.in-Some.ensures, c.len.ensures, c.read_document_bytes.new.bytes.ok)),
     )
@@ -38,8 +38,8 @@ returns-in-Err-clause-fails g c =
     (g.R.Read.remaining c.read_document_bytes.new.reader) (g.W.Write.contents c.args.writer.now)
     (g.W.Write.contents c.loop-documents.writer) (g.T.Write.contents c.args.report.now)
     (g.T.Write.contents c.loop-documents.report) c.loop-documents.documents c.loop-documents.refused
-    c.loop-documents.start (c.loop-documents.documents + 1) c.fault_of_reader-fault.result c.read_document_bytes.ensures.some.0
-    c.loop-documents.invariant.1 c.read_document_bytes.ensures.some.1 refl c.fault_of_reader-fault.ensures
+    c.loop-documents.start (c.loop-documents.documents + 1) c.fault_of_reader-fault.result c.read_document_bytes.ensures.bytes_consumed.0
+    c.loop-documents.invariant.1 c.read_document_bytes.ensures.bytes_consumed.1 refl c.fault_of_reader-fault.ensures
 
 pub returns-in-Err-clause-justified : goal.returns-in-Err-clause-justified
 returns-in-Err-clause-justified g c =

@@ -10,9 +10,9 @@ pub returns-in_default-clause-fault : goal.returns-in_default-clause-fault
 returns-in_default-clause-fault g c =
     let output_before = g.W.Write.contents c.args.writer.now in
     let output_after = g.W.Write.contents c.write_whole.new.writer in
-    cut_line c.args.run c.args.number c.args.start c.args.bytes.now c.in-Ok.line.items output_before output_after
+    cut_line c.args.run c.args.document_number c.args.document_offset c.args.bytes.now c.in-Ok.line.items output_before output_after
     (g.T.Write.contents c.args.report.now) c.in-Ok.ensures.ok
-    (subst (WritesPrefix output_before output_after) c.as_slice.ensures.value c.in_default.ensures.cut)
+    (subst (WritesPrefix output_before output_after) c.as_slice.ensures.value c.in_default.ensures.prefix_written)
 
 pub returns-then-may_skip-clause-fault : goal.returns-then-may_skip-clause-fault
 returns-then-may_skip-clause-fault g c =
@@ -22,19 +22,19 @@ returns-then-may_skip-clause-fault g c =
     let bytes = c.args.bytes.now in
     elim c.match-report_skipped.branch [
       | in-Ok-report_skipped w ↦ subst
-          (λ (r : Result ℕ RunFault). IfErr r (λ e. IsRunEnd e c.args.run c.args.number c.args.start bytes output_before output_before diagnostics_before diagnostics_after))
+          (λ (r : Result ℕ RunFault). IfErr r (λ e. IsRunEnd e c.args.run c.args.document_number c.args.document_offset bytes output_before output_before diagnostics_before diagnostics_after))
           (sym w.result-is) tt
       | in-Err-report_skipped w ↦ subst
-          (λ (r : Result ℕ RunFault). IfErr r (λ e. IsRunEnd e c.args.run c.args.number c.args.start bytes output_before output_before diagnostics_before diagnostics_after))
+          (λ (r : Result ℕ RunFault). IfErr r (λ e. IsRunEnd e c.args.run c.args.document_number c.args.document_offset bytes output_before output_before diagnostics_before diagnostics_after))
           (sym w.result-is)
-          (untold w.in-Err-report_skipped.error c.args.run c.args.number c.args.start bytes c.in-Err.fault output_before diagnostics_before diagnostics_after
+          (untold w.in-Err-report_skipped.error c.args.run c.args.document_number c.args.document_offset bytes c.in-Err.fault output_before diagnostics_before diagnostics_after
           (bad_bytes c.in-Err.fault c.args.run bytes (c.if-may_skip.ensures.0 refl).0 c.in-Err.ensures.fault)
           (c.if-run.true, (c.if-may_skip.ensures.0 refl).1) w.in-Err-report_skipped.ensures.fault)
     ]
 
 pub returns-else-run-clause-fault : goal.returns-else-run-clause-fault
 returns-else-run-clause-fault g c =
-    judged_ends c.in-Err.fault c.args.run c.args.number c.args.start c.args.bytes.now
+    judged_ends c.in-Err.fault c.args.run c.args.document_number c.args.document_offset c.args.bytes.now
     (g.W.Write.contents c.args.writer.now) (g.T.Write.contents c.args.report.now) c.in-Err.ensures.fault
     (λ is over. elim c.else-run.branch [
       | else-run-via-then-run+else-may_skip w ↦

@@ -1,8 +1,8 @@
 use Rattle.bson_codec.proofs.OneDump.{either_end, one_end}
 use Rattle.bson_codec.proofs.laws.one_end.Goals as goal
 
-pub returns-clause-end : goal.returns-clause-end
-returns-clause-end c = one_end
+pub returns-clause-same_end : goal.returns-clause-same_end
+returns-clause-same_end c = one_end
 
-pub returns-clause-either : goal.returns-clause-either
-returns-clause-either c = either_end
+pub returns-clause-never_both : goal.returns-clause-never_both
+returns-clause-never_both c = either_end

@@ -11,4 +11,4 @@ returns c =
     let normalized = c.as_str.result.now in
     let same : normalized ≡ string_bytes c.in_ok-normalized.normalized = grind arith in
     let is = subst (λ s. IsNormalizedText FirstPositions text s) (sym same) c.in_ok-normalized.ensures.ok in
-    record { ok = packed_alike c.args.doubles text normalized c.write_packed.result is c.write_packed.ensures.ok }
+    record { ok = packed_alike c.args.doubles text normalized c.try_pack.result is c.try_pack.ensures.ok }

@@ -33,4 +33,4 @@ returns-clause-fault c =
     absurd cc in
     subst (λ column. IsUncanonicalAt c.args.options column bytes) (sym (add-one n))
     (uncanonical c.args.options n bytes text c.in_ok-text.ensures.ok (c.common_len.ensures.common ∙ ap (take n) is)
-    (subst (λ t. take (suc n) bytes ≢ take (suc n) t) is (c.common_len.ensures.most other)))
+    (subst (λ t. take (suc n) bytes ≢ take (suc n) t) is (c.common_len.ensures.maximal other)))

@@ -1,5 +1,5 @@
 use Rattle.std.proofs.Common.{◌≡◌, take}
 use Rattle.bson_convert.proofs.canonical.common_len.Given as goal
 
-abbrev pub invariant-loop-at : goal.invariant-loop-at
-invariant-loop-at l = take l.at l.one ≡ take l.at l.other
+abbrev pub invariant-loop-byte_index : goal.invariant-loop-byte_index
+invariant-loop-byte_index l = take l.byte_index l.left_text ≡ take l.byte_index l.right_text

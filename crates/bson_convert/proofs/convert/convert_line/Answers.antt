@@ -18,8 +18,8 @@ returns-clause-again c =
     kept_ok o mode bytes text c.end_line.result c.in_ok-text.ensures.ok c.in_ok-text.ensures.utf8 c.end_line.ensures.ok
     c.end_line.ensures.utf8
 
-pub returns-clause-one : goal.returns-clause-one
-returns-clause-one c =
+pub returns-clause-unique : goal.returns-clause-unique
+returns-clause-unique c =
     let o = c.args.options in
     let mode = c.args.mode in
     let bytes = c.args.bytes.now in

@@ -5,12 +5,12 @@ use Rattle.std.proofs.lemmas.List.{take_rest, places}
 use Rattle.std.proofs.Math.Seq.{take-add}
 use Rattle.bson_convert.proofs.stream.write_whole.Goals as goal
 
-pub loop-at-preserved : goal.loop-at-preserved
-loop-at-preserved g c =
+pub loop-written_count-preserved : goal.loop-written_count-preserved
+loop-written_count-preserved g c =
     let bytes = c.args.bytes.now in
-    let at = c.loop-at.at in
+    let written_count = c.loop-written_count.written_count in
     let n = c.in-Ok.count in (
       search (rules, places),
-      subst (Appends _ _) (ap (λ l. take at bytes ++ take n l) (take_rest bytes at) ∙ sym (take-add at n bytes))
-          (Appends-trans _ _ _ _ _ c.loop-at.invariant.1 c.in-Ok.ensures.bytes),
+      subst (Appends _ _) (ap (λ l. take written_count bytes ++ take n l) (take_rest bytes written_count) ∙ sym (take-add written_count n bytes))
+          (Appends-trans _ _ _ _ _ c.loop-written_count.invariant.1 c.in-Ok.ensures.bytes),
     )

@@ -2,10 +2,10 @@ use Rattle.std.proofs.Common.{◌≡◌, ◌+◌, ◌^◌, ◌<◌, ◌++◌, le
 use Rattle.std.specs.Fmt.{decimal}
 use Rattle.bson_decimal.proofs.display.write_digits.Given as goal
 
-abbrev pub invariant-loop-left : goal.invariant-loop-left
-invariant-loop-left l =
-    (l.at < 34) × (length l.buffer ≡ 34) × (l.left < 10 ^ (l.at + 1))
-    × (decimal l.left ++ drop (l.at + 1) l.buffer ≡ decimal l.coefficient)
+abbrev pub invariant-loop-remaining_coefficient : goal.invariant-loop-remaining_coefficient
+invariant-loop-remaining_coefficient l =
+    (l.digit_index < 34) × (length l.buffer ≡ 34) × (l.remaining_coefficient < 10 ^ (l.digit_index + 1))
+    × (decimal l.remaining_coefficient ++ drop (l.digit_index + 1) l.buffer ≡ decimal l.coefficient)
 
-abbrev pub decreases-loop-left : goal.decreases-loop-left
-decreases-loop-left l = l.left
+abbrev pub decreases-loop-remaining_coefficient : goal.decreases-loop-remaining_coefficient
+decreases-loop-remaining_coefficient l = l.remaining_coefficient

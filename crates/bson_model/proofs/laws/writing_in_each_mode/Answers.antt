@@ -4,7 +4,7 @@ use Rattle.bson_model.proofs.laws.writing_in_each_mode.Goals as goal
 
 pub returns : goal.returns
 returns c = record {
-  tree = has_tree;
-  is = grammar_tree;
-  back = comes_back;
+  tree_exists = has_tree;
+  is_tree_of_value = grammar_tree;
+  round_trips = comes_back;
 }

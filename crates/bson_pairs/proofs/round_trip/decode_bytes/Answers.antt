@@ -1,7 +1,7 @@
 use Rattle.std.proofs.Common.{◌≡◌, ◌∙◌, ap, subst, string_bytes}
 use Rattle.bson.specs.Doubles.TheVariants.{Finite}
 use Rattle.bson.specs.Form.TheVariants.{Canonical}
-use Rattle.bson.specs.Texts.{IsTextBy, IsTextInOrder}
+use Rattle.bson.specs.Texts.{IsTextInKeyOrder, IsTextInOrder}
 use Rattle.bson.specs.Value.{document}
 use Rattle.bson.specs.View.{bson_view}
 use Rattle.bson.specs.declared.bson.Bson.TheVariants.{Document as held}
@@ -18,5 +18,5 @@ returns-in-Ok-into_text-clause-ok c = λ ps read.
     let text = string_bytes c.in-Ok-into_text.text in
     let is : bson_view (held d) ≡ document ps = document_seen d ∙ ap document (c.in-Ok.ensures.only ps read).0 in
     subst (λ v. IsTextInOrder Finite Canonical v text) is
-    (subst (λ (o : Options). IsTextBy o.key_order o.doubles Canonical (bson_view (held d)) text) c.options.ensures
+    (subst (λ (o : Options). IsTextInKeyOrder o.key_order o.doubles Canonical (bson_view (held d)) text) c.options.ensures
     c.in-Ok-into_text.ensures.text)

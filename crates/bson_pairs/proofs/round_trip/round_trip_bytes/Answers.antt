@@ -3,7 +3,7 @@ use Rattle.std.proofs.lemmas.Result.{err_from_is_err_and}
 use Rattle.std.proofs.lemmas.Str.{IsUtf8-string_bytes}
 use Rattle.bson.specs.Doubles.TheVariants.{Finite}
 use Rattle.bson.specs.Form.TheVariants.{Canonical}
-use Rattle.bson.specs.TextMeaning.{TextMeansBy}
+use Rattle.bson.specs.TextMeaning.{TextMeansInKeyOrder}
 use Rattle.bson.specs.declared.extjson.options.Options.{Options}
 use Rattle.bson.specs.Texts.{IsTextInOrder}
 use Rattle.bson.specs.Value.{document}
@@ -34,5 +34,5 @@ returns-clause-only c = λ ps canonical back.
     (c.in_ok-text.ensures.ok ps canonical.read) in
     let utf8 : IsUtf8 text = subst IsUtf8 (sym c.as_bytes.ensures.value) (IsUtf8-string_bytes c.in_ok-text.text) in
     c.in-Err.ensures.accepts ps
-    (subst (λ (o : Options). TextMeansBy o.key_order o.doubles text (document ps)) (sym c.options.ensures)
+    (subst (λ (o : Options). TextMeansInKeyOrder o.key_order o.doubles text (document ps)) (sym c.options.ensures)
     (is.tree, utf8, read_again ps text is back, means_again ps text is back)) canonical.fits

@@ -4,7 +4,7 @@ use Rattle.bson.specs.Doubles.TheVariants.{Finite}
 use Rattle.bson.specs.Form.TheVariants.{Canonical}
 use Rattle.bson.specs.Texts.{IsTextInOrder}
 use Rattle.bson.specs.Value.{document}
-use Rattle.bson_codec.specs.ReadDocuments.{IsRead}
+use Rattle.bson_codec.specs.ReadDocuments.{IsReadAsDocument}
 use Rattle.bson.specs.Options.{mongodb_options}
 use Rattle.bson.specs.declared.extjson.key_order.KeyOrder.TheVariants.{AsGiven}
 use Rattle.bson.specs.declared.extjson.options.Options.{Options}
@@ -23,4 +23,4 @@ returns-clause-same c = λ ps is back nests.
     IfOk-weaker c.decode_bytes.result (λ round_trip. IsTextInOrder Finite Canonical (document ps) (string_bytes round_trip))
     (λ round_trip. string_bytes round_trip ≡ text)
     (λ round_trip it. text_one Finite Canonical (document ps) (string_bytes round_trip) text it is)
-    (c.decode_bytes.ensures.ok ps (subst (λ l. IsRead c.args.depth l ps) (sym c.as_slice.ensures.value) read))
+    (c.decode_bytes.ensures.ok ps (subst (λ l. IsReadAsDocument c.args.depth l ps) (sym c.as_slice.ensures.value) read))

@@ -7,6 +7,6 @@ use Rattle.bson_program.proofs.messages.escape_name.Goals as goal
 
 pub returns : goal.returns
 returns c =
-    let road = YieldsList-from_chars c.args.name.now c.utf8.name cc in
-    let end = YieldsList-end road c.loop-letter.yielded _ c.loop-letter.yielded_by _ _ c.in-None.is c.next.ensures.steps in
-    c.loop-letter.invariant ∙ ap (λ ys. flat_map printable ys) (sym (map-id c.loop-letter.yielded) ∙ end.0)
+    let road = YieldsList-from_chars c.args.unescaped.now c.utf8.unescaped cc in
+    let end = YieldsList-end road c.loop-character.yielded _ c.loop-character.yielded_by _ _ c.in-None.is c.next.ensures.steps in
+    c.loop-character.invariant ∙ ap (λ ys. flat_map printable ys) (sym (map-id c.loop-character.yielded) ∙ end.0)

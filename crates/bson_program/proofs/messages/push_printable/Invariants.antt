@@ -3,6 +3,6 @@ use Rattle.std.specs.Char.Escape.{escape_default}
 use Rattle.std.specs.Char.Iter.{escape_rest}
 use Rattle.bson_program.proofs.messages.push_printable.Given as goal
 
-abbrev pub invariant-loop-part : goal.invariant-loop-part
-invariant-loop-part l = string_bytes l.text ++ encode_utf8_all (escape_rest l.part-iterator)
-    ≡ string_bytes l.initial.text ++ encode_utf8_all (escape_default l.fn.letter)
+abbrev pub invariant-loop-escaped_char : goal.invariant-loop-escaped_char
+invariant-loop-escaped_char l = string_bytes l.text ++ encode_utf8_all (escape_rest l.escaped_char-iterator)
+    ≡ string_bytes l.initial.text ++ encode_utf8_all (escape_default l.fn.character)

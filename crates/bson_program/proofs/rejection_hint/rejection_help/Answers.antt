@@ -6,13 +6,13 @@ pub returns-in-Ok-hint_line : goal.returns-in-Ok-hint_line
 returns-in-Ok-hint_line c = (
   record {
     input = c.args.invocation.now.input;
-    encodes = c.writes_bytes.result;
-    is_standard = c.eq.result;
+    writes_bson_bytes = c.writes_bson_bytes.result;
+    is_standard_stream = c.eq.result;
     advice = c.args.advice;
   },
   c.in_ok-hint.hint,
   refl,
   refl,
   sym c.in_ok-hint.ensures,
-  c.in-Ok-hint_line.ensures ∙ ap (hint_line c.args.name.now c.in_ok-hint.hint) (c.as_str.ensures.value ∙ c.in-Ok.ensures),
+  c.in-Ok-hint_line.ensures ∙ ap (hint_line c.args.file_name.now c.in_ok-hint.hint) (c.as_str.ensures.value ∙ c.in-Ok.ensures),
 )

@@ -6,8 +6,8 @@ returns-in-Ok-clause-done g c =
     on_ok c.write_accepted.result _ _
     (λ w. record {
       output = w.output;
-      has = record {
-        gives = c.in-Ok.ensures.ok.given w.output w.outputs;
+      text_output = record {
+        writes_output = c.in-Ok.ensures.ok.each_output w.output w.outputs;
         utf8 = λ t. w.utf8 (c.in-Ok.ensures.utf8 t);
       };
       written = w.written;

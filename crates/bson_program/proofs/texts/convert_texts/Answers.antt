@@ -1,49 +1,49 @@
 use Rattle.std.proofs.Common.{subst, sym}
-use Rattle.bson_program.specs.Texts.{TextStops}
+use Rattle.bson_program.specs.Texts.{FailsAtText}
 use Rattle.bson_program.specs.SingleText.{IsTextRejected}
 use Rattle.bson_program.proofs.Sequences.{accepted_stops, content_read, if_err, on_ok, one_text_done, reads_and_stops, stops_whole}
 use Rattle.bson_program.proofs.texts.convert_texts.Goals as goal
 
-pub returns-in-Err-accept-clause-stops : goal.returns-in-Err-accept-clause-stops
-returns-in-Err-accept-clause-stops g c =
+pub returns-in-Err-accept_single_text-clause-stops : goal.returns-in-Err-accept_single_text-clause-stops
+returns-in-Err-accept_single_text-clause-stops g c =
     let invocation = c.args.invocation.now in
-    let name = c.args.name.now in
+    let file_name = c.args.file_name.now in
     let content = c.content_of-content.result.now in
     let output_before = g.W.Write.contents c.args.writer.now in
-    let stop = c.stop_at.result in
+    let stop = c.text_failure.result in
     let input_text = c.whole.result in
-    reads_and_stops invocation stop name content c.in-Ok.bytes.items (g.R.Read.remaining c.args.reader.now)
+    reads_and_stops invocation stop file_name content c.in-Ok.bytes.items (g.R.Read.remaining c.args.reader.now)
     (g.R.Read.remaining c.read_whole.new.reader) output_before output_before c.in-Ok.ensures.all
-    (content_read invocation name c.content_of-content.result.now c.deref.result.now c.in-Ok.bytes.items
+    (content_read invocation file_name c.content_of-content.result.now c.deref.result.now c.in-Ok.bytes.items
     c.content_of-content.ensures c.deref.ensures.value)
-    (stops_whole invocation stop name content output_before output_before (λ is. c.has_several.ensures.one c.if-has_several.false (c.stop_at.ensures.same is))
-    (subst (λ t. TextStops invocation stop name content 0 t output_before output_before) c.whole.ensures.text
-    (subst (λ n. TextStops invocation stop name content n input_text.text.now output_before output_before) c.whole.ensures.start
-    (subst (λ t. TextStops invocation stop name t input_text.start input_text.text.now output_before output_before) c.whole.ensures.content
-    (c.stop_at.ensures.stops output_before (subst (IsTextRejected invocation.options invocation.task c.in-Err-accept.fault) (sym c.whole.ensures.text)
-    c.in-Err-accept.ensures.fault))))))
+    (stops_whole invocation stop file_name content output_before output_before (λ is. c.is_read_as_sequence.ensures.not_sequence c.if-is_read_as_sequence.false (c.text_failure.ensures.not_json is))
+    (subst (λ t. FailsAtText invocation stop file_name content 0 t output_before output_before) c.whole.ensures.text
+    (subst (λ n. FailsAtText invocation stop file_name content n input_text.text.now output_before output_before) c.whole.ensures.start
+    (subst (λ t. FailsAtText invocation stop file_name t input_text.start input_text.text.now output_before output_before) c.whole.ensures.content
+    (c.text_failure.ensures.stops output_before (subst (IsTextRejected invocation.options invocation.task c.in-Err-accept_single_text.fault) (sym c.whole.ensures.text)
+    c.in-Err-accept_single_text.ensures.fault))))))
 
 pub returns-clause-done : goal.returns-clause-done
 returns-clause-done g c =
     let invocation = c.args.invocation.now in
-    let name = c.args.name.now in
-    on_ok c.write_accepted.result _ _ (one_text_done invocation name c.content_of-content.result.now c.in-Ok-accept.accepted
-    (g.W.Write.contents c.args.writer.now) (g.W.Write.contents c.write_accepted.new.writer) c.in-Ok-accept.ensures.ok
-    c.in-Ok-accept.ensures.utf8 (g.R.Read.remaining c.args.reader.now) (g.R.Read.remaining c.read_whole.new.reader)
-    c.in-Ok.bytes.items c.in-Ok.ensures.all (content_read invocation name c.content_of-content.result.now c.deref.result.now c.in-Ok.bytes.items
+    let file_name = c.args.file_name.now in
+    on_ok c.write_accepted.result _ _ (one_text_done invocation file_name c.content_of-content.result.now c.in-Ok-accept_single_text.accepted
+    (g.W.Write.contents c.args.writer.now) (g.W.Write.contents c.write_accepted.new.writer) c.in-Ok-accept_single_text.ensures.ok
+    c.in-Ok-accept_single_text.ensures.utf8 (g.R.Read.remaining c.args.reader.now) (g.R.Read.remaining c.read_whole.new.reader)
+    c.in-Ok.bytes.items c.in-Ok.ensures.all (content_read invocation file_name c.content_of-content.result.now c.deref.result.now c.in-Ok.bytes.items
     c.content_of-content.ensures c.deref.ensures.value))
     c.write_accepted.ensures.done
 
 pub returns-clause-stops : goal.returns-clause-stops
 returns-clause-stops g c =
     let invocation = c.args.invocation.now in
-    let name = c.args.name.now in
+    let file_name = c.args.file_name.now in
     let content = c.content_of-content.result.now in
     let output_before = g.W.Write.contents c.args.writer.now in
     let output_after = g.W.Write.contents c.write_accepted.new.writer in
-    if_err c.write_accepted.result _ _ (λ stop h. reads_and_stops invocation stop name content c.in-Ok.bytes.items
+    if_err c.write_accepted.result _ _ (λ stop h. reads_and_stops invocation stop file_name content c.in-Ok.bytes.items
     (g.R.Read.remaining c.args.reader.now) (g.R.Read.remaining c.read_whole.new.reader) output_before output_after c.in-Ok.ensures.all
-    (content_read invocation name c.content_of-content.result.now c.deref.result.now c.in-Ok.bytes.items
+    (content_read invocation file_name c.content_of-content.result.now c.deref.result.now c.in-Ok.bytes.items
     c.content_of-content.ensures c.deref.ensures.value)
-    (accepted_stops invocation name content c.in-Ok-accept.accepted output_before output_after c.in-Ok-accept.ensures.ok c.in-Ok-accept.ensures.utf8
+    (accepted_stops invocation file_name content c.in-Ok-accept_single_text.accepted output_before output_after c.in-Ok-accept_single_text.ensures.ok c.in-Ok-accept_single_text.ensures.utf8
     stop h)) c.write_accepted.ensures.stops

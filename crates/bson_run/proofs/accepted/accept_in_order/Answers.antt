@@ -16,8 +16,8 @@ returns-in_ok-normalized-in-None-clause-ok c =
     let valid : IsUtf8 normalized = IsUtf8-string_bytes c.in_ok-normalized-in-None.normalized in
     let whole : text ≡ bytes = grind arith in
     record {
-      sure = accepted_alike o normalized text valid (sym c.in_ok-normalized-in-None.ensures.same) c.in_ok-refuse-in-None.ensures.ok;
-      given = λ output is. subst (λ b. ConvertsInOrder o c.args.mode b output) whole
+      is_accepted = accepted_alike o normalized text valid (sym c.in_ok-normalized-in-None.ensures.same) c.in_ok-refuse-in-None.ensures.ok;
+      each_output = λ output is. subst (λ b. ConvertsInOrder o c.args.mode b output) whole
           (outputs_alike o c.args.mode text normalized output utf8 c.in_ok-normalized-in-None.ensures.ok
           (subst (λ k. ConvertsBy k o c.args.mode normalized output) c.requires is));
     }

@@ -27,7 +27,7 @@ returns-in-Normalized-clause-ok c =
     let normalized = string_bytes c.in-Normalized.text in
     let tried = subst (IsAttemptResult o mode bytes) c.in-Normalized.is c.in_ok-text.ensures.ok in
     record {
-      sure = tried.2;
-      given = λ output is. converts_alike o mode bytes normalized output tried.0 tried.1
+      is_accepted = tried.2;
+      each_output = λ output is. converts_alike o mode bytes normalized output tried.0 tried.1
           (subst (λ k. ConvertsBy k o mode normalized output) c.requires is);
     }

@@ -13,13 +13,13 @@ returns-in-Some c =
     let next : c.loop-token.reader ≡ bad ∷ rest = search rules in
     at_bad c.args.text.now c.utf8.text c.requires c.rule_at_invalid_token.result i.0 rest (i.1 ∙ ap (λ ts. i.0 ++ ts) next) c.rule_at_invalid_token.ensures
 
-pub returns-in-Some-pass : goal.returns-in-Some-pass
-returns-in-Some-pass c =
+pub returns-in-Some-pass_token : goal.returns-in-Some-pass_token
+returns-in-Some-pass_token c =
     let i = c.loop-token.invariant in
     let t = token_of c.in-Some.token in
     let rest = c.next.new.self in
     let next : c.loop-token.reader ≡ t ∷ rest = search rules in
-    at_token c.args.text.now c.utf8.text c.requires c.in-Some-pass.rule c.loop-token.open.depth t i.0 rest (i.1 ∙ ap (λ ts. i.0 ++ ts) next) i.2 c.in-Some-pass.ensures
+    at_token c.args.text.now c.utf8.text c.requires c.in-Some-pass_token.rule c.loop-token.open_brackets.depth t i.0 rest (i.1 ∙ ap (λ ts. i.0 ++ ts) next) i.2 c.in-Some-pass_token.ensures
 
 pub loop-token-preserved : goal.loop-token-preserved
 loop-token-preserved c =
@@ -29,5 +29,5 @@ loop-token-preserved c =
     let next : c.loop-token.reader ≡ t ∷ rest = search rules in (
       i.0 ++ t ∷ [],
       i.1 ∙ ap (λ ts. i.0 ++ ts) next ∙ sym (append_assoc i.0 (t ∷ []) rest),
-      omega (arith, i.2, c.in_default-pass.ensures, sum_by_push closes i.0 t, sum_by_push opens i.0 t),
+      omega (arith, i.2, c.in_default-pass_token.ensures, sum_by_push closes i.0 t, sum_by_push opens i.0 t),
     )

@@ -11,4 +11,4 @@ decreases-loop-token l = length l.reader
 abbrev pub invariant-loop-token : goal.invariant-loop-token
 invariant-loop-token l =
     (front : List Token) × (tokens l.fn.text ≡ front ++ l.reader)
-    × (l.open.depth + sum_by closes front ≡ sum_by opens front)
+    × (l.open_brackets.depth + sum_by closes front ≡ sum_by opens front)

@@ -19,9 +19,9 @@ returns c =
     let utf8 : IsUtf8 text = grind arith in
     let valid : IsUtf8 normalized = grind arith in
     record {
-      ok = if_ok c.text_of_distinct.result c.text_of_distinct.ensures.ok
-          (λ written x. converted_alike o c.args.mode text normalized written.items utf8 is x);
-      utf8 = c.text_of_distinct.ensures.utf8;
-      fault = if_err c.text_of_distinct.result c.text_of_distinct.ensures.fault
+      ok = if_ok c.convert_unique_keys.result c.convert_unique_keys.ensures.ok
+          (λ converted_text x. converted_alike o c.args.mode text normalized converted_text.items utf8 is x);
+      utf8 = c.convert_unique_keys.ensures.utf8;
+      fault = if_err c.convert_unique_keys.result c.convert_unique_keys.ensures.fault
           (λ f x. refused_alike o text normalized utf8 same f valid x);
     }

@@ -30,7 +30,7 @@ returns-in-Ok-clause-fault c =
 
 pub returns-in-Err-clause-accepts : goal.returns-in-Err-clause-accepts
 returns-in-Err-clause-accepts c = λ ps means fits.
-    c.error_of.ensures.memory (c.in-Err.ensures.accepts_by (document ps) means)
+    c.error_of.ensures.memory (c.in-Err.ensures.accepts_in_key_order (document ps) means)
 
 pub returns-in-Err-clause-fault : goal.returns-in-Err-clause-fault
 returns-in-Err-clause-fault c =

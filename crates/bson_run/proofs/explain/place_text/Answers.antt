@@ -11,7 +11,7 @@ returns-then-is_empty c =
     let path = string_bytes c.in_ok-path.path in
     let reason = c.args.reason.now in
     let diagnostics_before : path ≡ escaped_message (path_text (path_of c.args.place.now)) =
-    c.in_ok-path.ensures ∙ ap escaped_message (c.as_str.ensures.value ∙ c.in_ok-whole.ensures) in
+    c.in_ok-path.ensures ∙ ap escaped_message (c.as_str.ensures.value ∙ c.in_ok-full_path.ensures) in
     let none : length path ≡ 0 = grind (arith, common_steps) in
     let said : IfOk c.format.result (λ s. string_bytes s ≡ codes " (" ++ reason ++ codes ")") =
     simp append_assoc c.format.ensures.ok in
@@ -22,7 +22,7 @@ returns c =
     let path = string_bytes c.in_ok-path.path in
     let reason = c.args.reason.now in
     let diagnostics_before : path ≡ escaped_message (path_text (path_of c.args.place.now)) =
-    c.in_ok-path.ensures ∙ ap escaped_message (c.as_str.ensures.value ∙ c.in_ok-whole.ensures) in
+    c.in_ok-path.ensures ∙ ap escaped_message (c.as_str.ensures.value ∙ c.in_ok-full_path.ensures) in
     let some : 0 < length path = grind (arith, common_steps) in
     let said : IfOk c.format-2.result (λ s. string_bytes s ≡ codes " at " ++ path ++ codes " (" ++ reason ++ codes ")") =
     simp append_assoc c.format-2.ensures.ok in

@@ -12,7 +12,7 @@ returns-clause-ok c =
     let bytes = c.args.bytes.now in
     let text = string_bytes c.in_ok-text.text in
     let is = subst (λ mode. IsConvertedTextBy o.key_order o mode bytes text) c.mode_of.ensures c.in_ok-text.ensures.ok in
-    oks_with c.lay_out.result c.lay_out.ensures.ok (λ output indented_text.
+    oks_with c.indented_output.result c.indented_output.ensures.ok (λ output indented_text.
     indented o.key_order o c.args.form c.args.spaces bytes text is output.items
     (subst (λ s. IsIndentedOutput c.args.spaces s output.items) c.deref.ensures indented_text))
 
@@ -22,6 +22,6 @@ returns-clause-again c =
     let bytes = c.args.bytes.now in
     let text = string_bytes c.in_ok-text.text in
     let is = subst (λ mode. IsConvertedTextBy o.key_order o mode bytes text) c.mode_of.ensures c.in_ok-text.ensures.ok in
-    indented_kept o.key_order o c.args.form c.args.spaces bytes text is c.lay_out.result
-    (subst (λ s. IfOk c.lay_out.result (λ output. IsIndentedOutput c.args.spaces s output.items)) c.deref.ensures c.lay_out.ensures.ok)
-    c.lay_out.ensures.utf8
+    indented_kept o.key_order o c.args.form c.args.spaces bytes text is c.indented_output.result
+    (subst (λ s. IfOk c.indented_output.result (λ output. IsIndentedOutput c.args.spaces s output.items)) c.deref.ensures c.indented_output.ensures.ok)
+    c.indented_output.ensures.utf8

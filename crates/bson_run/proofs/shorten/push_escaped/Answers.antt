@@ -5,7 +5,7 @@ use Rattle.bson_run.proofs.shorten.push_escaped.Goals as goal
 
 pub returns-then-is_control : goal.returns-then-is_control
 returns-then-is_control c =
-    let small : c.args.c < 256 = search rules in
-    let is : string_bytes c.in_ok-escape.escape ≡ escaped_char c.args.c =
-    hole c.in_radix.result c.laid_out.result _ c.args.c (search rules) c.laid_out.ensures c.in_ok-escape.ensures.ok ∙ shown_control c.args.c small (ne_eqb _ _ c.if-c-eq8232.false) (ne_eqb _ _ c.if-c-eq8233.false) (sym c.is_control.ensures ∙ c.if-is_control.true) in
+    let small : c.args.character < 256 = search rules in
+    let is : string_bytes c.in_ok-escape.escape ≡ escaped_char c.args.character =
+    hole c.in_radix.result c.laid_out.result _ c.args.character (search rules) c.laid_out.ensures c.in_ok-escape.ensures.ok ∙ shown_control c.args.character small (ne_eqb _ _ c.if-character-eq8232.false) (ne_eqb _ _ c.if-character-eq8233.false) (sym c.is_control.ensures ∙ c.if-is_control.true) in
     added c.push_str-then-is_control.result _ _ _ _ c.push_str-then-is_control.ensures.bytes (c.deref.ensures ∙ is)

@@ -3,5 +3,5 @@ use Rattle.std.specs.List.{flat_map}
 use Rattle.bson_run.specs.ErrorMessages.{char_or_escape}
 use Rattle.bson_run.proofs.shorten.shorten.Given as goal
 
-abbrev pub invariant-loop-c : goal.invariant-loop-c
-invariant-loop-c l = string_bytes l.shortened ≡ flat_map (char_or_escape l.escapes) l.yielded
+abbrev pub invariant-loop-character : goal.invariant-loop-character
+invariant-loop-character l = string_bytes l.shortened ≡ flat_map (char_or_escape l.escapes) l.yielded

@@ -2,14 +2,14 @@ use Rattle.std.proofs.Common.{◌≡◌, Bool, IfOk, Result, string_bytes, subst
 use Rattle.std.specs.Prelude.{IsTrue}
 use Rattle.std.specs.declared.alloc.AllocError.{AllocError}
 use Rattle.bson_run.proofs.OneRead.{is_read}
-use Rattle.bson_run.specs.ErrorMessages.{HasTree}
+use Rattle.bson_run.specs.ErrorMessages.{IsTextOfTree}
 use Rattle.bson_run.proofs.syntax_error.has_tree.Goals as goal
 use Rattle.bson_run.proofs.syntax_error.has_tree.Goals.{in-Ok, in-Err-Invalid, in-Err}
 
 pub returns-clause-yes : goal.returns-clause-yes
 returns-clause-yes c =
     let text = c.args.text.now in
-    let says = λ (r : Result Bool AllocError). IfOk r (λ has. IsTrue has → HasTree text) in
+    let says = λ (r : Result Bool AllocError). IfOk r (λ has. IsTrue has → IsTextOfTree text) in
     elim c.match-normalize_text.branch [
       | in-Ok w ↦ subst says (sym w.result-is) (λ yes.
           let (tree, read) = is_read text (string_bytes w.in-Ok.field-0) w.in-Ok.ensures.ok in

@@ -3,5 +3,5 @@ use Rattle.bson_scalar.proofs.constants.write_undefined.Goals as goal
 
 pub returns-clause-written : goal.returns-clause-written
 returns-clause-written g c =
-    if_ok c.end_object_of_one.result c.end_object_of_one.ensures.written
-    (λ t ends. ends c.args.out.now c.begin_object.new.out _ _ c.in_ok-key.ensures.written c.in_ok-truth.ensures.written)
+    if_ok c.end_one_key_object.result c.end_one_key_object.ensures.written
+    (λ t ends. ends c.args.sink.now c.begin_object.new.sink _ _ c.in_ok-key.ensures.written c.in_ok-true_tree.ensures.written)

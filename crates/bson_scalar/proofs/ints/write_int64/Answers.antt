@@ -6,5 +6,5 @@ pub returns-in-Canonical-clause-written : goal.returns-in-Canonical-clause-writt
 returns-in-Canonical-clause-written g c =
     rw c.in-Canonical.is (subst
     (λ z. IfOk c.write_numeral_object.result
-    (λ t. g.S.Sink.wrote c.args.out.now (int64_tree z) t c.write_numeral_object.new.out))
+    (λ t. g.S.Sink.wrote_tree c.args.sink.now (int64_tree z) t c.write_numeral_object.new.sink))
     (to_z-of_z {w = w64} {z = c.args.number} c.ranges.number) c.write_numeral_object.ensures.written)

@@ -6,11 +6,11 @@ use Rattle.bson_scalar.proofs.laws.each_mode.Goals as goal
 pub returns : goal.returns
 returns c = record {
   meaning = λ d t x. (scalar_from d t x, scalar_to d t x);
-  one = scalar_one;
-  form = scalar_form;
-  tree = λ d f x t. (written_from d f x t, written_to d f x t);
+  unique = scalar_one;
+  normal_form = scalar_form;
+  written_tree = λ d f x t. (written_from d f x t, written_to d f x t);
   writable = writable_is;
-  all = all_writable_is;
-  text = has_text;
-  back = reads_back;
+  all_writable = all_writable_is;
+  double_texts = has_text;
+  read_back = reads_back;
 }

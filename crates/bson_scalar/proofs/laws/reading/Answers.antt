@@ -5,6 +5,6 @@ use Rattle.bson_scalar.proofs.laws.reading.Goals as goal
 pub returns : goal.returns
 returns c = record {
   meaning = λ t x. (scalar_from Special t x, scalar_to Special t x);
-  one = scalar_one Special;
-  form = scalar_form Special;
+  unique = scalar_one Special;
+  normal_form = scalar_form Special;
 }

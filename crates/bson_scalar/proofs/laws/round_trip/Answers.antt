@@ -4,7 +4,7 @@ use Rattle.bson_scalar.proofs.laws.round_trip.Goals as goal
 
 pub returns : goal.returns
 returns c = record {
-  back = reads_back Special;
+  read_back = reads_back Special;
   normal = nf_again;
   as_read_back = as_read_again;
 }

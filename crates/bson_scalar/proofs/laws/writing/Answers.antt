@@ -5,7 +5,7 @@ use Rattle.bson_scalar.proofs.laws.writing.Goals as goal
 
 pub returns : goal.returns
 returns c = record {
-  tree = λ f x t. (written_from Special f x t, written_to Special f x t);
+  written_tree = λ f x t. (written_from Special f x t, written_to Special f x t);
   writable = writable_is Special;
-  text = special_is;
+  double_texts = special_is;
 }

@@ -6,5 +6,5 @@ use Rattle.bson_scalar.proofs.object_writer.begin_second_member.Goals as goal
 pub returns-clause-written : goal.returns-clause-written
 returns-clause-written g c =
     if_ok c.key.result c.key.ensures.written
-    (λ next named start mid k d begun content. named start _
-    (c.in_ok-map.ensures.written start mid no_members k d begun content refl))
+    (λ next named start mid k d begun_key content. named start _
+    (c.in_ok-map.ensures.written start mid no_members k d begun_key content refl))

@@ -6,9 +6,9 @@ use Rattle.bson_scalar.proofs.object_writer.write_two_texts_object.Goals as goal
 pub returns-clause-written : goal.returns-clause-written
 returns-clause-written g c =
     let one = string (string_bytes c.args.text) in
-    let two = string (string_bytes c.args.next_text) in
-    let next = c.in_ok-begun-2.ensures.written c.args.out.now c.begin_object.new.out c.args.key.now one
-    c.in_ok-begun.ensures.written c.in_ok-text.ensures.written in
-    if_ok c.end_object_of_two.result c.end_object_of_two.ensures.written
-    (λ t ends. ends c.args.out.now c.begin_second_member.new.out c.args.key.now c.args.next_key.now one two next
+    let two = string (string_bytes c.args.second_text) in
+    let next = c.in_ok-begun_key-2.ensures.written c.args.sink.now c.begin_object.new.sink c.args.key.now one
+    c.in_ok-begun_key.ensures.written c.in_ok-text.ensures.written in
+    if_ok c.end_two_key_object.result c.end_two_key_object.ensures.written
+    (λ t ends. ends c.args.sink.now c.begin_second_member.new.sink c.args.key.now c.args.second_key_name.now one two next
     c.in_ok-text-2.ensures.written (c.requires one two))

@@ -7,5 +7,5 @@ pub returns-then-not-is_empty : goal.returns-then-not-is_empty
 returns-then-not-is_empty c =
     let no = c.if-not-is_empty.true in
     let some : length c.pop_first.new.self.entries ≡ 0 → ⊥ = λ e. false≢true (sym no ∙ c.is_empty.ensures.1 e) in
-    lone_more c.args.name.now c.args.content.entries (c.in_ok-key.key, c.in_ok-key.value) _ c.in_ok-key.ensures.removal
+    lone_more c.args.key_name.now c.args.content.entries (c.in_ok-key.key, c.in_ok-key.value) _ c.in_ok-key.ensures.removal
     some

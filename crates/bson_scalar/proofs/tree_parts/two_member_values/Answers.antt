@@ -7,5 +7,5 @@ pub returns-then-not-is_empty : goal.returns-then-not-is_empty
 returns-then-not-is_empty c =
     let no = c.if-not-is_empty.true in
     let some : length c.pop_first-2.new.self.entries ≡ 0 → ⊥ = λ e. false≢true (sym no ∙ c.is_empty.ensures.1 e) in
-    two_more c.args.first.now c.args.second.now c.args.members.entries (c.in_ok-key.key, c.in_ok-key.value)
-    (c.in_ok-other.other, c.in_ok-other.more) _ _ c.in_ok-key.ensures.removal c.in_ok-other.ensures.removal some
+    two_more c.args.first_key.now c.args.second_key.now c.args.members.entries (c.in_ok-key.key, c.in_ok-key.value)
+    (c.in_ok-other_key.other_key, c.in_ok-other_key.other_value) _ _ c.in_ok-key.ensures.removal c.in_ok-other_key.ensures.removal some

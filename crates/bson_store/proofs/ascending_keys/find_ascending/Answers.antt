@@ -8,18 +8,18 @@ use Rattle.bson_store.proofs.AscendingLaws.{absent-first, absent-behind, key-of}
 use Rattle.bson_store.proofs.Placed.{there, place-at, own, same_bytes}
 use Rattle.bson_store.proofs.ascending_keys.find_ascending.Goals as goal
 
-pub returns-then-above-eq0 : goal.returns-then-above-eq0
-returns-then-above-eq0 g c =
+pub returns-then-position_above-eq0 : goal.returns-then-position_above-eq0
+returns-then-position_above-eq0 g c =
     let ps = stored_pairs c.args.pairs.now.items in
     sym (absent-first c.args.key.now ps
-    (subst (AllKeysAboveFrom (Some c.args.key.now) ps) c.if-above-eq0.true c.first_key_above-above.ensures.2))
+    (subst (AllKeysAboveFrom (Some c.args.key.now) ps) c.if-position_above-eq0.true c.first_key_above-position_above.ensures.2))
 
 pub returns-then-eq : goal.returns-then-eq
 returns-then-eq g c =
     let ps = stored_pairs c.args.pairs.now.items in
-    let n = c.first_key_above-above.result - 1 in
+    let n = c.first_key_above-position_above.result - 1 in
     let p = c.index.result.now in
-    let within : n < length ps = omega (arith, c.if-above-eq0.false, c.first_key_above-above.ensures.0) in
+    let within : n < length ps = omega (arith, c.if-position_above-eq0.false, c.first_key_above-position_above.ensures.0) in
     let same : c.args.key.now ≡ string_bytes p.key =
     same_bytes c.args.key.now (string_bytes p.key)
     (ap (bytes_eq c.args.key.now) (sym c.as_str.ensures.value) ∙ sym c.eq.ensures ∙ c.if-eq.true) in
@@ -31,12 +31,12 @@ pub returns : goal.returns
 returns g c =
     let ps = stored_pairs c.args.pairs.now.items in
     let k = c.args.key.now in
-    let n = c.first_key_above-above.result - 1 in
+    let n = c.first_key_above-position_above.result - 1 in
     let p = c.index.result.now in
-    let next : c.first_key_above-above.result ≡ n + 1 = omega (arith, c.if-above-eq0.false) in
-    let within : n < length ps = omega (arith, next, c.first_key_above-above.ensures.0) in
+    let next : c.first_key_above-position_above.result ≡ n + 1 = omega (arith, c.if-position_above-eq0.false) in
+    let within : n < length ps = omega (arith, next, c.first_key_above-position_above.ensures.0) in
     sym (absent-behind k ps n (string_bytes p.key) c.requires.ascending
-    (subst (IsFirstKeyAbove (Some k) ps) next c.first_key_above-above.ensures)
+    (subst (IsFirstKeyAbove (Some k) ps) next c.first_key_above-position_above.ensures)
     (key-of ps n (string_bytes p.key, p.value) (there c.args.pairs.now.items ps n p refl within c.index.ensures))
     (λ same. true≢false (sym (ap (bytes_eq k) (c.as_str.ensures.value ∙ sym same) ∙ own k) ∙ sym c.eq.ensures
     ∙ c.if-eq.false)))

@@ -10,7 +10,7 @@ pub returns-clause-ok : goal.returns-clause-ok
 returns-clause-ok c = elim c.match-insert.branch [
   | in-Ok w ↦ rw w.result-is (λ k.
       btree_map_updates_text (string_bytes c.in_ok-clone.field-0) c.args.positions.now c.insert.new.self
-      (Some c.args.at) w.in-Ok.ensures.updates k
-      ∙ ap (λ b. update bytes_eq (get_by_text c.args.positions.now) b (Some c.args.at) k) c.in_ok-clone.ensures.cases)
+      (Some c.args.position) w.in-Ok.ensures.updates k
+      ∙ ap (λ b. update bytes_eq (get_by_text c.args.positions.now) b (Some c.args.position) k) c.in_ok-clone.ensures.cases)
   | in-Err w ↦ rw w.result-is tt
 ]

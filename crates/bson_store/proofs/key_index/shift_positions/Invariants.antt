@@ -5,7 +5,7 @@ use Rattle.bson_store.specs.KeyIndex.{stored_pairs}
 use Rattle.bson_store.specs.PositionsAfterRemoval.{position_before_removal}
 use Rattle.bson_store.proofs.key_index.shift_positions.Given as goal
 
-abbrev pub invariant-loop-i : goal.invariant-loop-i
-invariant-loop-i g l =
+abbrev pub invariant-loop-pair_position : goal.invariant-loop-pair_position
+invariant-loop-pair_position g l =
     (k : List ℕ) → get_by_text l.positions k
-    ≡ option_map (position_before_removal l.i) (position_of k (stored_pairs l.pairs.items))
+    ≡ option_map (position_before_removal l.pair_position) (position_of k (stored_pairs l.pairs.items))

@@ -20,7 +20,7 @@ unindex_key-requires g c =
 
 pub returns-then-len-le-MAX_UNINDEXED : goal.returns-then-len-le-MAX_UNINDEXED
 returns-then-len-le-MAX_UNINDEXED g c = (
-  subst HasDistinctKeys (sym c.requires.3) (distinct-remove c.requires.0 c.args.at c.requires.4.0),
+  subst HasDistinctKeys (sym c.requires.3) (distinct-remove c.requires.0 c.args.removed_position c.requires.4.0),
   λ more. absurd (omega (
     arith,
     more,
@@ -33,7 +33,7 @@ returns-then-len-le-MAX_UNINDEXED g c = (
 
 pub returns-in-Some : goal.returns-in-Some
 returns-in-Some g c = (
-  subst HasDistinctKeys (sym c.requires.3) (distinct-remove c.requires.0 c.args.at c.requires.4.0),
+  subst HasDistinctKeys (sym c.requires.3) (distinct-remove c.requires.0 c.args.removed_position c.requires.4.0),
   (
     omega (arith, c.if-len-le-MAX_UNINDEXED.false, c.len.ensures, c.args.pairs.now.ok.0, length-seen c.args.pairs.now.items),
     c.unindex_key.ensures,
@@ -46,10 +46,10 @@ returns-in-None g c =
     let qs = stored_pairs c.args.pairs.now.items in
     let was : 16 < length ps → HasAscendingKeys ps = subst (HasNeededIndex ps) c.in-None.is c.requires.4.1 in
     let shorter =
-    length-remove ps c.args.at (slice_get_within ps c.args.at (c.args.key.now, c.requires.1) c.requires.2) in
+    length-remove ps c.args.removed_position (slice_get_within ps c.args.removed_position (c.args.key.now, c.requires.1) c.requires.2) in
     let still : 16 < length qs → HasAscendingKeys qs =
     λ more. subst HasAscendingKeys (sym c.requires.3)
-    (ascend-remove ps c.args.at (was (omega (arith, more, shorter, ap length c.requires.3)))) in (
-      subst HasDistinctKeys (sym c.requires.3) (distinct-remove ps c.args.at c.requires.4.0),
+    (ascend-remove ps c.args.removed_position (was (omega (arith, more, shorter, ap length c.requires.3)))) in (
+      subst HasDistinctKeys (sym c.requires.3) (distinct-remove ps c.args.removed_position c.requires.4.0),
       subst (HasNeededIndex qs) (sym c.in-None.is) still,
     )

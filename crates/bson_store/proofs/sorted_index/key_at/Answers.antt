@@ -8,6 +8,6 @@ returns-in-Some g c =
     let xs = c.deref.result.now in
     let found = c.in-Some.ensures.lookup in
     c.as_str.ensures.value
-    ∙ key_there c.args.pairs.now.items c.args.at c.in-Some.pair.now
-    (ap (λ ps. slice_get ps c.args.at) (sym c.deref.ensures.value)
-    ∙ slice_get_read xs (length xs) c.args.at c.in-Some.pair.now refl found.3.0 found.1)
+    ∙ key_there c.args.pairs.now.items c.args.position c.in-Some.pair.now
+    (ap (λ ps. slice_get ps c.args.position) (sym c.deref.ensures.value)
+    ∙ slice_get_read xs (length xs) c.args.position c.in-Some.pair.now refl found.3.0 found.1)

@@ -37,121 +37,173 @@ use Rattle.bson_store.specs.KeyIndex.{OptionalIndex, stored_pairs, key_positions
 use Rattle.bson_store.specs.formers.indexed.IndexedPairs as indexed
 
 abbrev pub map_value : {X Y : Type 0} → (X → Y) → List ℕ × X → List ℕ × Y
-map_value h p = (p.0, h p.1)
+map_value transform key_value = (key_value.0, transform key_value.1)
 
 abbrev pub the_former : Former {0} → Former {0}
-the_former g = list (pair (const (List ℕ)) g)
+the_former value_former = list (pair (const (List ℕ)) value_former)
 
-abbrev pub the_weighed : {g : Former {0}} → Weighed g → Weighed (the_former g)
-the_weighed w = indexed.the_weighed w
+abbrev pub the_weighed : {value_former : Former {0}} → Weighed value_former → Weighed (the_former value_former)
+the_weighed weighed_value = indexed.the_weighed weighed_value
 
 pub the_empty : List (List ℕ × ⊥)
 the_empty = []
 
 abbrev pub the_items : (X : Type 0) → List (List ℕ × X) → List X
-the_items X d = indexed.the_items X d
+the_items X pair_list = indexed.the_items X pair_list
 
-pub the_items_listed : (X : Type 0) (d : List (List ℕ × X)) → listed _ (children (the_former this) X d) ≡ the_items X d
-the_items_listed X d = indexed.the_items_listed X d
+pub the_items_listed : (X : Type 0) (pair_list : List (List ℕ × X))
+    → listed _ (children (the_former this) X pair_list) ≡ the_items X pair_list
+the_items_listed X pair_list = indexed.the_items_listed X pair_list
 
 -- a pair, and the fields
 abbrev pair_former : Former {0}
-pair_former = via (pair (const (String Global)) this) Pair (λ X p. (p.key, p.value)) (λ X v. record { key = v.0; value = v.1 })
-    (λ X p. refl) (λ X v. refl)
+pair_former =
+    via (pair (const (String Global)) this) Pair (λ X stored_pair. (stored_pair.key, stored_pair.value))
+    (λ X key_and_value. record { key = key_and_value.0; value = key_and_value.1 })
+    (λ X stored_pair. refl) (λ X key_and_value. refl)
 
 abbrev fields : Former {0}
 fields =
-    via (pair (vec.the_former pair_former Global) (const OptionalIndex)) Inside (λ X a. (a.pairs, a.positions))
-    (λ X v. record { pairs = v.0; positions = v.1 }) (λ X a. refl) (λ X v. refl)
+    via (pair (vec.the_former pair_former Global) (const OptionalIndex)) Inside
+    (λ X store. (store.pairs, store.positions))
+    (λ X pairs_and_positions. record { pairs = pairs_and_positions.0; positions = pairs_and_positions.1 })
+    (λ X store. refl) (λ X pairs_and_positions. refl)
 
-stored-pairs-map : {X Y : Type 0} (h : X → Y) (ps : List (Pair X))
-    → stored_pairs (map (pair_former.map X Y h) ps) ≡ map (map_value h) (stored_pairs ps)
-stored-pairs-map h [] = refl
-stored-pairs-map h (p ∷ ps) = ap (λ l. (string_bytes p.key, h p.value) ∷ l) (stored-pairs-map h ps)
+stored-pairs-map : {X Y : Type 0} (transform : X → Y) (pair_list : List (Pair X))
+    → stored_pairs (map (pair_former.map X Y transform) pair_list) ≡ map (map_value transform) (stored_pairs pair_list)
+stored-pairs-map transform [] = refl
+stored-pairs-map transform (first_pair ∷ pair_list) =
+    ap (λ l. (string_bytes first_pair.key, transform first_pair.value) ∷ l) (stored-pairs-map transform pair_list)
 
-stored-pairs-held : (X : Type 0) (ps : List (Pair X)) → held (the_former this) X (stored_pairs ps) ≡ held (list pair_former) X ps
+stored-pairs-held : (X : Type 0) (pair_list : List (Pair X))
+    → held (the_former this) X (stored_pairs pair_list) ≡ held (list pair_former) X pair_list
 stored-pairs-held X [] = refl
-stored-pairs-held X (p ∷ ps) = λ i. (one_more (stored-pairs-held X ps i).0, (p.value, (stored-pairs-held X ps i).1))
+stored-pairs-held X (first_pair ∷ pair_list) =
+    λ i. (one_more (stored-pairs-held X pair_list i).0, (first_pair.value, (stored-pairs-held X pair_list i).1))
 
 -- the positions of keys depend only on the keys
-keys-map : {X Y : Type 0} (h : X → Y) (ps : List (List ℕ × X)) → keys (map (map_value h) ps) ≡ keys ps
-keys-map h [] = refl
-keys-map h (p ∷ ps) = ap (λ l. p.0 ∷ l) (keys-map h ps)
+keys-map : {X Y : Type 0} (transform : X → Y) (pair_list : List (List ℕ × X))
+    → keys (map (map_value transform) pair_list) ≡ keys pair_list
+keys-map transform [] = refl
+keys-map transform (first_pair ∷ pair_list) = ap (λ l. first_pair.0 ∷ l) (keys-map transform pair_list)
 
-position-on : {X Y : Type 0} (h : X → Y) (k : List ℕ) (ps : List (List ℕ × X))
-    → position_of k (map (map_value h) ps) ≡ position_of k ps
-position-on h k [] = refl
-position-on h k (p ∷ ps) = ap (λ r. cond (bytes_eq k p.0) (Some 0) (option_map suc r)) (position-on h k ps)
+position-on : {X Y : Type 0} (transform : X → Y) (key_bytes : List ℕ) (pair_list : List (List ℕ × X))
+    → position_of key_bytes (map (map_value transform) pair_list) ≡ position_of key_bytes pair_list
+position-on transform key_bytes [] = refl
+position-on transform key_bytes (first_pair ∷ pair_list) =
+    ap (λ position. cond (bytes_eq key_bytes first_pair.0) (Some 0) (option_map suc position))
+    (position-on transform key_bytes pair_list)
 
-IsIndexOf-prop : {X : Type 0} (x : Index) (ps : List (List ℕ × X)) → IsProp (IsIndexOf x ps)
-IsIndexOf-prop (Sorted v) ps =
-    ×_prop (IsStrictlySortedBy-prop key_cmp (keys (key_positions v.items ps))) (Π_prop (λ k. Coded-set (coded_option coded_ℕ) _ _))
-IsIndexOf-prop (Map m) ps = Π_prop (λ k. Coded-set (coded_option coded_ℕ) _ _)
+IsIndexOf-prop : {X : Type 0} (index : Index) (pair_list : List (List ℕ × X)) → IsProp (IsIndexOf index pair_list)
+IsIndexOf-prop (Sorted index_positions) pair_list =
+    ×_prop (IsStrictlySortedBy-prop key_cmp (keys (key_positions index_positions.items pair_list)))
+    (Π_prop (λ key_bytes. Coded-set (coded_option coded_ℕ) _ _))
+IsIndexOf-prop (Map position_map) pair_list = Π_prop (λ key_bytes. Coded-set (coded_option coded_ℕ) _ _)
 
-HasNeededIndex-prop : {X : Type 0} (ps : List (List ℕ × X)) (o : OptionalIndex) → IsProp (HasNeededIndex ps o)
-HasNeededIndex-prop ps None = Π_prop (λ more. IsStrictlySortedBy-prop key_cmp (keys ps))
-HasNeededIndex-prop ps (Some x) = ×_prop le_prop (IsIndexOf-prop x.value ps)
+HasNeededIndex-prop : {X : Type 0} (pair_list : List (List ℕ × X)) (optional_index : OptionalIndex)
+    → IsProp (HasNeededIndex pair_list optional_index)
+HasNeededIndex-prop pair_list None = Π_prop (λ more. IsStrictlySortedBy-prop key_cmp (keys pair_list))
+HasNeededIndex-prop pair_list (Some boxed_index) = ×_prop le_prop (IsIndexOf-prop boxed_index.value pair_list)
 
-StoreInvariant-prop : {X : Type 0} (ps : List (List ℕ × X)) (o : OptionalIndex) → IsProp (StoreInvariant ps o)
-StoreInvariant-prop ps o = ×_prop (IsDistinct-prop bytes_eq (keys ps)) (HasNeededIndex-prop ps o)
+StoreInvariant-prop : {X : Type 0} (pair_list : List (List ℕ × X)) (optional_index : OptionalIndex)
+    → IsProp (StoreInvariant pair_list optional_index)
+StoreInvariant-prop pair_list optional_index =
+    ×_prop (IsDistinct-prop bytes_eq (keys pair_list)) (HasNeededIndex-prop pair_list optional_index)
 
-module _ {X Y : Type 0} (h : X → Y) where
-  keyed-on : (is : List ℕ) (ps : List (List ℕ × X)) → key_positions is (map (map_value h) ps) ≡ key_positions is ps
-  keyed-on is ps = ap (λ ks. map (λ i. (slice_index_or ks i [], i)) is) (keys-map h ps)
+module _ {X Y : Type 0} (transform : X → Y) where
+  keyed-on : (position_list : List ℕ) (pair_list : List (List ℕ × X))
+      → key_positions position_list (map (map_value transform) pair_list) ≡ key_positions position_list pair_list
+  keyed-on position_list pair_list =
+      ap (λ key_list. map (λ pair_position. (slice_index_or key_list pair_position [], pair_position)) position_list)
+      (keys-map transform pair_list)
 
-  indexes-on : (x : Index) (ps : List (List ℕ × X)) → IsIndexOf x (map (map_value h) ps) ≡ IsIndexOf x ps
-  indexes-on (Sorted v) ps =
-      λ i. HasAscendingKeys (keyed-on v.items ps i) × ((k : List ℕ) → get k (keyed-on v.items ps i) ≡ position-on h k ps i)
-  indexes-on (Map m) ps = λ i. (k : List ℕ) → get_by_text m k ≡ position-on h k ps i
+  indexes-on : (index : Index) (pair_list : List (List ℕ × X))
+      → IsIndexOf index (map (map_value transform) pair_list) ≡ IsIndexOf index pair_list
+  indexes-on (Sorted index_positions) pair_list =
+      λ i. HasAscendingKeys (keyed-on index_positions.items pair_list i)
+      × ((key_bytes : List ℕ)
+      → get key_bytes (keyed-on index_positions.items pair_list i) ≡ position-on transform key_bytes pair_list i)
+  indexes-on (Map position_map) pair_list = λ i. (key_bytes : List ℕ)
+      → get_by_text position_map key_bytes ≡ position-on transform key_bytes pair_list i
 
-  index-map : (ps : List (List ℕ × X)) (o : OptionalIndex) → HasNeededIndex ps o → HasNeededIndex (map (map_value h) ps) o
-  index-map ps None p =
-      λ more. subst (IsStrictlySortedBy key_cmp) (sym (keys-map h ps))
-      (p (subst (λ n. 16 < n) (length-map ps (map_value h)) more))
-  index-map ps (Some x) p =
-      (subst (λ n. 16 < n) (sym (length-map ps (map_value h))) p.0, subst (λ t. t) (sym (indexes-on x.value ps)) p.1)
+  index-map : (pair_list : List (List ℕ × X)) (optional_index : OptionalIndex)
+      → HasNeededIndex pair_list optional_index → HasNeededIndex (map (map_value transform) pair_list) optional_index
+  index-map pair_list None needed_index =
+      λ more. subst (IsStrictlySortedBy key_cmp) (sym (keys-map transform pair_list))
+      (needed_index (subst (λ n. 16 < n) (length-map pair_list (map_value transform)) more))
+  index-map pair_list (Some boxed_index) needed_index = (
+    subst (λ n. 16 < n) (sym (length-map pair_list (map_value transform))) needed_index.0,
+    subst (λ t. t)
+        (sym (indexes-on boxed_index.value pair_list)) needed_index.1,
+  )
 
-  index-map-back : (ps : List (List ℕ × X)) (o : OptionalIndex) → HasNeededIndex (map (map_value h) ps) o → HasNeededIndex ps o
-  index-map-back ps None p =
-      λ more. subst (IsStrictlySortedBy key_cmp) (keys-map h ps)
-      (p (subst (λ n. 16 < n) (sym (length-map ps (map_value h))) more))
-  index-map-back ps (Some x) p =
-      (subst (λ n. 16 < n) (length-map ps (map_value h)) p.0, subst (λ t. t) (indexes-on x.value ps) p.1)
+  index-map-back : (pair_list : List (List ℕ × X)) (optional_index : OptionalIndex)
+      → HasNeededIndex (map (map_value transform) pair_list) optional_index → HasNeededIndex pair_list optional_index
+  index-map-back pair_list None needed_index =
+      λ more. subst (IsStrictlySortedBy key_cmp) (keys-map transform pair_list)
+      (needed_index (subst (λ n. 16 < n) (sym (length-map pair_list (map_value transform))) more))
+  index-map-back pair_list (Some boxed_index) needed_index = (
+    subst (λ n. 16 < n) (length-map pair_list (map_value transform)) needed_index.0,
+    subst (λ t. t)
+        (indexes-on boxed_index.value pair_list) needed_index.1,
+  )
 
-  invariant-map : (ps : List (Pair X)) (o : OptionalIndex) → StoreInvariant (stored_pairs ps) o
-      → StoreInvariant (stored_pairs (map (pair_former.map X Y h) ps)) o
-  invariant-map ps o p =
-      subst (λ qs. StoreInvariant qs o) (sym (stored-pairs-map h ps))
-      (subst (λ ks. IsDistinct bytes_eq ks) (sym (keys-map h (stored_pairs ps))) p.0, index-map (stored_pairs ps) o p.1)
+  invariant-map : (pair_list : List (Pair X)) (optional_index : OptionalIndex)
+      → StoreInvariant (stored_pairs pair_list) optional_index
+      → StoreInvariant (stored_pairs (map (pair_former.map X Y transform) pair_list)) optional_index
+  invariant-map pair_list optional_index invariant_before =
+      subst (λ other_pair_list. StoreInvariant other_pair_list optional_index)
+      (sym (stored-pairs-map transform pair_list)) (
+        subst (λ key_list. IsDistinct bytes_eq key_list)
+            (sym (keys-map transform (stored_pairs pair_list))) invariant_before.0,
+        index-map
+            (stored_pairs pair_list) optional_index invariant_before.1,
+      )
 
-  invariant-map-back : (ps : List (Pair X)) (o : OptionalIndex) → StoreInvariant (stored_pairs (map (pair_former.map X Y h) ps)) o
-      → StoreInvariant (stored_pairs ps) o
-  invariant-map-back ps o p =
-      let q = subst (λ qs. StoreInvariant qs o) (stored-pairs-map h ps) p in
-      (subst (λ ks. IsDistinct bytes_eq ks) (keys-map h (stored_pairs ps)) q.0, index-map-back (stored_pairs ps) o q.1)
+  invariant-map-back : (pair_list : List (Pair X)) (optional_index : OptionalIndex)
+      → StoreInvariant (stored_pairs (map (pair_former.map X Y transform) pair_list)) optional_index
+      → StoreInvariant (stored_pairs pair_list) optional_index
+  invariant-map-back pair_list optional_index invariant_before =
+      let q =
+      subst (λ other_pair_list. StoreInvariant other_pair_list optional_index)
+      (stored-pairs-map transform pair_list) invariant_before in (
+        subst (λ key_list. IsDistinct bytes_eq key_list)
+            (keys-map transform (stored_pairs pair_list)) q.0,
+        index-map-back (stored_pairs pair_list) optional_index q.1,
+      )
 
-module _ (R S : RattleType) (h : R.Denot → S.Denot) where
-  pair_places : Alike R S h → Alike (PairContract.the_row R) (PairContract.the_row S) (pair_former.map R.Denot S.Denot h)
-  pair_places a = struct_places (PairContract.the_type R) (PairContract.the_type S) (λ n. n, (h, tt)) _ (λ d. refl) refl
+module _ (R S : RattleType) (transform : R.Denot → S.Denot) where
+  pair_places : Alike R S transform
+      → Alike (PairContract.the_row R) (PairContract.the_row S) (pair_former.map R.Denot S.Denot transform)
+  pair_places a =
+      struct_places (PairContract.the_type R) (PairContract.the_type S) (λ n. n, (transform, tt)) _ (λ d. refl) refl
       ((refl, (λ n. refl, λ n. refl)), (laid _ _ _ a, tt))
 
-  pub the_places : Alike R S h → Alike (StoreContract.the_row R) (StoreContract.the_row S) ((the_former this).map R.Denot S.Denot h)
+  pub the_places : Alike R S transform
+      → Alike (StoreContract.the_row R) (StoreContract.the_row S) ((the_former this).map R.Denot S.Denot transform)
   the_places a =
-      view_places fields (the_former this) view (λ X Y k u. stored-pairs-map k u.pairs.items) (λ X u. stored-pairs-held X u.pairs.items)
-      R.Denot S.Denot h (StoreContract.the_row R).coded (StoreContract.the_row S).coded
-      (invariant R.Denot) (invariant S.Denot) (λ u. StoreInvariant-prop (stored_pairs u.pairs.items) u.positions)
-      (λ u. StoreInvariant-prop (stored_pairs u.pairs.items) u.positions)
-      (λ u. invariant-map h u.pairs.items u.positions) (λ u. invariant-map-back h u.pairs.items u.positions)
+      view_places fields (the_former this) view (λ X Y k store_fields. stored-pairs-map k store_fields.pairs.items)
+      (λ X store_fields. stored-pairs-held X store_fields.pairs.items)
+      R.Denot S.Denot transform (StoreContract.the_row R).coded (StoreContract.the_row S).coded
+      (invariant R.Denot) (invariant S.Denot)
+      (λ store_fields. StoreInvariant-prop (stored_pairs store_fields.pairs.items) store_fields.positions)
+      (λ store_fields. StoreInvariant-prop (stored_pairs store_fields.pairs.items) store_fields.positions)
+      (λ store_fields. invariant-map transform store_fields.pairs.items store_fields.positions)
+      (λ store_fields. invariant-map-back transform store_fields.pairs.items store_fields.positions)
       (over (FieldsContract.the_row R)) (over (FieldsContract.the_row S))
-      (struct_places (FieldsContract.the_type R) (FieldsContract.the_type S) (vec.mapped (pair_former.map R.Denot S.Denot h), (λ n. n, tt)) _
+      (struct_places (FieldsContract.the_type R) (FieldsContract.the_type S)
+      (vec.mapped (pair_former.map R.Denot S.Denot transform), (λ n. n, tt)) _
       (λ d. refl) refl (
         laid _ _ _
-            (vec.the_places heap.the_row ghosts (PairContract.the_row R) (PairContract.the_row S) (pair_former.map R.Denot S.Denot h)
+            (vec.the_places heap.the_row ghosts (PairContract.the_row R) (PairContract.the_row S)
+            (pair_former.map R.Denot S.Denot transform)
             (pair_places a)),
         ((refl, (λ n. refl, λ n. refl)), tt),
       ))
 
-  pub the_codes_placed : Recodes R S h → Recodes (StoreContract.the_row R) (StoreContract.the_row S) ((the_former this).map R.Denot S.Denot h)
-  the_codes_placed e es =
-      sym (code_map (coded× (coded_list coded_ℕ) R.coded).code (coded× (coded_list coded_ℕ) S.coded).code (map_value h)
-      (λ x i. gcons ((coded_list coded_ℕ).code x.0) (sym (e x.1) i)) es)
+  pub the_codes_placed : Recodes R S transform
+      → Recodes (StoreContract.the_row R) (StoreContract.the_row S) ((the_former this).map R.Denot S.Denot transform)
+  the_codes_placed e entries =
+      sym (code_map (coded× (coded_list coded_ℕ) R.coded).code (coded× (coded_list coded_ℕ) S.coded).code
+      (map_value transform)
+      (λ x i. gcons ((coded_list coded_ℕ).code x.0) (sym (e x.1) i)) entries)

@@ -6,6 +6,6 @@ returns c =
     let old = c.args.keys.now in
     let new = c.sort_unstable.new.self in
     let moved = c.sort_unstable.ensures.permutation in (
-      λ yes. AreDistinct-permutation_back old new moved (c.ascend-2.ensures.distinct yes),
-      λ apart. c.ascend-2.ensures.sorted c.sort_unstable.ensures.sorted (AreDistinct-permutation old new moved apart),
+      λ yes. AreDistinct-permutation_back old new moved (c.keys_ascend-2.ensures.distinct yes),
+      λ apart. c.keys_ascend-2.ensures.sorted c.sort_unstable.ensures.sorted (AreDistinct-permutation old new moved apart),
     )

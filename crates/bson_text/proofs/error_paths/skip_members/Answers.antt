@@ -20,7 +20,7 @@ members-preserved c = λ n ms r is.
       h.1,
       h.2,
       or_again (is_some l.first_wrapper) (is_some (wrapper_of k)) (has_wrapper_key h.1) (has_wrapper_key ms) (has_wrapper_key g.1) g.3 h.3
-          ∙ ap (λ b. b || has_wrapper_key h.1) (sym c.or_wrapper-first_wrapper.ensures),
+          ∙ ap (λ b. b || has_wrapper_key h.1) (sym c.earliest_wrapper-first_wrapper.ensures),
     )
 
 pub returns : goal.returns

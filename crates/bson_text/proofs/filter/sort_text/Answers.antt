@@ -21,20 +21,20 @@ returns c =
       doubles = D;
       form = f;
       text = c.in_ok-with_capacity.field-0;
-      part = c.in_ok-with_capacity-2.field-0;
+      fragment = c.in_ok-with_capacity-2.field-0;
       member_starts = c.in_ok-with_capacity-3.field-0;
       needs_comma = false;
-      limit = c.memory_allowed.result;
+      sort_memory_limit = c.allowed_sort_memory.result;
       utf8 = nothing_utf8 _ c.in_ok-with_capacity.ensures.items;
     } in
     record {
-      ok = text_sorted D f c.args.text.now old c.in_ok-written.written c.in_ok-written.ensures.ok refl refl refl
+      ok = text_sorted D f c.args.text.now old c.in_ok-finished_writer.finished_writer c.in_ok-finished_writer.ensures.ok refl refl refl
           c.in_ok-with_capacity.ensures.items;
-      utf8 = IsUtf8-from_is_utf8 c.in_ok-written.written.text.items c.in_ok-written.written.utf8;
+      utf8 = IsUtf8-from_is_utf8 c.in_ok-finished_writer.finished_writer.text.items c.in_ok-finished_writer.finished_writer.utf8;
       accepts = tt;
     }
 
-pub returns-in_err-written-clause-accepts : goal.returns-in_err-written-clause-accepts
-returns-in_err-written-clause-accepts c =
-    let p = err_from_is_err_and c.from_residual-in_err-written.result c.from_residual-in_err-written.ensures.1 in
-    rw (p.1, p.2) (refused c.args.doubles (c.args.doubles ≡ Finite) ⊤ c.args.text.now _ c.in_err-written.ensures.stops)
+pub returns-in_err-finished_writer-clause-accepts : goal.returns-in_err-finished_writer-clause-accepts
+returns-in_err-finished_writer-clause-accepts c =
+    let p = err_from_is_err_and c.from_residual-in_err-finished_writer.result c.from_residual-in_err-finished_writer.ensures.1 in
+    rw (p.1, p.2) (refused c.args.doubles (c.args.doubles ≡ Finite) ⊤ c.args.text.now _ c.in_err-finished_writer.ensures.stops)

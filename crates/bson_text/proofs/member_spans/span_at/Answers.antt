@@ -6,6 +6,6 @@ pub returns : goal.returns
 returns c =
     let ks = c.args.keys.now in
     let member_starts = c.args.member_starts.now in
-    let at = c.args.at in
-    ap (λ n. record { key = get_or ks at no_key; start = get_or member_starts at 0; end = n }) c.span_end.ensures
-    ∙ sym (span_there ks member_starts c.args.end at c.requires.paired c.requires.within)
+    let position = c.args.position in
+    ap (λ n. record { key = get_or ks position no_key; start = get_or member_starts position 0; end = n }) c.member_end.ensures
+    ∙ sym (span_there ks member_starts c.args.output_end position c.requires.paired c.requires.within)

@@ -11,9 +11,9 @@ returns g c =
     let W = g.W.ValueWriter in
     let is : tokens c.args.text.now ≡ Token.begin_object ∷ q = grind arith in
     record {
-      ok = if_ok c.finish.result c.finish.ensures.ok (λ out (last, same).
+      ok = if_ok c.finish.result c.finish.ensures.ok (λ writer (last, same).
           let (ps, means, wrote_document) = document_read c.args.doubles c.args.text.now (option_map (λ x. x.now) c.in_ok-first_key.first_key) q
-          c.next_key.new.self c.write_document.new.self.reader (λ ps. W.wrote_document c.args.out ps c.write_document.new.self.out) is
+          c.next_key.new.self c.write_document.new.self.reader (λ ps. W.wrote_document c.args.writer ps c.write_document.new.self.writer) is
           c.in_ok-first_key.ensures.value c.in_ok-write_document.ensures.ok last in
           (ps, means, rw same wrote_document));
     }

@@ -46,19 +46,19 @@ find_in_items-items-preserved t c =
     let l = c.items in
     let front = l.invariant.0 in
     let r = c.find_in_value.new.reader in
-    let j = c.in_ok-item.ensures.ok in
-    let v = path_of_result l.first in
-    let w = append_segment (element l.at) (first_duplicate j.0) in
+    let j = c.in_ok-path_in_item.ensures.ok in
+    let v = path_of_result l.earliest_path in
+    let w = append_segment (element l.item_index) (first_duplicate j.0) in
     let going : (after_end_array l.reader ≡ None) × (c.take_end_array.new.self ≡ l.reader) = grind arith in
-    let now : path_of_result c.in_ok-first.first ≡ first_path v w =
-    c.in_ok-first.ensures ∙ ap (λ x. first_path v (append_segment (element l.at) x)) j.2 in
-    let next : l.at + 1 ≡ c.in_ok-at.at = grind arith in (
+    let now : path_of_result c.in_ok-earliest_path.earliest_path ≡ first_path v w =
+    c.in_ok-earliest_path.ensures ∙ ap (λ x. first_path v (append_segment (element l.item_index) x)) j.2 in
+    let next : l.item_index + 1 ≡ c.in_ok-item_index.item_index = grind arith in (
       λ js. front (item j.0 js),
       item_passed (value c.args.depth) c.args.reader.now front l.reader l.invariant.1 c.take_end_array.new.self r j.0
-          going.0 going.1 j.1 c.in_ok-item.ensures.shorter,
-      λ js. l.invariant.2 (item j.0 js) ∙ sym (or_or v w (first_duplicate_in_items (l.at + 1) js))
-          ∙ ap (λ x. first_path x (first_duplicate_in_items (l.at + 1) js)) (sym now)
-          ∙ ap (λ n. first_path (path_of_result c.in_ok-first.first) (first_duplicate_in_items n js)) next,
+          going.0 going.1 j.1 c.in_ok-path_in_item.ensures.shorter,
+      λ js. l.invariant.2 (item j.0 js) ∙ sym (or_or v w (first_duplicate_in_items (l.item_index + 1) js))
+          ∙ ap (λ x. first_path x (first_duplicate_in_items (l.item_index + 1) js)) (sym now)
+          ∙ ap (λ n. first_path (path_of_result c.in_ok-earliest_path.earliest_path) (first_duplicate_in_items n js)) next,
     )
 
 pub find_in_items-returns-clause-ok : goal.find_in_items-returns-clause-ok
@@ -68,7 +68,7 @@ find_in_items-returns-clause-ok t c =
       front no_items,
       items_ended (value c.args.depth) c.args.reader.now front l.reader l.invariant.1 c.take_end_array.new.self
           (grind arith),
-      sym (l.invariant.2 no_items ∙ or_none (path_of_result l.first)),
+      sym (l.invariant.2 no_items ∙ or_none (path_of_result l.earliest_path)),
     )
 
 pub find_in_items-returns-clause-shorter : goal.find_in_items-returns-clause-shorter
@@ -86,21 +86,21 @@ find_in_members-members-preserved t c =
     let l = c.members in
     let front = l.invariant.0 in
     let before = l.invariant.2 in
-    let key = c.in-Some.name in
+    let key = c.in-Some.member_key in
     let k = key.now in
     let s = c.next_key.new.self in
     let r = c.find_in_value.new.reader in
-    let j = c.in_ok-member.ensures.ok in
-    let v = path_of_result l.first in
+    let j = c.in_ok-path_in_value.ensures.ok in
+    let v = path_of_result l.earliest_path in
     let w = member_path (not (is_among before k)) k (first_duplicate j.0) in
     let named : read_key l.reader ≡ Some (Some k, s) = grind arith in
     let new = is_new l.keys key before c.in-Ok.is_new l.invariant.3 c.in-Ok.ensures.added in
-    let now : path_of_result c.in_ok-first.first ≡ first_path v w =
-    c.in_ok-first.ensures ∙ ap (λ x. first_path v (member_path c.in-Ok.is_new k x)) j.2
+    let now : path_of_result c.in_ok-earliest_path.earliest_path ≡ first_path v w =
+    c.in_ok-earliest_path.ensures ∙ ap (λ x. first_path v (member_path c.in-Ok.is_new k x)) j.2
     ∙ ap (λ b. first_path v (member_path b k (first_duplicate j.0))) new in (
       λ ms. front (member k j.0 ms),
       member_passed (value c.args.depth) c.args.reader.now front l.reader l.invariant.1 k s r j.0 named j.1
-          c.in_ok-member.ensures.shorter,
+          c.in_ok-path_in_value.ensures.shorter,
       k ∷ before,
       holds_more l.keys c.insert.new.self key before l.invariant.3 c.in-Ok.ensures.updates,
       λ ms. l.invariant.4 (member k j.0 ms) ∙ sym (or_or v w (first_duplicate_in_members (k ∷ before) ms))
@@ -114,7 +114,7 @@ find_in_members-returns-clause-ok t c =
       front no_members,
       members_ended (value c.args.depth) c.args.reader.now front l.reader l.invariant.1 c.next_key.new.self
           (grind arith),
-      sym (l.invariant.4 no_members ∙ or_none (path_of_result l.first)),
+      sym (l.invariant.4 no_members ∙ or_none (path_of_result l.earliest_path)),
     )
 
 pub find_in_members-returns-clause-shorter : goal.find_in_members-returns-clause-shorter
@@ -171,26 +171,26 @@ find_in_value-returns-in-EndObject-clause-broken t c =
     let first : c.args.reader.now ≡ token_of c.in_ok-token.token ∷ c.next.new.self = grind arith in
     λ broken. none_begins c.args.depth c.in_ok-token.token c.args.reader.now c.next.new.self first c.in-EndObject.is
 
-pub find_in_items-returns-in_err-item-clause-broken : goal.find_in_items-returns-in_err-item-clause-broken
-find_in_items-returns-in_err-item-clause-broken t c =
+pub find_in_items-returns-in_err-path_in_item-clause-broken : goal.find_in_items-returns-in_err-path_in_item-clause-broken
+find_in_items-returns-in_err-path_in_item-clause-broken t c =
     let l = c.items in
     let going : (after_end_array l.reader ≡ None) × (c.take_end_array.new.self ≡ l.reader) = grind arith in
     let p = err_from_is_err_and c.from_residual.result c.from_residual.ensures.1 in
     rw (p.1, p.2) (λ broken. items_broken (value c.args.depth) c.args.reader.now l.invariant.0 l.reader l.invariant.1
-    c.take_end_array.new.self going.0 going.1 (c.in_err-item.ensures.broken broken))
+    c.take_end_array.new.self going.0 going.1 (c.in_err-path_in_item.ensures.broken broken))
 
-pub find_in_members-returns-in_err-name-clause-broken : goal.find_in_members-returns-in_err-name-clause-broken
-find_in_members-returns-in_err-name-clause-broken t c =
+pub find_in_members-returns-in_err-member_key-clause-broken : goal.find_in_members-returns-in_err-member_key-clause-broken
+find_in_members-returns-in_err-member_key-clause-broken t c =
     let l = c.members in
     let p = err_from_is_err_and c.from_residual.result c.from_residual.ensures.1 in
     rw p.1 (λ broken. no_key (value c.args.depth) c.args.reader.now l.invariant.0 l.reader l.invariant.1 (grind arith))
 
-pub find_in_members-returns-in_err-member-clause-broken : goal.find_in_members-returns-in_err-member-clause-broken
-find_in_members-returns-in_err-member-clause-broken t c =
+pub find_in_members-returns-in_err-path_in_value-clause-broken : goal.find_in_members-returns-in_err-path_in_value-clause-broken
+find_in_members-returns-in_err-path_in_value-clause-broken t c =
     let l = c.members in
-    let k = c.in-Some.name.now in
+    let k = c.in-Some.member_key.now in
     let s = c.next_key.new.self in
     let named : read_key l.reader ≡ Some (Some k, s) = grind arith in
-    let p = err_from_is_err_and c.from_residual-in_err-member.result c.from_residual-in_err-member.ensures.1 in
+    let p = err_from_is_err_and c.from_residual-in_err-path_in_value.result c.from_residual-in_err-path_in_value.ensures.1 in
     rw (p.1, p.2) (λ broken. member_broken (value c.args.depth) c.args.reader.now l.invariant.0 l.reader l.invariant.1
-    k s named (c.in_err-member.ensures.broken broken))
+    k s named (c.in_err-path_in_value.ensures.broken broken))

@@ -18,51 +18,51 @@ spans-init c = record {
 
 pub slice_bounds-extend_from_slice-count : goal.slice_bounds-extend_from_slice-count
 slice_bounds-extend_from_slice-count c =
-    let w = within_left c.args.body.now c.args.spans.now.items c.spans.spans.items c.spans.at c.index.result.now
-    c.requires (grind arith) c.spans.invariant.left (drop-cons c.spans.spans.items c.spans.at c.index.result.now
-    (grind arith) ∙ ap (λ q. q ∷ drop (suc c.spans.at) c.spans.spans.items) (sym c.index.ensures)) in
+    let w = within_left c.args.body.now c.args.spans.now.items c.spans.spans.items c.spans.span_index c.index.result.now
+    c.requires (grind arith) c.spans.invariant.left (drop-cons c.spans.spans.items c.spans.span_index c.index.result.now
+    (grind arith) ∙ ap (λ q. q ∷ drop (suc c.spans.span_index) c.spans.spans.items) (sym c.index.ensures)) in
     omega (arith, w)
 
 pub slice_bounds-extend_from_slice-start : goal.slice_bounds-extend_from_slice-start
 slice_bounds-extend_from_slice-start c =
-    let w = within_left c.args.body.now c.args.spans.now.items c.spans.spans.items c.spans.at c.index.result.now
-    c.requires (grind arith) c.spans.invariant.left (drop-cons c.spans.spans.items c.spans.at c.index.result.now
-    (grind arith) ∙ ap (λ q. q ∷ drop (suc c.spans.at) c.spans.spans.items) (sym c.index.ensures)) in
+    let w = within_left c.args.body.now c.args.spans.now.items c.spans.spans.items c.spans.span_index c.index.result.now
+    c.requires (grind arith) c.spans.invariant.left (drop-cons c.spans.spans.items c.spans.span_index c.index.result.now
+    (grind arith) ∙ ap (λ q. q ∷ drop (suc c.spans.span_index) c.spans.spans.items) (sym c.index.ensures)) in
     grind (arith, w)
 
 pub slice_bounds-extend_from_slice-end : goal.slice_bounds-extend_from_slice-end
 slice_bounds-extend_from_slice-end c =
-    let w = within_left c.args.body.now c.args.spans.now.items c.spans.spans.items c.spans.at c.index.result.now
-    c.requires (grind arith) c.spans.invariant.left (drop-cons c.spans.spans.items c.spans.at c.index.result.now
-    (grind arith) ∙ ap (λ q. q ∷ drop (suc c.spans.at) c.spans.spans.items) (sym c.index.ensures)) in
+    let w = within_left c.args.body.now c.args.spans.now.items c.spans.spans.items c.spans.span_index c.index.result.now
+    c.requires (grind arith) c.spans.invariant.left (drop-cons c.spans.spans.items c.spans.span_index c.index.result.now
+    (grind arith) ∙ ap (λ q. q ∷ drop (suc c.spans.span_index) c.spans.spans.items) (sym c.index.ensures)) in
     grind (arith, w)
 
 pub spans-preserved : goal.spans-preserved
 spans-preserved c =
     let all = c.args.spans.now.items in
     let now = c.spans.spans.items in
-    let at = c.spans.at in
+    let span_index = c.spans.span_index in
     let p = c.index.result.now in
     let old = c.spans.text.items in
     let mid = c.put_comma.new.text.items in
     let later = c.extend_from_slice.new.self.items in
-    let less : at < length all = grind arith in
-    let q : MemberSpan = record { key = p.key; place = c.len-place.result; start = c.len-place.result; end = c.len.result } in
-    let first = next_left all now at p less c.spans.invariant.left
-    (drop-cons now at p (omega (arith, less, c.spans.invariant.long)) ∙ ap (λ r. r ∷ drop (suc at) now) (sym c.index.ensures)) in
-    let comma : mid ≡ old ++ comma_if (nat_lt 0 at) = grind arith in
+    let less : span_index < length all = grind arith in
+    let q : MemberSpan = record { key = p.key; offset_in_object = c.len-offset_in_object.result; start = c.len-offset_in_object.result; end = c.len.result } in
+    let first = next_left all now span_index p less c.spans.invariant.left
+    (drop-cons now span_index p (omega (arith, less, c.spans.invariant.long)) ∙ ap (λ r. r ∷ drop (suc span_index) now) (sym c.index.ensures)) in
+    let comma : mid ≡ old ++ comma_if (nat_lt 0 span_index) = grind arith in
     let text : later ≡ mid ++ member_span_text c.args.body.now p = grind arith in
-    let place : c.len-place.result ≡ length mid = grind arith in
+    let offset_in_object : c.len-offset_in_object.result ≡ length mid = grind arith in
     let end : c.len.result ≡ length later = grind arith in
     record {
       within = omega (arith, less);
-      long = length-set now at q ∙ c.spans.invariant.long;
-      left = drop-set-lt (at + 1) now at q (omega arith) ∙ first.1;
-      stand = λ values spans. span_joined c.args.body.now all now at p q values old mid later less first.0 spans
-          (c.spans.invariant.stand values spans) comma text refl refl place end c.spans.invariant.long;
+      long = length-set now span_index q ∙ c.spans.invariant.long;
+      left = drop-set-lt (span_index + 1) now span_index q (omega arith) ∙ first.1;
+      stand = λ values spans. span_joined c.args.body.now all now span_index p q values old mid later less first.0 spans
+          (c.spans.invariant.stand values spans) comma text refl refl offset_in_object end c.spans.invariant.long;
     }
 
 pub returns : goal.returns
 returns c = λ values spans.
-    all_taken c.args.spans.now.items c.spans.spans.items c.spans.at values c.spans.text.items (grind arith)
+    all_taken c.args.spans.now.items c.spans.spans.items c.spans.span_index values c.spans.text.items (grind arith)
     c.spans.invariant.long (c.spans.invariant.stand values spans)

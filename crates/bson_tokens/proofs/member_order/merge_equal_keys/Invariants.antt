@@ -8,9 +8,9 @@ abbrev pub invariant-spans : goal.invariant-spans
 invariant-spans l =
     let all = l.initial.spans.items in
     record {
-      kept : l.kept < l.at;
-      within : l.at ≤ length all;
+      merged_count : l.merged_count < l.span_index;
+      within : l.span_index ≤ length all;
       long : length l.spans.items ≡ length all;
-      left : drop l.at l.spans.items ≡ drop l.at all;
-      whole : take l.kept l.spans.items ++ merged_from member_span_key merge l.last (drop l.at all) ≡ merged member_span_key merge all;
+      left : drop l.span_index l.spans.items ≡ drop l.span_index all;
+      whole : take l.merged_count l.spans.items ++ merged_from member_span_key merge l.last_span (drop l.span_index all) ≡ merged member_span_key merge all;
     }

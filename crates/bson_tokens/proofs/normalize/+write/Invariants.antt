@@ -1,5 +1,5 @@
 use Rattle.std.proofs.Common.{◌≡◌, ◌+◌, ◌*◌, List, [], length}
-use Rattle.bson_tokens.specs.NormalizerStates.{JsonMember, elements, inside, item_numbers_in_range, member_numbers_in_range, if_valid}
+use Rattle.bson_tokens.specs.NormalizerStates.{JsonMember, array_rest, object_rest, item_numbers_in_range, member_numbers_in_range, if_valid}
 use Rattle.bson_tokens.proofs.Standing.{Grown}
 use Rattle.bson_tokens.proofs.Writing.{found, whole}
 use Rattle.bson_tokens.proofs.normalize.+write.Given as goal
@@ -13,25 +13,25 @@ decreases-write_items l = 2 * l.depth + 1
 abbrev pub decreases-write_members : goal.decreases-write_members
 decreases-write_members l = 2 * l.depth + 1
 
--- what is left, written behind what was written, is the whole
+-- what is left, written after what was written, is the whole
 abbrev pub invariant-write_items-items : goal.invariant-write_items-items
 invariant-write_items-items l = record {
-  arrangement : l.out.arrangement ≡ l.initial.out.arrangement;
-  whole : whole l.initial.out (if_valid item_numbers_in_range (elements l.depth l.initial.reader))
-      ≡ whole l.out (if_valid item_numbers_in_range (elements l.depth l.reader));
+  arrangement : l.normalizer.arrangement ≡ l.initial.normalizer.arrangement;
+  whole : whole l.initial.normalizer (if_valid item_numbers_in_range (array_rest l.depth l.initial.reader))
+      ≡ whole l.normalizer (if_valid item_numbers_in_range (array_rest l.depth l.reader));
 }
 
 abbrev pub decreases-write_items-items : goal.decreases-write_items-items
 decreases-write_items-items l = length l.reader
 
--- the members so far stand behind the start, and what is left, put to them, is the whole
+-- the members so far follow the start, and what is left, inserted into them, is the whole
 abbrev pub invariant-write_members-members : goal.invariant-write_members-members
 invariant-write_members-members l = record {
-  arrangement : l.out.arrangement ≡ l.initial.out.arrangement;
+  arrangement : l.normalizer.arrangement ≡ l.initial.normalizer.arrangement;
   entries : List JsonMember;
-  grown : Grown l.initial.out.text.items l.out.text.items l.out.needs_comma l.spans.items entries;
-  found : found l.out.arrangement [] (if_valid member_numbers_in_range (inside l.depth l.initial.reader))
-      ≡ found l.out.arrangement entries (if_valid member_numbers_in_range (inside l.depth l.reader));
+  grown : Grown l.initial.normalizer.text.items l.normalizer.text.items l.normalizer.needs_comma l.spans.items entries;
+  found : found l.normalizer.arrangement [] (if_valid member_numbers_in_range (object_rest l.depth l.initial.reader))
+      ≡ found l.normalizer.arrangement entries (if_valid member_numbers_in_range (object_rest l.depth l.reader));
 }
 
 abbrev pub decreases-write_members-members : goal.decreases-write_members-members

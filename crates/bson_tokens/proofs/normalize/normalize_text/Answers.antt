@@ -2,7 +2,7 @@ use Rattle.std.proofs.Common.{◌≡◌, [], arith, string_bytes}
 use Rattle.std.proofs.lemmas.Result.{IfErr-weaker, IfOk-weaker, err_from_is_err_and}
 use Rattle.json.specs.Lex.{tokens}
 use Rattle.serde_json.specs.Read.{read}
-use Rattle.bson_tokens.specs.ReadOutcomes.{InvalidIfNotRead}
+use Rattle.bson_tokens.specs.ReadOutcomes.{NothingReadIfInvalid}
 use Rattle.json.specs.declared.error.Error.TheVariants.{OutOfMemory}
 use Rattle.bson_tokens.specs.Normalized.{IsNormalizedText}
 use Rattle.bson_tokens.proofs.Ranged.{text_none}
@@ -21,14 +21,14 @@ pub returns-clause-ok : goal.returns-clause-ok
 returns-clause-ok c =
     let start : c.in_ok-reader.reader ≡ tokens c.args.text.now = grind arith in
     let left : c.write_value.new.reader ≡ [] = grind arith in
-    let first = c.in_ok-out.ensures in
-    IfOk-weaker c.into_text.result (λ s. string_bytes s ≡ c.write_value.new.out.text.items)
+    let first = c.in_ok-normalizer.ensures in
+    IfOk-weaker c.into_text.result (λ s. string_bytes s ≡ c.write_value.new.normalizer.text.items)
     (λ s. IsNormalizedText c.args.arrangement c.args.text.now (string_bytes s))
     (λ s is. text_normalized c.args.arrangement c.args.text.now (string_bytes s) c.in_ok-reader.reader
-    c.write_value.new.reader c.in_ok-out.out c.write_value.new.out start left first.arrangement first.first first.empty
+    c.write_value.new.reader c.in_ok-normalizer.normalizer c.write_value.new.normalizer start left first.arrangement first.no_comma_yet first.empty
     c.in_ok-write_value.ensures.ok is) c.into_text.ensures.bytes
 
 pub returns-clause-broken : goal.returns-clause-broken
 returns-clause-broken c =
-    IfErr-weaker c.into_text.result (λ e. e ≡ OutOfMemory) (InvalidIfNotRead (read c.args.text.now))
-    (λ e refused broken. absurd (unlike e refused broken)) c.into_text.ensures.refused
+    IfErr-weaker c.into_text.result (λ e. e ≡ OutOfMemory) (NothingReadIfInvalid (read c.args.text.now))
+    (λ e refused broken. absurd (unlike e refused broken)) c.into_text.ensures.out_of_memory

@@ -8,7 +8,7 @@ pub returns-then-begins_with_minus : goal.returns-then-begins_with_minus
 unfolding number_of
 returns-then-begins_with_minus c =
     let s = c.as_bytes-bytes.result.now in
-    let signed : (get_or s 0 0 == 45) ≡ true = sym c.if-begins_with_minus.ensures.value in
+    let signed : (get_or s 0 0 == 45) ≡ true = sym c.if-begins_with_minus.ensures.first_byte_is_minus in
     let parts : c.scan.result ≡ scan (drop 1 s) = c.scan.ensures.parts
     ∙ ap scan (take_all _ (drop 1 s) (omega (arith, length-drop 1 s))) in
     let read : number_from true (scan (drop 1 s)) ≡ number_of s = rw signed in
@@ -18,7 +18,7 @@ pub returns-else-begins_with_minus : goal.returns-else-begins_with_minus
 unfolding number_of
 returns-else-begins_with_minus c =
     let s = c.as_bytes-bytes.result.now in
-    let unsigned : (get_or s 0 0 == 45) ≡ false = sym c.if-begins_with_minus.ensures.value in
+    let unsigned : (get_or s 0 0 == 45) ≡ false = sym c.if-begins_with_minus.ensures.first_byte_is_minus in
     let read : number_from false (scan s) ≡ number_of s = rw unsigned in
     c.number_of_sign-else-begins_with_minus.ensures ∙ ap (number_from false)
     c.scan-else-begins_with_minus.ensures.parts ∙ read

@@ -26,8 +26,8 @@ returns-in-Some-clause-ok c =
 pub returns-in-Bool-clause-ok : goal.returns-in-Bool-clause-ok
 returns-in-Bool-clause-ok c =
     let first : c.args.reader.now ≡ token_of c.in_ok-token.token ∷ c.next.new.self = grind arith in
-    let is : c.args.reader.now ≡ Token.boolean c.in-Bool.b ∷ c.next.new.self = grind (arith, first) in
-    (json.boolean c.in-Bool.b, ap (value c.args.depth) is ∙ value_is c.args.depth _, refl)
+    let is : c.args.reader.now ≡ Token.boolean c.in-Bool.truth_value ∷ c.next.new.self = grind (arith, first) in
+    (json.boolean c.in-Bool.truth_value, ap (value c.args.depth) is ∙ value_is c.args.depth _, refl)
 
 pub returns-in-Null-clause-ok : goal.returns-in-Null-clause-ok
 returns-in-Null-clause-ok c =
@@ -64,7 +64,7 @@ returns-in-None-clause-broken c =
     let first : c.args.reader.now ≡ token_of c.in_ok-token.token ∷ r = grind arith in
     let is : c.args.reader.now ≡ Token.number c.in-Number.text.now ∷ r = grind (arith, first) in
     λ broken. ap (converted of_json) (ap (value c.args.depth) is ∙ value_is c.args.depth _)
-    ∙ ap (λ n. option_map (λ d. (d, r)) (option_map number n)) (sym c.in-None.ensures)
+    ∙ ap (λ json_number. option_map (λ d. (d, r)) (option_map number json_number)) (sym c.in-None.ensures)
 
 pub returns-in-EndObject-clause-broken : goal.returns-in-EndObject-clause-broken
 returns-in-EndObject-clause-broken c =

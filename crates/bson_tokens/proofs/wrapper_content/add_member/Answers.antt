@@ -2,7 +2,7 @@ use Rattle.std.proofs.Common.{◌≡◌, ◌<◌, ◌≤◌, length, option_map,
 use Rattle.serde_json.specs.Data.{put}
 use Rattle.serde_json.specs.View.{view, members_view}
 use Rattle.serde_json.proofs.Views.{members_view-insert_entry}
-use Rattle.bson_tokens.specs.WrapperContent.{at_most_two, member_added}
+use Rattle.bson_tokens.specs.WrapperContent.{at_most_two_members, member_added}
 use Rattle.bson_tokens.proofs.Pruned.{few_long, few_short}
 use Rattle.bson_tokens.proofs.wrapper_content.add_member.Goals as goal
 
@@ -16,7 +16,7 @@ returns-then-len-gt-MAX_KEYS c =
     ap members_view c.in_ok-insert.ensures.entries ∙ members_view-insert_entry c.in-Some.members.entries c.in_ok-from_str.field-0 v
     ∙ ap (λ l. put l (view v) (members_view c.in-Some.members.entries)) copied in
     let many : 2 < length es = grind arith in
-    sym (ap (λ f. member_added k (view v) (option_map (λ m. members_view m.entries) f)) c.in-Some.is ∙ ap at_most_two (sym is)
+    sym (ap (λ f. member_added k (view v) (option_map (λ m. members_view m.entries) f)) c.in-Some.is ∙ ap at_most_two_members (sym is)
     ∙ few_long es many)
 
 pub returns : goal.returns
@@ -29,5 +29,5 @@ returns c =
     ap members_view c.in_ok-insert.ensures.entries ∙ members_view-insert_entry c.in-Some.members.entries c.in_ok-from_str.field-0 v
     ∙ ap (λ l. put l (view v) (members_view c.in-Some.members.entries)) copied in
     let fit : length es ≤ 2 = grind arith in
-    sym (ap (λ f. member_added k (view v) (option_map (λ m. members_view m.entries) f)) c.in-Some.is ∙ ap at_most_two (sym is)
+    sym (ap (λ f. member_added k (view v) (option_map (λ m. members_view m.entries) f)) c.in-Some.is ∙ ap at_most_two_members (sym is)
     ∙ few_short es fit)

@@ -4,8 +4,8 @@ use Rattle.bson_tree.proofs.laws.places_in_each_mode.Goals as goal
 
 pub returns : goal.returns
 returns c = record {
-  nothing = λ D t. (has_fault D t, λ found. means_nothing D found.2);
-  read = λ D f t. (read_fault D t f, λ found. fault_to D found.1);
+  has_no_meaning = λ D t. (has_fault D t, λ found. means_nothing D found.2);
+  fault_is_read = λ D f t. (read_fault D t f, λ found. fault_to D found.1);
   fault = λ D f g t path other m n. one_fault D m n;
   path = λ D f g t path other m n. one_path D m n;
 }

@@ -7,11 +7,11 @@ use Rattle.bson_tree.proofs.walk.+walk.Given as goal
 abbrev pub invariant-read_items-loop-item : goal.invariant-read_items-loop-item
 invariant-read_items-loop-item g l = record {
   left : into_iter_len l.item-iterator ≡ length (into_iter_items l.item-iterator);
-  counted : l.at + length (into_iter_items l.item-iterator) ≡ length l.fn.items.items;
-  read : ItemsRead l.fn.doubles g.B.ValueBuilder.listed l.read l.at (items_view (into_iter_items l.item-iterator))
+  counted : l.item_index + length (into_iter_items l.item-iterator) ≡ length l.fn.items.items;
+  built_so_far : ItemsRead l.fn.doubles g.B.ValueBuilder.represents_items l.built_so_far l.item_index (items_view (into_iter_items l.item-iterator))
       (items_view l.fn.items.items);
 }
 
 abbrev pub invariant-read_members-loop-key : goal.invariant-read_members-loop-key
-invariant-read_members-loop-key g l = PairsRead l.fn.doubles g.B.ValueBuilder.paired l.read
+invariant-read_members-loop-key g l = PairsRead l.fn.doubles g.B.ValueBuilder.represents_pairs l.built_so_far
     (members_view l.key-iterator) (members_view l.fn.members.entries)

@@ -9,7 +9,7 @@ pub returns-in_ok-at_key-in-Err : goal.returns-in_ok-at_key-in-Err
 returns-in_ok-at_key-in-Err g c =
     let D = c.args.doubles in
     let found = c.in_ok-at_key-in-Err in
-    let is = c.in_ok-reason_of-in-Err.ensures
+    let is = c.in_ok-reason_of_error-in-Err.ensures
     (optional_wrapper_read_in D (wrapper_of c.as_str.result.now) (view c.args.value)) c.in-Err.ensures in
     lone_place D (string_bytes c.args.key) (view c.args.value) is.0 _ found.field-0 c.requires
     (ap (λ k. optional_wrapper_read_in D (wrapper_of k) (view c.args.value)) (sym c.as_str.ensures.value) ∙ is.1) is.2

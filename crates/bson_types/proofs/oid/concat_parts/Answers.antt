@@ -34,4 +34,4 @@ all a b c ha hb hc =
     four a _ ha ∙ ap (λ r. a ++ r) (five b _ hb ∙ ap (λ r. b ++ r) (three c hc)) ∙ sym (append_assoc a b c)
 
 pub returns : goal.returns
-returns c = all c.args.a.now c.args.b.now c.args.c.now c.requires.first c.requires.second c.requires.third
+returns c = all c.args.seconds.now c.args.process_id.now c.args.counter.now c.requires.seconds_len c.requires.process_id_len c.requires.counter_len

@@ -6,5 +6,5 @@ returns-clause-range c =
     let past : length c.args.items.now ≤ c.items.item-index = omega (arith, c.items-test.false) in
     let all : take c.items.item-index c.args.items.now ≡ c.args.items.now =
     take_all c.items.item-index c.args.items.now past in
-    let are = rw (c.as_slice.ensures.value, c.items.invariant, all) at c.are_bytes.ensures in
+    let are = rw (c.as_slice.ensures.value, c.items.invariant, all) at c.bytes_are_below_256.ensures in
     λ i. are (suc (suc i))

@@ -14,7 +14,7 @@ back (x ∷ xs) h =
     rw first (ap (λ ys. x ∷ ys) (back xs (λ i. h (suc i))))
 
 pub returns-in-Ok-clause-ok : goal.returns-in-Ok-clause-ok
-returns-in-Ok-clause-ok c = rw c.in-Ok.ensures (back c.args.contents.now c.type_inv.contents)
+returns-in-Ok-clause-ok c = rw c.in-Ok.ensures (back c.args.data.now c.type_inv.data)
 
 -- a signed form is in range
 signed : (xs : List ℕ) → ((i : ℕ) → Fits w8 (get_or xs i 0)) → AllByRecursion (FitsSigned w8) (map (cast_signed w8) xs)
@@ -22,4 +22,4 @@ signed [] h = tt
 signed (x ∷ xs) h = (sfits_to_z (h 0), signed xs (λ i. h (suc i)))
 
 pub returns-in-Ok-clause-range : goal.returns-in-Ok-clause-range
-returns-in-Ok-clause-range c = rw c.in-Ok.ensures (signed c.args.contents.now c.type_inv.contents)
+returns-in-Ok-clause-range c = rw c.in-Ok.ensures (signed c.args.data.now c.type_inv.data)

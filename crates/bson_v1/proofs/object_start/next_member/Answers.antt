@@ -10,8 +10,8 @@ returns-in_err-key-clause-broken c =
     let p = err_from_is_err_and c.from_residual.result c.from_residual.ensures.1 in
     rw p.1 (λ broken depth. no_key depth c.args.reader.now (grind arith))
 
-pub returns-in_err-first-clause-broken : goal.returns-in_err-first-clause-broken
-returns-in_err-first-clause-broken c =
+pub returns-in_err-first_token-clause-broken : goal.returns-in_err-first_token-clause-broken
+returns-in_err-first_token-clause-broken c =
     let named : read_key c.args.reader.now ≡ Some (Some c.in-Some.key.now, []) = grind arith in
-    let p = err_from_is_err_and c.from_residual-in_err-first.result c.from_residual-in_err-first.ensures.1 in
+    let p = err_from_is_err_and c.from_residual-in_err-first_token.result c.from_residual-in_err-first_token.ensures.1 in
     rw p.1 (λ broken depth. no_member depth c.in-Some.key.now c.args.reader.now [] named (value_is depth []))

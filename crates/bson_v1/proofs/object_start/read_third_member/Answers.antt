@@ -15,5 +15,5 @@ returns-in_default-clause-ok c =
 
 pub returns-clause-ok : goal.returns-clause-ok
 returns-clause-ok c =
-    open_next c.args.leading c.in-Some.key c.in-Some.first c.args.reader.now c.next_member.new.reader
-    c.in_ok-key.field-0 c.in-Some.is (two_open c.args.leading c.in-Some.first c.requires) c.in_ok-key.ensures.ok
+    open_next c.args.leading c.in-Some.key c.in-Some.first_token c.args.reader.now c.next_member.new.reader
+    c.in_ok-key.field-0 c.in-Some.is (two_open c.args.leading c.in-Some.first_token c.requires) c.in_ok-key.ensures.ok

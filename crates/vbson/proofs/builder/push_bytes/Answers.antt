@@ -14,6 +14,6 @@ returns-clause-push_bytes c =
       fits = c.requires;
       written_bytes = take-put_mid n k xs ys (n + length c.args.bytes.now) (omega (arith, long)) (omega (arith, c.requires)) ∙ ap (λ (x : List ℕ). take n xs ++ x) c.copy_from_slice.ensures.after;
       len = refl;
-      rest = drop-put_mid n k xs ys (n + length c.args.bytes.now) (omega arith) (omega (arith, c.requires)) (omega (arith, long));
+      rest_unchanged = drop-put_mid n k xs ys (n + length c.args.bytes.now) (omega arith) (omega (arith, c.requires)) (omega (arith, long));
       size = same_len_mid n k xs ys c.copy_from_slice.ensures.len;
     }

@@ -4,7 +4,7 @@ use Rattle.vbson.proofs.comparison.vbson_hash_document_nonnull.Goals as goal
 
 pub returns-in-Ok-clause-accepts : goal.returns-in-Ok-clause-accepts
 returns-in-Ok-clause-accepts c v x =
-    inl (refl, c.hash_of.ensures.hash ∙ ap hash_of (sym (c.in-Ok.ensures.one v x)))
+    inl (refl, c.hash_of.ensures.hash ∙ ap hash_of (sym (c.in-Ok.ensures.unique_value v x)))
 
 pub returns-in-Err-clause-accepts : goal.returns-in-Err-clause-accepts
 returns-in-Err-clause-accepts c v x = inr (inr (c.in-Err.ensures.rejected.accepts v x))

@@ -12,9 +12,9 @@ returns-in-Err-clause-no_document c ten = inl (c.in-Err.ensures.rejected.no_docu
 
 pub returns-in-Ok-value_of_document-clause-accepts : goal.returns-in-Ok-value_of_document-clause-accepts
 returns-in-Ok-value_of_document-clause-accepts c v w x y =
-    let left : v ≡ bson_view c.in-Ok.document = c.in-Ok.ensures.one v x in
-    let right : w ≡ bson_view c.in-Ok-value_of_document.right = c.in-Ok-value_of_document.ensures.one w y in
-    inl (c.compare.ensures ∙ ap₂ (λ p q. comparison_status (same p q)) (sym left) (sym right))
+    let left_bson : v ≡ bson_view c.in-Ok.document = c.in-Ok.ensures.unique_value v x in
+    let right_bson : w ≡ bson_view c.in-Ok-value_of_document.right_bson = c.in-Ok-value_of_document.ensures.unique_value w y in
+    inl (c.compare_values.ensures ∙ ap₂ (λ p q. comparison_status (same p q)) (sym left_bson) (sym right_bson))
 
 pub returns-clause-accepts : goal.returns-clause-accepts
 returns-clause-accepts c v w x y = inr (inr (c.in-Err-value_of_document.ensures.rejected.accepts w y))

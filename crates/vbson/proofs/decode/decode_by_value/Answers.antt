@@ -2,7 +2,7 @@ use Rattle.std.proofs.Common.{◌⊎◌, ◌≡◌}
 use Rattle.std.proofs.lemmas.Result.{IfErr-weaker}
 use Rattle.bson.specs.View.{document_view}
 use Rattle.vbson.proofs.Decoding.{no_document, undecoded}
-use Rattle.vbson.specs.Documents.{HasNoTextIn, IsDecodeFailure}
+use Rattle.vbson.specs.Documents.{PairsHaveNoTextIn, IsDecodeFailure}
 use Rattle.vbson.proofs.decode.decode_by_value.Goals as goal
 
 pub returns-in-Ok-clause-error_status : goal.returns-in-Ok-clause-error_status
@@ -10,7 +10,7 @@ returns-in-Ok-clause-error_status c =
     let o = c.args.options in
     let mode = c.args.mode in
     let ps = document_view c.in-Ok.document in
-    IfErr-weaker c.write_document.result (λ status. (status ≡ 5) ⊎ ((status ≡ 7) × HasNoTextIn o mode ps))
+    IfErr-weaker c.write_document.result (λ status. (status ≡ 5) ⊎ ((status ≡ 7) × PairsHaveNoTextIn o mode ps))
     (λ status. IsDecodeFailure o mode status c.args.bytes.now)
     (λ status h. undecoded o mode status c.args.bytes.now ps c.in-Ok.ensures.ok
     (λ qs read. (c.in-Ok.ensures.only qs read).0) h)

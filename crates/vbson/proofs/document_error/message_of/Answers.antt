@@ -23,10 +23,10 @@ returns-in-Malformed c =
     let found = c.reason_of-description.result.now in
     let description : found ≡ fault_kind_message k = c.reason_of-description.ensures ∙ ap finding_reason c.in-Malformed.is in
     let made : finding_message f ≡ malformed_message n (fault_kind_message k) = ap finding_message c.in-Malformed.is in
-    IfOk-weaker c.line_at.result (λ line. IsUtf8 (malformed_message n found) × (line.items ≡ malformed_message n found ++ newline))
+    IfOk-weaker c.malformed_line.result (λ line. IsUtf8 (malformed_message n found) × (line.items ≡ malformed_message n found ++ newline))
     (λ line. IsUtf8 (finding_message f) × (line.items ≡ finding_message f ++ newline))
     (λ line h. subst (λ (m : List ℕ). IsUtf8 m × (line.items ≡ m ++ newline)) (ap (malformed_message n) description ∙ sym made) h)
-    c.line_at.ensures
+    c.malformed_line.ensures
 
 pub returns-in-FiniteDouble : goal.returns-in-FiniteDouble
 returns-in-FiniteDouble c =

@@ -5,14 +5,14 @@ use Rattle.vbson.proofs.dump.vbson_decode_documents_nonnull.Goals as goal
 pub returns-clause-success : goal.returns-clause-success
 returns-clause-success c = λ success.
     let output = c.in-Some-decode_block.output in
-    let (text, diagnostics, gives, written, reported) = c.in-Some-decode_block.ensures in
-    let utf8 = gives_utf8 _ c.args.block.now text diagnostics output.documents output.consumed gives in
+    let (text, diagnostics, is_output, written, reported) = c.in-Some-decode_block.ensures in
+    let utf8 = gives_utf8 _ c.args.block.now text diagnostics output.documents output.consumed is_output in
     record {
       mode = c.in-Some.mode;
       mode_selected = search rules;
       text = text;
       diagnostics = diagnostics;
-      gives = search rules;
+      is_output = search rules;
       utf8 = utf8.0;
       diagnostic_utf8 = utf8.1;
       is_text = of_line text output.text.items c.text_of_line.result written c.text_of_line.ensures;

@@ -14,16 +14,16 @@ returns-in-Ok-clause-error_report c =
     let o = c.args.options in
     let text = c.args.text.now in
     let h = c.in-Ok.ensures.ok in
-    IfOk-weaker c.accepted.result (λ (out : Rejection). ReportsExplanation [] Other [] out) (λ (out : Rejection). ExplainsWithoutPreprocessing o text out)
-    (λ out says. inl ((h.value, record { tree = h.tree; text = h.text; meaning = h.meaning }), says)) c.accepted.ensures.error_report
+    IfOk-weaker c.empty_rejection.result (λ (out : Rejection). ReportsExplanation [] Other [] out) (λ (out : Rejection). ExplainsWithoutPreprocessing o text out)
+    (λ out says. inl ((h.value, record { tree = h.tree; text = h.text; meaning = h.meaning }), says)) c.empty_rejection.ensures.error_report
 
 pub returns-in-Ok-clause-too_long : goal.returns-in-Ok-clause-too_long
 returns-in-Ok-clause-too_long c =
     let o = c.args.options in
     let text = c.args.text.now in
-    IfErr-weaker c.accepted.result (λ (e : PathError). e ≡ sizes.OutOfMemory)
+    IfErr-weaker c.empty_rejection.result (λ (e : PathError). e ≡ sizes.OutOfMemory)
     (λ (e : PathError). IsUnexplained e (λ fault. IsRejectedIn o fault text)) (λ e is reported. absurd (reported is))
-    c.accepted.ensures.memory
+    c.empty_rejection.ensures.memory
 
 -- the arm before this one is that of running out of memory
 reported : (c : goal.Joined-fault) → c.in-Err.fault ≡ OutOfMemory → ⊥
@@ -34,14 +34,14 @@ returns-clause-error_report c =
     let o = c.args.options in
     let text = c.args.text.now in
     let fault = c.in-Err.fault in
-    IfOk-weaker c.rejected.result (λ (out : Rejection). ExplainsError text fault out) (λ (out : Rejection). ExplainsWithoutPreprocessing o text out)
-    (λ out is. inr (fault, c.in-Err.ensures.fault, reported c, is)) c.rejected.ensures.error_report
+    IfOk-weaker c.rejection_of_error.result (λ (out : Rejection). ExplainsError text fault out) (λ (out : Rejection). ExplainsWithoutPreprocessing o text out)
+    (λ out is. inr (fault, c.in-Err.ensures.fault, reported c, is)) c.rejection_of_error.ensures.error_report
 
 pub returns-clause-too_long : goal.returns-clause-too_long
 returns-clause-too_long c =
     let o = c.args.options in
     let text = c.args.text.now in
     let fault = c.in-Err.fault in
-    IfErr-weaker c.rejected.result (λ (e : PathError). e ≢ sizes.OutOfMemory → HasTooLongPath fault)
+    IfErr-weaker c.rejection_of_error.result (λ (e : PathError). e ≢ sizes.OutOfMemory → HasTooLongPath fault)
     (λ (e : PathError). IsUnexplained e (λ f. IsRejectedIn o f text))
-    (λ e too_long some. (fault, c.in-Err.ensures.fault, too_long some)) c.rejected.ensures.too_long
+    (λ e too_long some. (fault, c.in-Err.ensures.fault, too_long some)) c.rejection_of_error.ensures.too_long

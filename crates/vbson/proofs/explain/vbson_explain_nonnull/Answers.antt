@@ -6,4 +6,4 @@ returns-clause-accepted c = λ success zero. accepted_from c.args.options.now c.
 
 pub returns-clause-accepts : goal.returns-clause-accepts
 returns-clause-accepts c = λ value means success.
-    accepts_from c.one_double.ensures.twice c.args.options.now c.args.text.now c.in-Ok.rejection value means c.in-Ok.ensures.error_report
+    accepts_from c.one_duplicate_path.ensures.has_duplicate_key c.args.options.now c.args.text.now c.in-Ok.rejection value means c.in-Ok.ensures.error_report

@@ -10,8 +10,8 @@ status_of-requires c =
     let bytes = c.args.bytes.now in
     of_refused o c.error_of.result bytes (c.error_of.ensures.cause o bytes c.in-Err.ensures.fault)
 
-pub returns-in-Ok-clause-one : goal.returns-in-Ok-clause-one
-returns-in-Ok-clause-one c value means =
+pub returns-in-Ok-clause-unique_value : goal.returns-in-Ok-clause-unique_value
+returns-in-Ok-clause-unique_value c value means =
     one_meaning c.args.options.doubles c.args.bytes.now value (bson_view c.in-Ok.value) means c.in-Ok.ensures.ok
 
 pub returns-in-Err-clause-rejected : goal.returns-in-Err-clause-rejected

@@ -10,17 +10,17 @@ returns-in-Ok-clause-ok c =
     let f = c.args.form in
     let bytes = c.args.bytes.now in
     let text = string_bytes c.in-Ok.text in
-    IfOk-weaker c.end_line.result (λ line. IsUtf8 text × (line.items ≡ text ++ newline))
+    IfOk-weaker c.line_of_text.result (λ line. IsUtf8 text × (line.items ≡ text ++ newline))
     (λ line. (text : List ℕ) × IsDocumentTextOf f depth bytes text × IsUtf8 text × (line.items ≡ text ++ newline))
     (λ line is. (text, c.in-Ok.ensures.ok, is.0, is.1))
-    c.end_line.ensures.ok
+    c.line_of_text.ensures.ok
 
 pub returns-in-Ok-clause-error_status : goal.returns-in-Ok-clause-error_status
 returns-in-Ok-clause-error_status c =
-    IfErr-weaker c.end_line.result (λ status. status ≡ 5)
+    IfErr-weaker c.line_of_text.result (λ status. status ≡ 5)
     (λ status. (status ≡ 5) ⊎ ((status ≡ 10) × (IsOneDocument c.args.bytes.now → ⊥)))
     (λ status five. inl five)
-    c.end_line.ensures.error_status
+    c.line_of_text.ensures.error_status
 
 -- reading gave a fault, and did not run out of memory
 pub returns-in-Err-Malformed-clause-error_status : goal.returns-in-Err-Malformed-clause-error_status

@@ -4,4 +4,4 @@ use Rattle.bson.proofs.bson.Bson.eq_ordered.Goals as goal
 
 pub returns : goal.returns
 returns c =
-    (λ h. order_to _ _ (sym c.values_in_order.ensures ∙ h), λ e. c.values_in_order.ensures ∙ order_from _ _ e)
+    (λ h. order_to _ _ (sym c.same_values_in_order.ensures ∙ h), λ e. c.same_values_in_order.ensures ∙ order_from _ _ e)

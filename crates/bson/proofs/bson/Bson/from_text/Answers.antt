@@ -4,19 +4,19 @@ use Rattle.bson.proofs.Meant.{ranged_by, back_by, accepted_by}
 use Rattle.bson.proofs.bson.Bson.from_text.Goals as goal
 
 pub returns-clause-accepts : goal.returns-clause-accepts
-returns-clause-accepts c = accepted c.args.options.doubles c.args.bytes.now c.read_by.result c.read_by.ensures.fault
+returns-clause-accepts c = accepted c.args.options.doubles c.args.bytes.now c.read_text.result c.read_text.ensures.fault
 
-pub returns-clause-accepts_by : goal.returns-clause-accepts_by
-returns-clause-accepts_by c =
-    accepted_by c.args.options.doubles bson_view c.args.bytes.now c.args.options.key_order c.read_by.result
-    c.read_by.ensures.fault
+pub returns-clause-accepts_in_key_order : goal.returns-clause-accepts_in_key_order
+returns-clause-accepts_in_key_order c =
+    accepted_by c.args.options.doubles bson_view c.args.bytes.now c.args.options.key_order c.read_text.result
+    c.read_text.ensures.fault
 
-pub returns-clause-ranged : goal.returns-clause-ranged
-returns-clause-ranged c =
-    ranged_by c.args.options.doubles bson_view c.args.bytes.now c.args.options.key_order c.read_by.result
-    c.read_by.ensures.ok
+pub returns-clause-within_type_range : goal.returns-clause-within_type_range
+returns-clause-within_type_range c =
+    ranged_by c.args.options.doubles bson_view c.args.bytes.now c.args.options.key_order c.read_text.result
+    c.read_text.ensures.ok
 
-pub returns-clause-comes_back : goal.returns-clause-comes_back
-returns-clause-comes_back c =
-    back_by c.args.options.doubles bson_view c.args.bytes.now c.args.options.key_order c.read_by.result
-    c.read_by.ensures.ok
+pub returns-clause-round_trips : goal.returns-clause-round_trips
+returns-clause-round_trips c =
+    back_by c.args.options.doubles bson_view c.args.bytes.now c.args.options.key_order c.read_text.result
+    c.read_text.ensures.ok

@@ -7,7 +7,7 @@ use Rattle.bson.proofs.bson.Bson.into_extjson.Goals as goal
 pub returns-clause-tree : goal.returns-clause-tree
 returns-clause-tree c =
     let v = bson_view c.args.self in
-    write_both_in c.args.doubles c.args.form view v c.write.result _ c.write.ensures.written c.write.ensures.ranged
+    write_both_in c.args.doubles c.args.form view v c.write.result _ c.write.ensures.written c.write.ensures.within_type_range
     (λ t h r. tree_is_in c.args.doubles c.args.form v (view t) h r)
 
 pub returns-clause-idempotent : goal.returns-clause-idempotent
@@ -26,5 +26,5 @@ returns-clause-finite c =
 pub returns-clause-reads_again : goal.returns-clause-reads_again
 returns-clause-reads_again c =
     let v = bson_view c.args.self in
-    write_both_in c.args.doubles c.args.form view v c.write.result _ c.write.ensures.written c.write.ensures.ranged
+    write_both_in c.args.doubles c.args.form view v c.write.result _ c.write.ensures.written c.write.ensures.within_type_range
     (λ t h r p. has_text_in c.args.doubles c.args.form v (view t) h p r)

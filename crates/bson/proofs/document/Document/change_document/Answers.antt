@@ -16,7 +16,7 @@ returns-in-Some-as_document_mut-clause-changed g c =
       refl,
     )
 
--- a value of another kind stays: it is put again as it was
+-- a value of another kind stays: it is written again as it was
 pub returns-in-None-as_document_mut-clause-refused : goal.returns-in-None-as_document_mut-clause-refused
 returns-in-None-as_document_mut-clause-refused g c =
     let there : get c.args.key.now c.args.self.now.pairs ≡ Some c.in-Some.value.now = sym c.in-Some.ensures.value in

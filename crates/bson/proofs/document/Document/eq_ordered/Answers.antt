@@ -4,4 +4,4 @@ use Rattle.bson.proofs.document.Document.eq_ordered.Goals as goal
 
 pub returns : goal.returns
 returns c =
-    (λ h. pairs_to _ _ (sym c.documents_in_order.ensures ∙ h), λ e. c.documents_in_order.ensures ∙ pairs_from _ _ e)
+    (λ h. pairs_to _ _ (sym c.same_documents_in_order.ensures ∙ h), λ e. c.same_documents_in_order.ensures ∙ pairs_from _ _ e)

@@ -6,18 +6,18 @@ use Rattle.bson.proofs.document.Document.try_from_map.Goals as goal
 pub returns-clause-ok : goal.returns-clause-ok
 returns-clause-ok c =
     (document_read document_view
-    (members_view c.args.map.entries) c.read_members.result c.read_members.ensures.given).ok
+    (members_view c.args.map.entries) c.read_members.result c.read_members.ensures.read_result).ok
 
 pub returns-clause-accepts : goal.returns-clause-accepts
 returns-clause-accepts c =
     (document_read document_view
-    (members_view c.args.map.entries) c.read_members.result c.read_members.ensures.given).accepts
+    (members_view c.args.map.entries) c.read_members.result c.read_members.ensures.read_result).accepts
 
 pub returns-clause-fault : goal.returns-clause-fault
 returns-clause-fault c =
     (document_read document_view
-    (members_view c.args.map.entries) c.read_members.result c.read_members.ensures.given).fault
+    (members_view c.args.map.entries) c.read_members.result c.read_members.ensures.read_result).fault
 
 pub returns-clause-ascends : goal.returns-clause-ascends
 returns-clause-ascends c = document_read_ascends document_view (members_view c.args.map.entries) c.read_members.result
-    c.read_members.ensures.given c.ascending.ensures
+    c.read_members.ensures.read_result c.keys_ascend.ensures

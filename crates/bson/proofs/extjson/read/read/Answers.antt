@@ -1,6 +1,6 @@
 use Rattle.serde_json.specs.View.{view}
-use Rattle.bson_model.specs.Normal.{InRange}
-use Rattle.bson_model.specs.Reading.{reads_in}
+use Rattle.bson_model.specs.Normal.{NumbersInRange}
+use Rattle.bson_model.specs.Reading.{reads_tree_in}
 use Rattle.bson_tree.specs.Place.{FaultAtIn}
 use Rattle.bson_tree.proofs.Offered.{fault_to}
 use Rattle.bson.specs.View.{bson_view}
@@ -10,17 +10,17 @@ use Rattle.bson.proofs.extjson.read.read.Goals as goal
 pub returns-in-Ok : goal.returns-in-Ok
 returns-in-Ok c =
     let t = view c.args.value in
-    let given = value_given bson_view (λ b. InRange (bson_view b)) (reads_in c.args.doubles t)
+    let read_result = value_given bson_view (λ b. NumbersInRange (bson_view b)) (reads_tree_in c.args.doubles t)
     (λ f. FaultAtIn c.args.doubles f t) c.in_ok-value.field-0 c.in_ok-value.ensures c.in-Ok.value c.in-Ok.is in
-    record { given = given.0; ranged = given.1 }
+    record { read_result = read_result.0; within_type_range = read_result.1 }
 
 pub returns-in-Err : goal.returns-in-Err
 returns-in-Err c =
     let t = view c.args.value in
     record {
-      given =
-          fault_given bson_view (λ b. InRange (bson_view b)) (reads_in c.args.doubles t)
+      read_result =
+          fault_given bson_view (λ b. NumbersInRange (bson_view b)) (reads_tree_in c.args.doubles t)
           (λ f. FaultAtIn c.args.doubles f t) c.in_ok-value.field-0 c.in_ok-value.ensures c.in-Err.place
           c.error_of.result c.in-Err.is c.error_of.ensures (λ f path. fault_to c.args.doubles);
-      ranged = tt;
+      within_type_range = tt;
     }

@@ -1,10 +1,10 @@
 use Rattle.std.proofs.Common.{◌≡◌, ℕ, List, Result, drop}
 use Rattle.json.specs.Token.{Token}
-use Rattle.bson_scalar.specs.Written.{Stops}
+use Rattle.bson_scalar.specs.Written.{IsWriteFailureOf}
 use Rattle.bson_scalar.specs.declared.write_error.WriteError.{WriteError}
 use Rattle.bson_model.specs.Normal.{ItemsInRange, PairsInRange}
 use Rattle.bson_model.specs.DistinctKeys.{AllKeysDistinct, ItemKeysDistinct, PairKeysDistinct}
-use Rattle.bson.specs.KeyOrders.{writes_by, writes_items_by, writes_pairs_by, EachValue}
+use Rattle.bson.specs.KeyOrders.{writes_in_key_order, writes_items_in_key_order, writes_pairs_in_key_order, EachValueSatisfies}
 use Rattle.bson.specs.Texts.{writes_each_pair}
 use Rattle.bson.specs.View.{values_view, pairs_view}
 use Rattle.bson.proofs.Printed.{EndsItems, EndsMembers}
@@ -17,31 +17,31 @@ invariant-print_items-loop-item l =
     let all = values_view l.item-items in
     let left = values_view (drop l.item-index l.item-items) in
     record {
-      before : l.out.before ≡ l.initial.out.before;
+      before : l.writer.before ≡ l.initial.writer.before;
       ends : (end : List Token)
-          → EndsItems (writes_items_by l.fn.order l.fn.doubles l.fn.form left) l.out.tokens end
-          → EndsItems (writes_items_by l.fn.order l.fn.doubles l.fn.form all) l.initial.out.tokens end;
-      stops : (e : WriteError) → Stops e (writes_items_by l.fn.order l.fn.doubles l.fn.form left)
-          → Stops e (writes_items_by l.fn.order l.fn.doubles l.fn.form all);
-      room : (r : Result (Unit {0}) WriteError) (end : ℕ) → ValuesCost l.fn.doubles l.fn.form left r l.out.spare end
-          → ValuesCost l.fn.doubles l.fn.form all r l.initial.out.spare end;
-      ranged : ItemsInRange left → ItemsInRange all;
+          → EndsItems (writes_items_in_key_order l.fn.key_order l.fn.doubles l.fn.form left) l.writer.tokens end
+          → EndsItems (writes_items_in_key_order l.fn.key_order l.fn.doubles l.fn.form all) l.initial.writer.tokens end;
+      stops : (e : WriteError) → IsWriteFailureOf e (writes_items_in_key_order l.fn.key_order l.fn.doubles l.fn.form left)
+          → IsWriteFailureOf e (writes_items_in_key_order l.fn.key_order l.fn.doubles l.fn.form all);
+      room : (r : Result (Unit {0}) WriteError) (end : ℕ) → ValuesCost l.fn.doubles l.fn.form left r l.writer.spare end
+          → ValuesCost l.fn.doubles l.fn.form all r l.initial.writer.spare end;
+      within_type_range : ItemsInRange left → ItemsInRange all;
       distinct : ItemKeysDistinct left → ItemKeysDistinct all;
     }
 
 abbrev pub invariant-print_document-pairs : goal.invariant-print_document-pairs
 invariant-print_document-pairs l =
-    let w = writes_by l.fn.order l.fn.doubles l.fn.form in
-    let whole = writes_pairs_by l.fn.order l.fn.doubles l.fn.form (pairs_view l.document.pairs) in
+    let w = writes_in_key_order l.fn.key_order l.fn.doubles l.fn.form in
+    let whole = writes_pairs_in_key_order l.fn.key_order l.fn.doubles l.fn.form (pairs_view l.document.pairs) in
     let left = pairs_view l.key-iterator in
     record {
-      before : l.out.before ≡ l.initial.out.before;
-      ends : (end : List Token) → EndsMembers (writes_each_pair w left) l.out.tokens end
-          → EndsMembers whole l.initial.out.tokens end;
-      stops : (e : WriteError) → Stops e (writes_each_pair w left) → Stops e whole;
-      room : (r : Result (Unit {0}) WriteError) (end : ℕ) → PairsCost l.fn.doubles l.fn.form left r l.out.spare end
-          → PairsCost l.fn.doubles l.fn.form (pairs_view l.document.pairs) r l.initial.out.spare end;
-      ranged : PairsInRange left → PairsInRange (pairs_view l.document.pairs);
-      distinct : EachValue AllKeysDistinct left → PairKeysDistinct (pairs_view l.document.pairs);
+      before : l.writer.before ≡ l.initial.writer.before;
+      ends : (end : List Token) → EndsMembers (writes_each_pair w left) l.writer.tokens end
+          → EndsMembers whole l.initial.writer.tokens end;
+      stops : (e : WriteError) → IsWriteFailureOf e (writes_each_pair w left) → IsWriteFailureOf e whole;
+      room : (r : Result (Unit {0}) WriteError) (end : ℕ) → PairsCost l.fn.doubles l.fn.form left r l.writer.spare end
+          → PairsCost l.fn.doubles l.fn.form (pairs_view l.document.pairs) r l.initial.writer.spare end;
+      within_type_range : PairsInRange left → PairsInRange (pairs_view l.document.pairs);
+      distinct : EachValueSatisfies AllKeysDistinct left → PairKeysDistinct (pairs_view l.document.pairs);
       larger : NoLarger l.key-iterator l.document;
     }

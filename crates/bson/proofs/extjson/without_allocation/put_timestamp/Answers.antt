@@ -6,7 +6,7 @@ use Rattle.bson.proofs.extjson.without_allocation.put_timestamp.Goals as goal
 
 pub returns-clause-put : goal.returns-clause-put
 returns-clause-put c =
-    let old = c.args.out.now.tokens in
+    let old = c.args.writer.now.tokens in
     let name = key (codes "$timestamp") in
     let i = number (decimal c.args.timestamp.increment) in
     let t = number (decimal c.args.timestamp.time) in

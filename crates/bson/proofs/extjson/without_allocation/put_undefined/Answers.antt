@@ -6,7 +6,7 @@ use Rattle.bson.proofs.extjson.without_allocation.put_undefined.Goals as goal
 
 pub returns-clause-put : goal.returns-clause-put
 returns-clause-put c =
-    let old = c.args.out.now.tokens in
+    let old = c.args.writer.now.tokens in
     let name = key (codes "$undefined") in
     let two = then old (begin_object ∷ []) c.begin_object.new.self.tokens c.key.new.self.tokens name
     c.in_ok-begin_object.ensures.ok c.in_ok-key.ensures.ok in

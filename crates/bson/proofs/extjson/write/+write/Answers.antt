@@ -28,7 +28,7 @@ write_pairs-loop-key-init t c =
           (λ i. onto_members c.args.doubles c.args.form (start i) (members_view (none i)))
           ∙ onto_members-start c.args.doubles c.args.form all c.into_pairs-key-items.ensures.distinct
           ∙ ap (writes_pairs_in c.args.doubles c.args.form) (sym (document_view-pairs c.args.document));
-      ranged =
+      within_type_range =
           λ h. subst PairsInRange (sym (document_view-pairs c.args.document))
           (subst (λ (xs : List Entry). PairsInRange (pairs_view xs)) start h);
     }
@@ -51,9 +51,9 @@ write_pairs-loop-key-preserved t c =
           ap (onto_members c.args.doubles c.args.form c.next.new.self) put_there
           ∙ members_step c.args.doubles c.args.form c.next.new.self x
           (view c.in_ok-written.written) ms total c.in_ok-written.ensures.written now;
-      ranged =
-          λ h. c.loop-key.invariant.ranged
-          (subst (λ (xs : List Entry). PairsInRange (pairs_view xs)) (sym steps) (c.in_ok-written.ensures.ranged, h));
+      within_type_range =
+          λ h. c.loop-key.invariant.within_type_range
+          (subst (λ (xs : List Entry). PairsInRange (pairs_view xs)) (sym steps) (c.in_ok-written.ensures.within_type_range, h));
     }
 
 pub write_items-returns-in_err-write-clause-written : goal.write_items-returns-in_err-write-clause-written
@@ -93,9 +93,9 @@ write_items-loop-value-preserved t c =
           (values_view (into_iter_items c.next.new.self)))) pushed
           ∙ items_step c.args.doubles c.args.form done (bson_view c.in-Some.value) (view c.in_ok-write.field-0)
           (values_view (into_iter_items c.next.new.self)) total c.in_ok-write.ensures.written now;
-      ranged =
-          λ h. c.loop-value.invariant.ranged
-          (subst (λ (xs : List Bson). ItemsInRange (values_view xs)) (sym steps) (c.in_ok-write.ensures.ranged, h));
+      within_type_range =
+          λ h. c.loop-value.invariant.within_type_range
+          (subst (λ (xs : List Bson). ItemsInRange (values_view xs)) (sym steps) (c.in_ok-write.ensures.within_type_range, h));
     }
 
 pub write_items-returns-clause-written : goal.write_items-returns-clause-written
@@ -111,8 +111,8 @@ write_items-returns-clause-written t c =
     at.invariant.written in
     sym now ∙ onto_items-ok done
 
-pub write-returns-in_ok-scalar-in_default-clause-every :
-    goal.write-returns-in_ok-scalar-in_default-clause-every
-write-returns-in_ok-scalar-in_default-clause-every t c =
+pub write-returns-in_ok-scalar-in_default-clause-possible_errors :
+    goal.write-returns-in_ok-scalar-in_default-clause-possible_errors
+write-returns-in_ok-scalar-in_default-clause-possible_errors t c =
     written_stopped c.args.doubles c.args.form (scalar_view c.in_ok-scalar-in_default.scalar) view c.write_scalar_in.result
     c.can_be_written.ensures c.write_scalar_in.ensures.written

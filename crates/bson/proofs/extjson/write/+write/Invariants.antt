@@ -14,7 +14,7 @@ invariant-write_items-loop-value l = record {
   written : onto_items (map view l.items.items)
       (writes_items_in l.fn.doubles l.fn.form (values_view (into_iter_items l.value-iterator)))
       ≡ writes_items_in l.fn.doubles l.fn.form (values_view l.fn.values.items);
-  ranged : ItemsInRange (values_view (into_iter_items l.value-iterator)) → ItemsInRange (values_view l.fn.values.items);
+  within_type_range : ItemsInRange (values_view (into_iter_items l.value-iterator)) → ItemsInRange (values_view l.fn.values.items);
 }
 
 abbrev pub invariant-write_pairs-loop-key : goal.invariant-write_pairs-loop-key
@@ -22,5 +22,5 @@ invariant-write_pairs-loop-key l = record {
   split : (front : List Entry) × (l.fn.document.pairs ≡ front ++ l.key-iterator);
   written : onto_members l.fn.doubles l.fn.form l.key-iterator (members_view l.members.entries)
       ≡ writes_pairs_in l.fn.doubles l.fn.form (document_view l.fn.document);
-  ranged : PairsInRange (pairs_view l.key-iterator) → PairsInRange (document_view l.fn.document);
+  within_type_range : PairsInRange (pairs_view l.key-iterator) → PairsInRange (document_view l.fn.document);
 }

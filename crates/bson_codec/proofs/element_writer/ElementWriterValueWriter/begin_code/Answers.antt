@@ -9,15 +9,15 @@ use Rattle.bson_codec.proofs.element_writer.ElementWriterValueWriter.begin_code.
 pub returns-clause-written : goal.returns-clause-written
 returns-clause-written c =
     let s = c.args.code.now in
-    let named = c.put_name.new.out.items in
-    let mark = c.begin.new.self.bytes.items in
-    let new = c.put_text.new.out.items in
+    let named = c.put_name.new.output.items in
+    let mark = c.begin_document.new.self.bytes.items in
+    let new = c.put_text.new.output.items in
     let name = c.in_ok-put_name.ensures.put in
-    let begins = c.in_ok-start.ensures.written in
+    let begins = c.in_ok-length_start.ensures.written in
     let diagnostics_before = rw c.in_ok-map_err.was at (turned {P = (put_text s mark ≡ Ok new) × (length mark ≤ length new)}
     c.put_text.result c.map_err.result new (put_text s mark) c.map_err.ensures.variant c.put_text.ensures.put
     c.put_text.ensures.grows (λ put grows. (put, grows))) in
-    let here = room c.in_ok-start.start named mark begins in
+    let here = room c.in_ok-length_start.length_start named mark begins in
     let longer = length-append c.args.self.now.bytes.items (name_bytes tag.JavaScriptCodeWithScope c.args.name.now) in
     let is = ap length name in (
       is_utf8-from_IsUtf8 s c.utf8.code,

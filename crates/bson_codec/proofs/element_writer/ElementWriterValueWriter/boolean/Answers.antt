@@ -8,7 +8,7 @@ use Rattle.bson_codec.proofs.element_writer.ElementWriterValueWriter.boolean.Goa
 pub returns-clause-written : goal.returns-clause-written
 returns-clause-written c =
     let b = c.args.truth in
-    let named = c.put_name.new.out.items in
+    let named = c.put_name.new.output.items in
     let put : c.extend_from_slice.new.self.items ≡ named ++ bool_byte b ∷ [] = grind arith in
     let longer = length-append named (bool_byte b ∷ []) in
     let is = ap length put in

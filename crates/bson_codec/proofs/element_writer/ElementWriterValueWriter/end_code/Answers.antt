@@ -11,8 +11,8 @@ put_length-requires c =
 pub returns-clause-written : goal.returns-clause-written
 returns-clause-written c =
     let now = c.args.self.now in
-    let new = c.put_length.new.out.items in
-    turned c.put_length.result c.map_err.result new (put_length c.args.start now.bytes.items) c.map_err.ensures.variant
+    let new = c.put_length.new.output.items in
+    turned c.put_length.result c.map_err.result new (put_length c.args.length_start now.bytes.items) c.map_err.ensures.variant
     c.put_length.ensures.put c.put_length.ensures.grows
-    (λ ended grows old mid k s ps mark framed. code_put k s c.args.start ps old.bytes.items mid.bytes.items
+    (λ ended grows old mid k s ps mark framed. code_put k s c.args.length_start ps old.bytes.items mid.bytes.items
     now.bytes.items new mark framed ended grows)

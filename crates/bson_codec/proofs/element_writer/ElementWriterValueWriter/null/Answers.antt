@@ -6,6 +6,6 @@ use Rattle.bson_codec.proofs.element_writer.ElementWriterValueWriter.null.Goals 
 
 pub returns-clause-written : goal.returns-clause-written
 returns-clause-written c =
-    let named = c.put_name.new.out.items in
+    let named = c.put_name.new.output.items in
     scalar_put null tag.Null c.args.name.now c.args.self.now.bytes.items named named refl c.in_ok-put_name.ensures.put tt
     (ap Ok (append-nil named)) (omega arith)

@@ -9,8 +9,8 @@ use Rattle.bson_codec.proofs.element_writer.ElementWriterValueWriter.string.Goal
 pub returns-clause-written : goal.returns-clause-written
 returns-clause-written c =
     let s = c.args.text.now in
-    let named = c.put_name.new.out.items in
-    let new = c.put_text.new.out.items in
+    let named = c.put_name.new.output.items in
+    let new = c.put_text.new.output.items in
     turned c.put_text.result c.map_err.result new (put_text s named) c.map_err.ensures.variant c.put_text.ensures.put
     c.put_text.ensures.grows
     (λ put grows. scalar_put (text s) tag.String c.args.name.now c.args.self.now.bytes.items named new refl

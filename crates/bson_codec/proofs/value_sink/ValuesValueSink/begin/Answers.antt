@@ -7,5 +7,5 @@ use Rattle.bson_codec.proofs.value_sink.ValuesValueSink.begin.Goals as goal
 
 pub returns-clause-outcome : goal.returns-clause-outcome
 returns-clause-outcome g c =
-    either_kind c.args._is_document (g.P.PairList.list_has no_pairs c.new-pairs.result)
+    either_kind c.args._is_document (g.P.PairList.list_has_pairs no_pairs c.new-pairs.result)
     (values_view c.new-items.result.items ≡ pair_values no_pairs) c.new-pairs.ensures (rw c.new-items.ensures.items refl)

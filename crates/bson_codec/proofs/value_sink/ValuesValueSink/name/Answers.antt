@@ -10,7 +10,7 @@ returns-then-is_document-clause-outcome g c = λ start ps begun.
     let t : c.args.is_document ≡ true = grind arith in
     named_key (λ e. e ≡ stops.OutOfMemory) (λ x. x.1.now) (λ x. string_bytes x.0) c.args.is_document g.P.PairList.keys ps
     c.args.bytes.now c.read_key_copy.result t
-    (c.read_key_copy.ensures.outcome ps (of_document c.args.is_document (g.P.PairList.list_has ps c.args.list.now.pairs)
+    (c.read_key_copy.ensures.outcome ps (of_document c.args.is_document (g.P.PairList.list_has_pairs ps c.args.list.now.pairs)
     (values_view c.args.list.now.items.items ≡ pair_values ps) t begun))
 
 pub returns-else-is_document-clause-outcome : goal.returns-else-is_document-clause-outcome

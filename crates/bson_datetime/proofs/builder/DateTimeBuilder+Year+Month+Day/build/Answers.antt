@@ -3,7 +3,7 @@ use Rattle.std.proofs.Common.{w32, w64, refl, rules}
 use Rattle.std.proofs.lemmas.Int.{to_z_pos}
 use Rattle.jiff.proofs.SpanFacts.{signed_arith}
 use Rattle.jiff.specs.Words.{IsEpochDay}
-use Rattle.bson_datetime.proofs.DisplayedLemmas.{civil_of-moment}
+use Rattle.bson_datetime.proofs.DisplayedLemmas.{civil_of_millis-moment}
 use Rattle.bson_datetime.proofs.builder.DateTimeBuilder+Year+Month+Day.build.Goals as goal
 
 -- no step of the sum wraps
@@ -20,13 +20,13 @@ exact day time dr tr =
 -- the date and time that was set exists
 told_exists : goal.returns-clause-exists
 told_exists c =
-    let fy : FitsSigned w32 c.args.self.year.number = search rules in
+    let fy : FitsSigned w32 c.args.self.year.calendar_value = search rules in
     let date = rw (to_z-of_z fy) at (c.in_ok-day.ensures.exists.0 refl) in
     (λ ok. (date, omega arith, omega arith, omega arith, omega arith), λ reported. refl)
 
 moment : goal.returns-clause-value
 moment c =
-    let fy : FitsSigned w32 c.args.self.year.number = search rules in
+    let fy : FitsSigned w32 c.args.self.year.calendar_value = search rules in
     let day = rw (to_z-of_z fy) at c.in_ok-day.ensures.value in
     let time =
     (c.unwrap_or-hour.result * 3600 + c.unwrap_or-minute.result * 60 + c.unwrap_or-second.result) * 1000
@@ -49,4 +49,4 @@ pub returns-clause-value : goal.returns-clause-value
 returns-clause-value c = moment c
 
 pub returns-clause-fields : goal.returns-clause-fields
-returns-clause-fields c = civil_of-moment _ _ (moment c)
+returns-clause-fields c = civil_of_millis-moment _ _ (moment c)

@@ -10,23 +10,23 @@ use Rattle.bson_datetime.proofs.datetime.DateTime.try_to_rfc3339_string.Goals as
 
 pub returns-then-year-lt0-clause-err : goal.returns-then-year-lt0-clause-err
 returns-then-year-lt0-clause-err c =
-    let low : c.in-Some.at.date.year <ℤ pos 0 = omega (arith, signed_arith) in
-    let below = moment-negative c.args.self c.in-Some.at c.in-Some.ensures.value low in
+    let low : c.in-Some.jiff_time.date.year <ℤ pos 0 = omega (arith, signed_arith) in
+    let below = moment-negative c.args.self c.in-Some.jiff_time c.in-Some.ensures.value low in
     inl (refl, λ h. omega (arith, signed_arith, h.0))
 
 -- what was written, and in which years
 written : goal.returns-in-Ok-clause-ok
 written c =
-    let high : pos 0 ≤ℤ c.in-Some.at.date.year = omega (arith, signed_arith) in
-    let year = natural_year c.in-Some.at.date.year high in
-    c.in-Ok.ensures.ok ∙ sym (rfc-jiff c.args.self c.in-Some.at year.0 c.in-Some.ensures.value year.1)
+    let high : pos 0 ≤ℤ c.in-Some.jiff_time.date.year = omega (arith, signed_arith) in
+    let year = natural_year c.in-Some.jiff_time.date.year high in
+    c.in-Ok.ensures.ok ∙ sym (rfc-jiff c.args.self c.in-Some.jiff_time year.0 c.in-Some.ensures.value year.1)
 
 in_years : goal.returns-in-Ok-clause-in_years
 in_years c =
-    let high : pos 0 ≤ℤ c.in-Some.at.date.year = omega (arith, signed_arith) in
+    let high : pos 0 ≤ℤ c.in-Some.jiff_time.date.year = omega (arith, signed_arith) in
     let is = c.in-Some.ensures.value in
-    let above = moment-natural c.args.self c.in-Some.at is high in
-    let range = civil_nanos_range c.in-Some.at in
+    let above = moment-natural c.args.self c.in-Some.jiff_time is high in
+    let range = civil_nanos_range c.in-Some.jiff_time in
     (above, omega (arith, signed_arith))
 
 pub returns-in-Ok-clause-ok : goal.returns-in-Ok-clause-ok

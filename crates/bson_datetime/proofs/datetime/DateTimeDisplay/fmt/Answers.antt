@@ -11,5 +11,5 @@ returns-in_default-clause-writes g c = λ plain ok.
 
 pub returns-clause-writes : goal.returns-clause-writes
 returns-clause-writes g c = λ plain ok.
-    let e = display_text-moment c.self.inside.millis c.in-Some.at c.in-Some.ensures.value in
+    let e = display_text-moment c.self.inside.millis c.in-Some.jiff_time c.in-Some.ensures.value in
     rw (← c.self.view_is, e) (c.write-2.ensures.writes plain ok)

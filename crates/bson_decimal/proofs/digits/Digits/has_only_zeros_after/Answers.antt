@@ -4,5 +4,5 @@ use Rattle.bson_decimal.proofs.digits.Digits.has_only_zeros_after.Goals as goal
 
 pub returns : goal.returns
 returns c =
-    rw (c.zeros_after.ensures.value, c.len.ensures, ← length-drop c.args.n c.args.self.now)
-    (all_zeros (drop c.args.n c.args.self.now))
+    rw (c.zeros_after.ensures.value, c.len.ensures, ← length-drop c.args.digit_count c.args.self.now)
+    (all_zeros (drop c.args.digit_count c.args.self.now))

@@ -22,26 +22,26 @@ module _ (xs : List ℕ) (i : ℕ) (digits : AllDigits 10 (take i xs)) (within :
 
 pub returns-then-not-is_ascii_digit : goal.returns-then-not-is_ascii_digit
 returns-then-not-is_ascii_digit c = λ all.
-    let at = digit_at c.args.self.now c.loop-i.i all (omega arith) in
-    let b : c.byte-b.result ≡ get_or c.args.self.now c.loop-i.i 0 = c.byte-b.ensures in
+    let at = digit_at c.args.self.now c.loop-digit_index.digit_index all (omega arith) in
+    let b : c.byte-digit_byte.result ≡ get_or c.args.self.now c.loop-digit_index.digit_index 0 = c.byte-digit_byte.ensures in
     let low = at.0 in
     let high = at.1 in
     grind (arith, nat_tests, c.if-not-is_ascii_digit.ensures.value)
 
-pub overflow_mul-n : goal.overflow_mul-n
-overflow_mul-n c = let b = bound c.args.self.now c.loop-i.i c.loop-i.invariant.0 (omega arith) c.requires in omega arith
+pub overflow_mul-number : goal.overflow_mul-number
+overflow_mul-number c = let b = bound c.args.self.now c.loop-digit_index.digit_index c.loop-digit_index.invariant.0 (omega arith) c.requires in omega arith
 
-pub overflow_add-n : goal.overflow_add-n
-overflow_add-n c = let b = bound c.args.self.now c.loop-i.i c.loop-i.invariant.0 (omega arith) c.requires in omega arith
+pub overflow_add-number : goal.overflow_add-number
+overflow_add-number c = let b = bound c.args.self.now c.loop-digit_index.digit_index c.loop-digit_index.invariant.0 (omega arith) c.requires in omega arith
 
-pub loop-i-preserved : goal.loop-i-preserved
-loop-i-preserved c =
+pub loop-digit_index-preserved : goal.loop-digit_index-preserved
+loop-digit_index-preserved c =
     let xs = c.args.self.now in
-    let i = c.loop-i.i in
-    let b : c.byte-b.result ≡ get_or xs i 0 = c.byte-b.ensures in
+    let i = c.loop-digit_index.digit_index in
+    let b : c.byte-digit_byte.result ≡ get_or xs i 0 = c.byte-digit_byte.ensures in
     let range = c.if-not-is_ascii_digit.ensures.cases in
     let v : digit_value (get_or xs i 0) ≡ get_or xs i 0 - 48 =
     digit-value (get_or xs i 0) (omega arith) (omega arith) in
-    let inv = c.loop-i.invariant in
+    let inv = c.loop-digit_index.invariant in
     let low : digit_value (get_or xs i 0) < 10 = omega arith in
     (digits_more 10 xs i (omega arith) inv.0 low, omega (arith, digits_value_more 10 xs i (omega arith)))

@@ -3,7 +3,7 @@ use Rattle.std.proofs.lemmas.Fmt.{IsAscii-decimal_wide}
 use Rattle.std.proofs.lemmas.Str.{IsUtf8-from_ascii}
 use Rattle.std.specs.Fmt.{decimal, sign_text, HasWritten}
 use Rattle.bson_decimal.specs.Exponents.{unbiased_exponent}
-use Rattle.bson_decimal.specs.DecimalText.{meaning_text, finite_text, decimal128_text}
+use Rattle.bson_decimal.specs.DecimalText.{decoded_decimal_text, finite_text, decimal128_text}
 use Rattle.bson_decimal.proofs.display.Decimal128Display.fmt.Goals as goal
 
 pub write_signed-requires-clause-ascii : goal.write_signed-requires-clause-ascii
@@ -23,8 +23,8 @@ returns-in-Ok-clause-writes g c =
     ∙ w.ensures.written in
     let is : sign_text c.in-Finite.negative ++ finite_text (decimal c.in-Finite.coefficient)
     (unbiased_exponent c.in-Finite.stored_exponent) ≡ decimal128_text c.args.self.now =
-    ap meaning_text c.in-Finite.ensures in
-    λ plain ok. subst (λ (t : List ℕ). HasWritten g.W.Write.write_str_gives c.args.f.now t c.write_signed.new.f) is
+    ap decoded_decimal_text c.in-Finite.ensures in
+    λ plain ok. subst (λ (t : List ℕ). HasWritten g.W.Write.write_str_gives c.args.formatter.now t c.write_signed.new.formatter) is
     (rw text at (c.write_signed.ensures plain ok))
 
 pub unreachable-requires : goal.unreachable-requires

@@ -17,12 +17,12 @@ Only text d = DenotesDecimal text d × ((b : List ℕ) → DenotesDecimal text b
 some : (c : goal.After-from_bytes) → Only c.args.text.now c.from_bytes.result
 some c =
     let text = c.args.text.now in
-    let word = rw c.without_sign-rest.ensures at c.in-Some.ensures.word in
-    let bytes : c.from_bytes.result ≡ to_le_bytes w128 (sign_bit (starts_with_minus text) + c.in-Some.number) =
+    let word = rw c.without_sign-unsigned_text.ensures at c.in-Some.ensures.word in
+    let bytes : c.from_bytes.result ≡ to_le_bytes w128 (sign_bit (starts_with_minus text) + c.in-Some.special_bits) =
     c.from_bytes.ensures ∙ c.to_le_bytes.ensures
-    ∙ ap (λ n. to_le_bytes w128 (n + c.in-Some.number))
+    ∙ ap (λ n. to_le_bytes w128 (n + c.in-Some.special_bits))
     (c.sign_bit.ensures.value ∙ ap sign_bit c.is_negative-negative.ensures) in
-    subst (Only text) (sym bytes) (special-parses text c.in-Some.number word)
+    subst (Only text) (sym bytes) (special-parses text c.in-Some.special_bits word)
 
 pub returns-in-Some-clause-answer : goal.returns-in-Some-clause-answer
 returns-in-Some-clause-answer c = some c
@@ -39,9 +39,9 @@ refused c =
     let text = c.args.text.now in
     let p = err_from_is_err_and c.from_residual.result c.from_residual.ensures.1 in
     let is : finite (without_leading_sign text) ≡ Err c.in_err-coefficient.field-0.0 =
-    ap finite (sym c.without_sign-rest.ensures)
+    ap finite (sym c.without_sign-unsigned_text.ensures)
     ∙ sym c.in_err-coefficient.ensures.value in
-    let plain = rw c.without_sign-rest.ensures at c.in_default.ensures.word in
+    let plain = rw c.without_sign-unsigned_text.ensures at c.in_default.ensures.word in
     rw (p.1, p.2) (refused-parses text _ plain is, ap first_parse_error (sym is))
 
 pub returns-in_err-coefficient-clause-answer : goal.returns-in_err-coefficient-clause-answer
@@ -65,9 +65,9 @@ pair c =
     let text = c.args.text.now in
     let is : finite (without_leading_sign text)
     ≡ Ok (c.in_ok-coefficient.coefficient, c.in_ok-coefficient.stored_exponent) =
-    ap finite (sym c.without_sign-rest.ensures)
+    ap finite (sym c.without_sign-unsigned_text.ensures)
     ∙ sym c.in_ok-coefficient.ensures.value in
-    let plain = rw c.without_sign-rest.ensures at c.in_default.ensures.word in
+    let plain = rw c.without_sign-unsigned_text.ensures at c.in_default.ensures.word in
     let bytes : c.from_bytes-2.result ≡ to_le_bytes w128
     (encoded_finite (starts_with_minus text) c.in_ok-coefficient.coefficient c.in_ok-coefficient.stored_exponent) =
     c.from_bytes-2.ensures ∙ c.to_le_bytes-2.ensures

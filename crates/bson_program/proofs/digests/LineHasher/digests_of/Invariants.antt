@@ -3,9 +3,9 @@ use Rattle.sha2.specs.Hashers.{Holds256}
 use Rattle.bson_program.specs.Digests.{HasOpenLine, digests_from}
 use Rattle.bson_program.proofs.digests.LineHasher.digests_of.Given as goal
 
-abbrev pub invariant-loop-at : goal.invariant-loop-at
-invariant-loop-at l = record {
-  start : l.start ≤ l.at;
-  line : (open_line : List ℕ) → Holds256 l.initial.self.line open_line → HasOpenLine l.self.line open_line l.bytes l.start l.at;
-  digests : (open_line : List ℕ) → Holds256 l.initial.self.line open_line → l.digests.items ≡ digests_from open_line (take l.at l.bytes);
+abbrev pub invariant-loop-offset : goal.invariant-loop-offset
+invariant-loop-offset l = record {
+  line_start : l.line_start ≤ l.offset;
+  line_sha256 : (open_line : List ℕ) → Holds256 l.initial.self.line_sha256 open_line → HasOpenLine l.self.line_sha256 open_line l.bytes l.line_start l.offset;
+  digests : (open_line : List ℕ) → Holds256 l.initial.self.line_sha256 open_line → l.digests.items ≡ digests_from open_line (take l.offset l.bytes);
 }

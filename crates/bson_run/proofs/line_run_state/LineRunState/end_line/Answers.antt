@@ -1,11 +1,11 @@
 use Rattle.std.proofs.Common.{◌≡◌, ℕ, Vec, Global, IfSome, IsUtf8, ◌+◌, ◌++◌, Ok, ap, sym, ◌∙◌, subst}
-use Rattle.bson_run.specs.Lines.{line_text, IsBlank, WritesIn}
+use Rattle.bson_run.specs.Lines.{line_text, IsBlank, WritesOutputForTask}
 use Rattle.bson_run.specs.LinesSteps.{IsConversionFailure, IsDiagnosticAppended}
 use Rattle.bson_run.specs.declared.line_run_state.LineRunState.{LineRunState}
 use Rattle.bson_run.proofs.LinesLaws.{blank_taken, written_taken, told_taken, judged_bad}
 use Rattle.bson_run.proofs.line_run_state.LineRunState.end_line.Goals as goal
-use Rattle.bson_run.proofs.line_run_state.LineRunState.end_line.Goals.{in-Ok-None, in-Ok-Some+in_ok-add-in-Ok-Some}
-use Rattle.bson_run.proofs.line_run_state.LineRunState.end_line.Goals.{in-Err+in_ok-refuse-in-Err}
+use Rattle.bson_run.proofs.line_run_state.LineRunState.end_line.Goals.{in-Ok-None, in-Ok-Some+in_ok-add_output-in-Ok-Some}
+use Rattle.bson_run.proofs.line_run_state.LineRunState.end_line.Goals.{in-Err+in_ok-refuse_line-in-Err}
 
 pub returns-clause-ok : goal.returns-clause-ok
 returns-clause-ok c =
@@ -18,24 +18,24 @@ returns-clause-ok c =
           (ap (λ (s : LineRunState). s.output.items) w.self-is) (ap (λ (s : LineRunState). s.diagnostics.items) w.self-is)
           (ap (λ (s : LineRunState). s.refused) w.self-is)
           (subst IsBlank text (c.convert_or_check.ensures.blank (w.in-Ok-None.is ∙ ap Ok w.in-Ok-None.field-0-is)))
-      | in-Ok-Some+in_ok-add-in-Ok-Some w ↦
-          let added = w.in_ok-add-in-Ok-Some.ensures in
+      | in-Ok-Some+in_ok-add_output-in-Ok-Some w ↦
+          let added = w.in_ok-add_output-in-Ok-Some.ensures in
           written_taken self _ w.in-Ok-Some.output.items c.clear.ensures.items
-          (ap (λ (s : LineRunState). s.lines + 1) w.self-is ∙ ap (λ n. n + 1) added.same.2)
+          (ap (λ (s : LineRunState). s.lines + 1) w.self-is ∙ ap (λ n. n + 1) added.unchanged.2)
           (ap (λ (s : LineRunState). s.output.items) w.self-is ∙ added.ok
           ∙ ap (λ (v : Vec ℕ Global). self.output.items ++ v.items) w.in-Ok-Some.output-is)
-          (ap (λ (s : LineRunState). s.diagnostics.items) w.self-is ∙ ap (λ v. v.items) added.same.1)
-          (ap (λ (s : LineRunState). s.refused) w.self-is ∙ added.same.3)
-          (subst (λ x. WritesIn c.args.settings.options c.args.settings.task x w.in-Ok-Some.output.items) text
-          (subst (λ some. IfSome some (λ output. WritesIn c.args.settings.options c.args.settings.task c.text-line.result.now output.items))
+          (ap (λ (s : LineRunState). s.diagnostics.items) w.self-is ∙ ap (λ v. v.items) added.unchanged.1)
+          (ap (λ (s : LineRunState). s.refused) w.self-is ∙ added.unchanged.3)
+          (subst (λ x. WritesOutputForTask c.args.settings.options c.args.settings.task x w.in-Ok-Some.output.items) text
+          (subst (λ some. IfSome some (λ output. WritesOutputForTask c.args.settings.options c.args.settings.task c.text-line.result.now output.items))
           w.in-Ok-Some.field-0-is w.in-Ok-Some.ensures.ok))
           (λ writes. subst (λ some. IfSome some (λ output. IsUtf8 output.items)) w.in-Ok-Some.field-0-is
           (w.in-Ok-Some.ensures.utf8 writes))
-      | in-Err+in_ok-refuse-in-Err w ↦
-          let refused = w.in_ok-refuse-in-Err.ensures in
+      | in-Err+in_ok-refuse_line-in-Err w ↦
+          let refused = w.in_ok-refuse_line-in-Err.ensures in
           told_taken self _ w.in-Err.fault c.clear.ensures.items
-          (ap (λ (s : LineRunState). s.lines + 1) w.self-is ∙ ap (λ n. n + 1) refused.same.2)
-          (ap (λ (s : LineRunState). s.output.items) w.self-is ∙ ap (λ v. v.items) refused.same.1)
+          (ap (λ (s : LineRunState). s.lines + 1) w.self-is ∙ ap (λ n. n + 1) refused.unchanged.2)
+          (ap (λ (s : LineRunState). s.output.items) w.self-is ∙ ap (λ v. v.items) refused.unchanged.1)
           (ap (λ (s : LineRunState). s.refused) w.self-is ∙ refused.ok.2) refused.ok.1
           (judged_bad c.args.settings.options c.args.settings.task w.in-Err.fault _ (subst (IsConversionFailure c.args.settings.options c.args.settings.task w.in-Err.fault) text w.in-Err.ensures.fault) refused.ok.0)
           (subst (IsDiagnosticAppended c.args.settings.options c.args.settings.task (self.lines + 1) w.in-Err.fault (line_text self.lines self.line.items) self.diagnostics.items)

@@ -16,6 +16,6 @@ number-requires c =
 pub returns-clause-written : goal.returns-clause-written
 returns-clause-written c =
     if_ok c.number.result c.number.ensures.ok
-    (λ done wrote. wrote ∙ ap (λ s. c.args.self.now.tokens ++ number s ∷ [])
+    (λ done wrote_tree. wrote_tree ∙ ap (λ s. c.args.self.now.tokens ++ number s ∷ [])
     (c.as_str.ensures.value
     ∙ sym (pattern_text c.args.pattern c.double_text.result.bytes (search (rules, c.ranges)) c.requires c.double_text.ensures)))

@@ -4,5 +4,5 @@ use Rattle.bson_scalar.proofs.sink.WriterSink.key.Goals as goal
 pub returns-clause-written : goal.returns-clause-written
 returns-clause-written c =
     if_ok c.key.result c.key.ensures.ok
-    (λ x h start ms begun. keyed_next start.tokens c.args.self.now.tokens c.key.new.self.tokens ms c.args.name.now begun
+    (λ x h start ms begun. keyed_next start.tokens c.args.self.now.tokens c.key.new.self.tokens ms c.args.key_name.now begun
     h)

@@ -29,7 +29,7 @@ returns-in-None g c =
       ascending_walk ps (elim c.if-len-gt-MAX_UNINDEXED.branch [
         | then-len-gt-MAX_UNINDEXED w ↦ subst (HasNeededIndex ps) c.in-None.is c.requires.1
             (omega (arith, w.if-len-gt-MAX_UNINDEXED.true, c.len.ensures, c.args.pairs.now.ok.0, length-seen xs))
-        | else-len-gt-MAX_UNINDEXED w ↦ w.ascends.ensures (sym w.value-is ∙ c.if-ascends.true)
+        | else-len-gt-MAX_UNINDEXED w ↦ w.has_ascending_keys.ensures (sym w.value-is ∙ c.if-has_ascending_keys.true)
       ]),
     )
 

@@ -8,13 +8,13 @@ use Rattle.bson_store.proofs.Turns.{pair_there, next_pair}
 use Rattle.bson_store.proofs.Walks.{at, takes, slice_takes}
 use Rattle.bson_store.proofs.small.iter.next_position.Goals as goal
 
-pub returns-else-at-len : goal.returns-else-at-len
-returns-else-at-len g c =
+pub returns-else-position-len : goal.returns-else-position-len
+returns-else-position-len g c =
     let ps = c.args.pairs.now in
-    let i = c.in-From.at in
+    let i = c.in-From.position in
     let within = subst (λ (t : Cursor). IsCursorInBounds t ps) c.in-From.is c.requires in
-    let here = at ps i (omega (arith, within, c.if-at-len.false, c.len.ensures.len)) in (
-      omega (arith, within, c.if-at-len.false, c.len.ensures.len),
+    let here = at ps i (omega (arith, within, c.if-position-len.false, c.len.ensures.len)) in (
+      omega (arith, within, c.if-position-len.false, c.len.ensures.len),
       (
         here.0,
         ap (slice_get ps) (omega arith) ∙ here.1,
@@ -41,18 +41,18 @@ returns-in-Mapped g c =
     (takes c.in-Mapped.positions new ps c.next-in-Mapped.result c.next-in-Mapped.ensures.steps
     (subst (λ (t : Cursor). IsCursorInBounds t ps) c.in-Mapped.is c.requires)))
 
-pub returns-in_err-at-in-Above : goal.returns-in_err-at-in-Above
-returns-in_err-at-in-Above g c =
+pub returns-in_err-position-in-Above : goal.returns-in_err-position-in-Above
+returns-in_err-position-in-Above g c =
     let ps = c.args.pairs.now in
-    let last = c.in-Above.last in
-    let none = least_none (option_map (λ s. string_bytes s.now) last) ps c.in_err-at-in-Above.ensures.least in
-    subst (λ (t : Cursor). IsCursorStep ps t c.from_residual.result (Above last)) (sym c.in-Above.is)
-    (subst (λ r. IsCursorStep ps (Above last) r (Above last)) (sym c.from_residual.ensures) (tt, (none, none)))
+    let previous_key = c.in-Above.previous_key in
+    let none = least_none (option_map (λ s. string_bytes s.now) previous_key) ps c.in_err-position-in-Above.ensures.least in
+    subst (λ (t : Cursor). IsCursorStep ps t c.from_residual.result (Above previous_key)) (sym c.in-Above.is)
+    (subst (λ r. IsCursorStep ps (Above previous_key) r (Above previous_key)) (sym c.from_residual.ensures) (tt, (none, none)))
 
-pub returns-in_ok-at-in-Above : goal.returns-in_ok-at-in-Above
-returns-in_ok-at-in-Above g c =
+pub returns-in_ok-position-in-Above : goal.returns-in_ok-position-in-Above
+returns-in_ok-position-in-Above g c =
     let ps = c.args.pairs.now in
-    let i = c.in_ok-at-in-Above.at in
+    let i = c.in_ok-position-in-Above.position in
     let k = string_bytes c.key_at.result.now in
     let there = pair_there ps i k c.key_at.ensures in (
       tt,
@@ -60,7 +60,7 @@ returns-in_ok-at-in-Above g c =
         (k, there.0),
         there.1,
         ap (λ t. remaining_pairs t ps) c.in-Above.is
-            ∙ next_pair ps (option_map (λ s. string_bytes s.now) c.in-Above.last) i (k, there.0) there.1
-            c.in_ok-at-in-Above.ensures.least,
+            ∙ next_pair ps (option_map (λ s. string_bytes s.now) c.in-Above.previous_key) i (k, there.0) there.1
+            c.in_ok-position-in-Above.ensures.least,
       ),
     )

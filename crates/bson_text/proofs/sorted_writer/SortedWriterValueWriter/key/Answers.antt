@@ -8,12 +8,12 @@ use Rattle.bson_text.proofs.sorted_writer.SortedWriterValueWriter.key.Goals as g
 pub returns-clause-written : goal.returns-clause-written
 returns-clause-written c =
     let k = c.args.name.now in
-    let near = c.begin_part.new.self in
-    let (mode, form, same, kept, comma) = c.in_ok-part.ensures.comma in
-    let (later_mode, later_form, off, member_starts, text) = c.in_ok-add_part.ensures in
+    let near = c.begin_fragment.new.self in
+    let (mode, form, same, kept, comma) = c.in_ok-fragment.ensures.comma in
+    let (later_mode, later_form, off, member_starts, text) = c.in_ok-add_fragment.ensures in
     let long : c.len.result ≡ length near.text.items = grind arith in
     let start : c.len.result ≡ length (output_with_comma c.args.self.now) = long ∙ ap length comma in
-    let tokens = c.in_ok-key.ensures.ok ∙ ap (λ ts. ts ++ key k ∷ []) c.in_ok-part.ensures.empty.1 in (
+    let tokens = c.in_ok-key.ensures.ok ∙ ap (λ ts. ts ++ key k ∷ []) c.in_ok-fragment.ensures.empty.1 in (
       later_mode ∙ mode,
       later_form ∙ form,
       off,

@@ -9,7 +9,7 @@ returns-clause-written c =
     let t = string c.args.text.now in (
       t,
       refl,
-      part_added c.args.self.now c.begin_part.new.self c.add_part.new.self true c.in_ok-part.part.tokens
-          c.string.new.self.tokens (tokens_of t) c.in_ok-part.ensures.comma c.in_ok-add_part.ensures
-          c.in_ok-part.ensures.empty.1 c.in_ok-string.ensures.ok,
+      part_added c.args.self.now c.begin_fragment.new.self c.add_fragment.new.self true c.in_ok-fragment.fragment.tokens
+          c.string.new.self.tokens (tokens_of t) c.in_ok-fragment.ensures.comma c.in_ok-add_fragment.ensures
+          c.in_ok-fragment.ensures.empty.1 c.in_ok-string.ensures.ok,
     )

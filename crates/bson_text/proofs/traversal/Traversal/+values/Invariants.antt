@@ -34,7 +34,7 @@ invariant-write_array-items g l = (length l.self.reader ≤ length l.initial.sel
     × (n : ℕ) × (length l.self.reader ≤ n)
     × ItemsToGo l.level.doubles g.W.ValueWriter.wrote_value g.W.ValueWriter.item_name_of
     (items (value l.level.depth) (length l.initial.self.reader) l.initial.self.reader) (items (value l.level.depth) n l.self.reader) l.index
-    l.initial.self.out l.self.out
+    l.initial.self.writer l.self.writer
     × ItemsFrom l.level.doubles (items (value l.level.depth) (length l.initial.self.reader) l.initial.self.reader)
     (items (value l.level.depth) n l.self.reader) l.index
     × ItemsStill l.level.doubles (g.W.ValueWriter.may_give_up l.level.doubles) g.W.ValueWriter.sorts_keys (items (value l.level.depth) (length l.initial.self.reader) l.initial.self.reader)
@@ -49,14 +49,14 @@ invariant-write_document-members g l = (length l.self.reader ≤ length l.initia
     × (n : ℕ) × (length l.self.reader ≤ n)
     × ToGo l.level.doubles g.W.ValueWriter.wrote_value g.W.ValueWriter.wrote_key l.is_document
     (members_after_key l.level.depth (option_map (λ s. s.now) l.first_key) l.initial.self.reader)
-    (members_step (value l.level.depth) (members (value l.level.depth) n) (option_map (λ s. s.now) l.next) l.self.reader)
-    ks l.initial.self.out l.self.out
+    (members_step (value l.level.depth) (members (value l.level.depth) n) (option_map (λ s. s.now) l.pending_key) l.self.reader)
+    ks l.initial.self.writer l.self.writer
     × MembersFrom l.level.doubles l.is_document
     (members_after_key l.level.depth (option_map (λ s. s.now) l.first_key) l.initial.self.reader)
-    (members_step (value l.level.depth) (members (value l.level.depth) n) (option_map (λ s. s.now) l.next) l.self.reader)
+    (members_step (value l.level.depth) (members (value l.level.depth) n) (option_map (λ s. s.now) l.pending_key) l.self.reader)
     × MembersStill l.level.doubles (g.W.ValueWriter.may_give_up l.level.doubles) g.W.ValueWriter.sorts_keys l.is_document
     (members_after_key l.level.depth (option_map (λ s. s.now) l.first_key) l.initial.self.reader)
-    (members_step (value l.level.depth) (members (value l.level.depth) n) (option_map (λ s. s.now) l.next) l.self.reader)
+    (members_step (value l.level.depth) (members (value l.level.depth) n) (option_map (λ s. s.now) l.pending_key) l.self.reader)
 
 abbrev pub decreases-write_document-members : goal.decreases-write_document-members
 decreases-write_document-members g l = length l.self.reader

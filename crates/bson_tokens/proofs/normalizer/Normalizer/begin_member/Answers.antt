@@ -8,10 +8,10 @@ use Rattle.bson_tokens.proofs.normalizer.Normalizer.begin_member.Goals as goal
 pub returns : goal.returns
 returns c =
     let comma = c.in_ok-add_comma.ensures in
-    let named = c.in_ok-add.ensures in
+    let named = c.in_ok-push_token.ensures in
     let old = c.args.self.now in
     let k = c.args.key.now in (
-      c.place-place.ensures ∙ ap (λ t. length t - c.args.start) comma.text,
+      c.offset_in_object-offset_in_object.ensures ∙ ap (λ t. length t - c.args.object_start) comma.text,
       record {
         arrangement = named.arrangement ∙ comma.arrangement;
         needs_comma = named.needs_comma;

@@ -2,8 +2,8 @@ use Rattle.std.proofs.Common.{refl}
 use Rattle.bson_tokens.proofs.NormalizedSpans.{settled_alike}
 use Rattle.bson_tokens.proofs.normalizer.Normalizer.normalize_members_early.Goals as goal
 
-pub returns-then-len-most : goal.returns-then-len-most
-returns-then-len-most c = (refl, refl, λ front body es is begun stand. (body, es, is, stand, refl, refl))
+pub returns-then-len-member_limit : goal.returns-then-len-member_limit
+returns-then-len-member_limit c = (refl, refl, λ front body es is begun stand. (body, es, is, stand, refl, refl))
 
 pub returns : goal.returns
 returns c = (

@@ -7,7 +7,7 @@ use Rattle.bson_types.proofs.binary.Binary.from_base64.Goals as goal
 
 pub returns-in-Ok-clause-ok : goal.returns-in-Ok-clause-ok
 returns-in-Ok-clause-ok c =
-    let chars = rw c.as_bytes-input.ensures.value at c.are_bytes.ensures in
+    let chars = rw c.as_bytes-input.ensures.value at c.bytes_are_below_256.ensures in
     let kept : take c.in-Ok.len c.decode_slice_unchecked.new.output ≡ c.truncate.new.self.items =
     grind (arith, common_steps) in
     let decoded : decode_of standard c.args.text.now ≡ Ok (take c.in-Ok.len c.decode_slice_unchecked.new.output) =

@@ -19,5 +19,5 @@ from_test (b ∷ bs) h =
 pub unreachable-requires : goal.unreachable-requires
 unreachable-requires g c =
     c.in-Err.ensures.cases.0
-    (rw c.digits_of-digits.ensures
+    (rw c.hex_digits_of-digits.ensures
     (IsUtf8-from_ascii _ (IsAscii-encode_with lower_digits c.args.self.now (from_test lower_digits refl))))

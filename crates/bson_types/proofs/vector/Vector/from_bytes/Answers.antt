@@ -8,10 +8,10 @@ pub returns-in_default-clause-refused : goal.returns-in_default-clause-refused
 returns-in_default-clause-refused c =
     inr (tt, ap (λ b. b && has_zero_ignored_bits c.args.bytes.now) (short c.args.bytes.now c.in_default.len_below))
 
-pub returns-in-len2-up-clause-only : goal.returns-in-len2-up-clause-only
-returns-in-len2-up-clause-only c =
+pub returns-in-len2-up-clause-only_vector : goal.returns-in-len2-up-clause-only_vector
+returns-in-len2-up-clause-only_vector c =
     let whole = parts c.args.bytes.now c.in-len2-up.len_at_least in
-    only_one-read c.numbers.result c.args.bytes.now (rw whole at c.numbers.ensures.ok) c.numbers.ensures.ranged
+    only_one-read c.read_numbers.result c.args.bytes.now (rw whole at c.read_numbers.ensures.ok) c.read_numbers.ensures.within_type_range
 
 pub returns-in-len2-up-clause-meaning : goal.returns-in-len2-up-clause-meaning
 returns-in-len2-up-clause-meaning c = vector_meaning c.args.bytes.now (λ i. (c.type_inv.bytes i).fits)

@@ -6,12 +6,12 @@ use Rattle.bson_types.proofs.vector.Vector.from_bytes_clearing.Goals as goal
 pub returns-in_default-clause-refused : goal.returns-in_default-clause-refused
 returns-in_default-clause-refused c = inr (tt, short c.args.bytes.now c.in_default.len_below)
 
-pub returns-in-len2-up-clause-only : goal.returns-in-len2-up-clause-only
-returns-in-len2-up-clause-only c =
+pub returns-in-len2-up-clause-only_vector : goal.returns-in-len2-up-clause-only_vector
+returns-in-len2-up-clause-only_vector c =
     let whole = parts c.args.bytes.now c.in-len2-up.len_at_least in
-    only_one-unchanged c.numbers.result c.args.bytes.now (rw whole at c.numbers.ensures.ok) c.numbers.ensures.ranged
+    only_one-unchanged c.read_numbers.result c.args.bytes.now (rw whole at c.read_numbers.ensures.ok) c.read_numbers.ensures.within_type_range
 
-pub returns-in-len2-up-clause-same : goal.returns-in-len2-up-clause-same
-returns-in-len2-up-clause-same c =
+pub returns-in-len2-up-clause-same_as_from_bytes : goal.returns-in-len2-up-clause-same_as_from_bytes
+returns-in-len2-up-clause-same_as_from_bytes c =
     let whole = parts c.args.bytes.now c.in-len2-up.len_at_least in
-    only_one-read c.numbers.result c.args.bytes.now (rw whole at c.numbers.ensures.ok) c.numbers.ensures.ranged
+    only_one-read c.read_numbers.result c.args.bytes.now (rw whole at c.read_numbers.ensures.ok) c.read_numbers.ensures.within_type_range

@@ -6,4 +6,4 @@ use Rattle.bson.proofs.extjson.bson_writer.BsonWriterValueWriter.boolean.Goals a
 pub returns-clause-written : goal.returns-clause-written
 returns-clause-written c =
     let b = c.args.truth in
-    scalar_pushed c.push_under.result c.args.name.now c.args.self.now c.push_under.new.self (Boolean b) (boolean b) c.push_under.ensures.pushed (boolean_is b)
+    scalar_pushed c.push_with_name.result c.args.name.now c.args.self.now c.push_with_name.new.self (Boolean b) (boolean b) c.push_with_name.ensures.pushed (boolean_is b)

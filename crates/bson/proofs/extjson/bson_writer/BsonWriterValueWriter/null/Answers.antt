@@ -5,4 +5,4 @@ use Rattle.bson.proofs.extjson.bson_writer.BsonWriterValueWriter.null.Goals as g
 
 pub returns-clause-written : goal.returns-clause-written
 returns-clause-written c =
-    scalar_pushed c.push_under.result c.args.name.now c.args.self.now c.push_under.new.self Null null c.push_under.ensures.pushed null_is
+    scalar_pushed c.push_with_name.result c.args.name.now c.args.self.now c.push_with_name.new.self Null null c.push_with_name.ensures.pushed null_is

@@ -4,8 +4,8 @@ use Rattle.bson.proofs.extjson.bson_writer.BsonWriterValueWriter.scalar.Goals as
 
 pub returns-clause-written : goal.returns-clause-written
 returns-clause-written c =
-    scalar_pushed c.push_under.result c.args.name.now c.args.self.now c.push_under.new.self c.from_scalar.result (scalar_view c.args.value)
-    c.push_under.ensures.pushed c.from_scalar.ensures.value
+    scalar_pushed c.push_with_name.result c.args.name.now c.args.self.now c.push_with_name.new.self c.from_scalar.result (scalar_view c.args.value)
+    c.push_with_name.ensures.pushed c.from_scalar.ensures.value
 
 pub returns-clause-stops : goal.returns-clause-stops
-returns-clause-stops c = scalar_stops c.push_under.result (scalar_view c.args.value) c.push_under.ensures.stops
+returns-clause-stops c = scalar_stops c.push_with_name.result (scalar_view c.args.value) c.push_with_name.ensures.stops

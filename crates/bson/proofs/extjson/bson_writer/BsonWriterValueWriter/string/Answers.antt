@@ -8,5 +8,5 @@ use Rattle.bson.proofs.extjson.bson_writer.BsonWriterValueWriter.string.Goals as
 pub returns-clause-written : goal.returns-clause-written
 returns-clause-written c =
     let s = c.in_ok-text.text in
-    scalar_pushed c.push_under.result c.args.name.now c.args.self.now c.push_under.new.self (String s) (text c.args.text.now) c.push_under.ensures.pushed
+    scalar_pushed c.push_with_name.result c.args.name.now c.args.self.now c.push_with_name.new.self (String s) (text c.args.text.now) c.push_with_name.ensures.pushed
     (text_is s ∙ ap (λ t. scalar (text t)) c.in_ok-text.ensures.ok)

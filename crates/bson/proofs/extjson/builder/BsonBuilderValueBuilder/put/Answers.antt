@@ -11,8 +11,8 @@ push-requires c =
 
 pub returns : goal.returns
 returns c = elim c.match-push.branch [
-  | in-Ok w ↦ rw w.result-is (λ ps v paired built.
+  | in-Ok w ↦ rw w.result-is (λ ps v paired represents.
       one_paired c.push.new.self c.args.pairs.now (string_bytes c.args.key) c.args.value ps v w.in-Ok.ensures.ok paired
-      built)
+      represents)
   | in-Err w ↦ rw w.result-is tt
 ]

@@ -5,4 +5,4 @@ use Rattle.bson.proofs.MembersByKey.{all_ascend}
 use Rattle.bson.proofs.extjson.text_reader.sorted_members.document_of_few.Goals as goal
 
 pub document_of_ascending-requires : goal.document_of_ascending-requires
-document_of_ascending-requires c = subst KeysAscend (sym c.in_ok-found.ensures) (all_ascend c.args.members.items no_pairs tt)
+document_of_ascending-requires c = subst KeysAscend (sym c.in_ok-unique_members.ensures) (all_ascend c.args.members.items no_pairs tt)

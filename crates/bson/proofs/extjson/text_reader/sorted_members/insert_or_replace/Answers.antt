@@ -7,23 +7,23 @@ pub index_mut-requires : goal.index_mut-requires
 index_mut-requires c =
     let k = string_bytes c.args.key in
     let ms = c.args.members.now.items in
-    let stands : IsKeyAt k ms c.in-Ok.at = subst (λ r. MatchResult r (IsKeyAt k ms) (IsInsertionPoint k ms)) c.in-Ok.is
+    let stands : IsKeyAt k ms c.in-Ok.member_index = subst (λ r. MatchResult r (IsKeyAt k ms) (IsInsertionPoint k ms)) c.in-Ok.is
     c.requires in
-    omega (arith, stands_within k ms c.in-Ok.at stands, c.args.members.now.ok.0)
+    omega (arith, stands_within k ms c.in-Ok.member_index stands, c.args.members.now.ok.0)
 
 pub insert-requires : goal.insert-requires
 insert-requires c =
     let k = string_bytes c.args.key in
     let ms = c.args.members.now.items in
-    let fits : IsInsertionPoint k ms c.in-Err.at = subst (λ r. MatchResult r (IsKeyAt k ms) (IsInsertionPoint k ms)) c.in-Err.is
+    let fits : IsInsertionPoint k ms c.in-Err.member_index = subst (λ r. MatchResult r (IsKeyAt k ms) (IsInsertionPoint k ms)) c.in-Err.is
     c.requires in
-    omega (arith, fits_within k ms c.in-Err.at fits, c.args.members.now.ok.0)
+    omega (arith, fits_within k ms c.in-Err.member_index fits, c.args.members.now.ok.0)
 
 pub returns-in-Ok : goal.returns-in-Ok
 returns-in-Ok c =
     let k = string_bytes c.args.key in
     let ms = c.args.members.now.items in
-    seen_set c.args.key c.args.value ms c.in-Ok.at
+    seen_set c.args.key c.args.value ms c.in-Ok.member_index
     (subst (λ r. MatchResult r (IsKeyAt k ms) (IsInsertionPoint k ms)) c.in-Ok.is c.requires)
 
 pub returns-in_ok-insert-in-Err : goal.returns-in_ok-insert-in-Err
@@ -31,5 +31,5 @@ returns-in_ok-insert-in-Err c =
     let k = string_bytes c.args.key in
     let ms = c.args.members.now.items in
     ap pairs_of_members c.in_ok-insert-in-Err.ensures.items
-    ∙ seen_insert c.args.key c.args.value ms c.in-Err.at
+    ∙ seen_insert c.args.key c.args.value ms c.in-Err.member_index
     (subst (λ r. MatchResult r (IsKeyAt k ms) (IsInsertionPoint k ms)) c.in-Err.is c.requires)

@@ -12,7 +12,7 @@ members-preserved c =
     let at = c.members in
     let later = into_iter_items c.next.new.self in
     let steps : into_iter_items at.key-iterator ≡ c.in-Some.field-0 ∷ later = c.in-Some.ensures.steps.0 in
-    let ps = pairs_of_members at.found.items in
+    let ps = pairs_of_members at.unique_members.items in
     record {
       left = one_left _ later c.in-Some.field-0 _ _ at.invariant.left steps c.in-Some.ensures.steps.1;
       ascends = subst KeysAscend (sym c.in_ok-insert_or_replace.ensures)

@@ -8,6 +8,6 @@ use Rattle.bson.proofs.extjson.text_reader.sorted_members.last_of_each_key.Given
 abbrev pub invariant-members : goal.invariant-members
 invariant-members l = record {
   left : into_iter_len l.key-iterator ≡ length (into_iter_items l.key-iterator);
-  ascends : KeysAscend (pairs_of_members l.found.items);
-  all : insert_members (into_iter_items l.key-iterator) (pairs_of_members l.found.items) ≡ insert_members l.fn.members.items no_pairs;
+  ascends : KeysAscend (pairs_of_members l.unique_members.items);
+  all : insert_members (into_iter_items l.key-iterator) (pairs_of_members l.unique_members.items) ≡ insert_members l.fn.members.items no_pairs;
 }

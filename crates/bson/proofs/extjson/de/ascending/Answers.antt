@@ -1,5 +1,0 @@
-use Rattle.bson.proofs.Ascending.{ascends}
-use Rattle.bson.proofs.extjson.de.ascending.Goals as goal
-
-pub returns : goal.returns
-returns c = ascends c.args.map.now.entries c.iter-pairs.ensures.ordered

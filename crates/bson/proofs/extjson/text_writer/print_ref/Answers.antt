@@ -1,8 +1,0 @@
-use Rattle.bson_scalar.specs.View.{scalar_of}
-use Rattle.bson.proofs.Stopped.{put_stopped}
-use Rattle.bson.proofs.extjson.text_writer.print_ref.Goals as goal
-
-pub returns-then-is_allocation_free-clause-every : goal.returns-then-is_allocation_free-clause-every
-returns-then-is_allocation_free-clause-every c =
-    put_stopped c.args.doubles c.args.form (scalar_of c.args.scalar.now) _ _ c.print_without_allocation.result c.has_text.ensures
-    c.print_without_allocation.ensures.printed

@@ -1,8 +1,0 @@
-use Rattle.bson_program.proofs.Advising.{all_of, start_of}
-use Rattle.bson_program.proofs.advice.uncut.Goals as goal
-
-pub returns-then-first_bytes-lt-FIRST_BYTES : goal.returns-then-first_bytes-lt-FIRST_BYTES
-returns-then-first_bytes-lt-FIRST_BYTES c = all_of c.args.first_bytes.now
-
-pub returns : goal.returns
-returns c = start_of c.saturating_sub.result c.args.first_bytes.now

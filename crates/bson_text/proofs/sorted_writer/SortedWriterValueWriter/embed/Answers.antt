@@ -1,5 +1,0 @@
-use Rattle.bson_text.proofs.Sorting.{embedded}
-use Rattle.bson_text.proofs.sorted_writer.SortedWriterValueWriter.embed.Goals as goal
-
-pub returns-clause-written : goal.returns-clause-written
-returns-clause-written c = λ ps end wrote_document. embedded ps c.args.self.now end wrote_document

@@ -1,9 +1,0 @@
-use Rattle.std.proofs.Common.{◌≡◌, ◌*◌, length, take, drop}
-use Rattle.hex.specs.Hex.{decode_pairs}
-use Rattle.hex.proofs.Pairs.{prepend}
-use Rattle.bson_types.proofs.oid.bytes_of.Given as goal
-
-abbrev pub invariant-bytes : goal.invariant-bytes
-invariant-bytes l =
-    (length l.bytes ≡ 12)
-    × (decode_pairs 0 l.text ≡ prepend (take l.at l.bytes) (decode_pairs (2 * l.at) (drop (2 * l.at) l.text)))
