@@ -1,4 +1,5 @@
 """The Rattle kit's command `rt`, as a module."""
+import fcntl
 import importlib.machinery
 import importlib.util
 import os
@@ -16,3 +17,9 @@ def rt():
     sys.modules["rt"] = module
     loader.exec_module(module)
     return module
+
+
+def share(crates):
+    """Keeps other commands of rt from changing the folders of these crates until this process ends. Readers share them."""
+    for folder in sorted({os.path.realpath(it.folder) for it in crates}):
+        fcntl.flock(os.open(folder, os.O_RDONLY), fcntl.LOCK_SH)

@@ -4,6 +4,7 @@ import subprocess
 import tempfile
 from dataclasses import dataclass, field
 
+import kit
 import program
 import sources
 
@@ -51,8 +52,7 @@ def outcome_of(rt, folder, examples, jobs):
     names = ALWAYS.union(*(it.crates for it in examples))
     crate = rt.Crate(folder, sources.TOP, {}, name=NAME)
     crate.deps, crate.of_kit = [found[it] for it in found if it in names], sorted(names - {*found})
-    # (the libraries are locked until this process ends)
-    rt.rtlib.lock(crate.below())
+    kit.share(crate.below())
     if lost := missing(crate.below()):
         return Outcome(f"these libraries are not built: {', '.join(lost)}")
     os.mkdir(f"{folder}/out")

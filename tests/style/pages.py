@@ -43,7 +43,7 @@ BENCH = re.compile(r"(?m)(?<=`)(?:bench/\w+\.py|tests/memory/run)[^`\n]*(?=`.*\|
 FEW = "bson_double"
 # The measurements that load the library for other languages.
 OF_LIBRARY = ("bench/bytes.py", "bench/values.py", "bench/library.py", "bench/scale.py")
-SECONDS = 300
+SECONDS = 1800
 
 
 def command_lines(page):

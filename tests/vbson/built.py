@@ -6,8 +6,6 @@
 `rt ci` proves a static library and builds none, and its libraries are no other command's; a build over them spares
 proving all of them again.
 """
-import importlib.machinery
-import importlib.util
 import os
 import shutil
 import subprocess
@@ -15,27 +13,23 @@ import sys
 import tempfile
 from pathlib import Path
 
+sys.dont_write_bytecode = True
 ROOT = Path(__file__).resolve().parents[2]
+sys.path.append(str(ROOT / "tools"))
+
+import kit
+
 # What a check has proved, in the folder of the crate: both compilers start from it.
 CHECKED = "out/checked"
 
 
-def kit():
-    """The command rt of the kit, as a module."""
-    path = os.path.realpath(shutil.which("rt"))
-    loader = importlib.machinery.SourceFileLoader("rt", path)
-    made = importlib.util.module_from_spec(importlib.util.spec_from_loader("rt", loader))
-    sys.modules["rt"] = made
-    loader.exec_module(made)
-    return made
-
-
 def main():
     os.chdir(ROOT)
-    rt = kit()
+    rt = kit.rt()
     rt.rtlib.guarded()
     crate = next(it for it in rt.rtlib.crates_below(os.getcwd()) if it.name == "vbson")
-    held = rt.rtlib.lock([*crate.below(), crate])
+    kit.share(crate.below())
+    rt.rtlib.lock([crate])
     jobs = ["--jobs", str(len(os.sched_getaffinity(0)))]
     for it in crate.below():
         is_of_ci = os.path.isdir(it.rlib) and not os.path.exists(f"{os.path.dirname(it.rlib)}/stamp")
@@ -48,7 +42,6 @@ def main():
     else:
         shutil.rmtree(f"{crate.folder}/{CHECKED}", ignore_errors=True)
         status = compiled(rt, crate, jobs, "llvm", "out/libvbson.a")
-    del held
     return status
 
 

@@ -8,6 +8,8 @@ ROOT = Path(__file__).resolve().parents[2]
 LANGUAGES = ROOT / "languages"
 # The page for the programmers of each language.
 PAGES = {it: ROOT / f"docs/{it}.md" for it in ("c", "rust", "python")}
+# The most seconds of a command, which may prove or compile beside others.
+LONGEST_SECONDS = 1800
 
 
 class Tally:
@@ -33,7 +35,7 @@ class Tally:
 
 
 def run(words, **how):
-    return subprocess.run(words, capture_output=True, text=True, timeout=300, stdin=subprocess.DEVNULL, **how)
+    return subprocess.run(words, capture_output=True, text=True, timeout=LONGEST_SECONDS, stdin=subprocess.DEVNULL, **how)
 
 
 def wants_status_0(tally, name, words, **how):
@@ -58,7 +60,7 @@ def differs(ran, wanted):
 
 def answers_to(lines, words, **how):
     given = "".join(f"{line}\n" for line in lines)
-    return subprocess.run(words, input=given, capture_output=True, text=True, timeout=300, **how)
+    return subprocess.run(words, input=given, capture_output=True, text=True, timeout=LONGEST_SECONDS, **how)
 
 
 def judge_lines(tally, language, cases, words, **how):
