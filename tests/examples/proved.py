@@ -59,7 +59,7 @@ def outcome_of(rt, folder, examples, jobs):
     with open(f"{folder}/stdout", "w", encoding="utf-8") as file:
         file.write(program.expected(examples))
     with tempfile.TemporaryFile("w+", errors="replace") as crate.out:
-        status = crate.ci(["--jobs", str(jobs)] if jobs else [], tests=False)
+        status = crate.ci(["--jobs", str(jobs)], tests=False)
         crate.out.seek(0)
         outcome = Outcome(crate.out.read() if status else "")
     for compiler, ending in rt.BACKENDS.items():
