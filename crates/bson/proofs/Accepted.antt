@@ -1,6 +1,5 @@
 -- Bytes that have a meaning are not refused, and what they mean is in range and comes back.
-use Rattle.std.proofs.Common.{◌≡◌, ℕ, List, Result, Ok, Err, Some, None, IfOk, IfErr, refl, sym, ◌∙◌, subst}
-use Rattle.std.proofs.lemmas.Option.{same_Some}
+use Rattle.std.proofs.Common.{◌≡◌, ℕ, List, Result, Ok, Err, Some, None, IfOk, IfErr, refl, subst}
 use Rattle.serde_json.specs.Data.{Data}
 use Rattle.serde_json.specs.Read.{read}
 use Rattle.bson_scalar.specs.declared.form.Doubles.{Doubles}
@@ -8,13 +7,10 @@ use Rattle.bson_model.specs.Means.{MeansIn}
 use Rattle.bson_model.specs.Normal.{NumbersInRange}
 use Rattle.bson_model.specs.Texts.{ValueRoundTripsIn}
 use Rattle.bson_model.specs.Value.{Value}
-use Rattle.bson_model.proofs.Offered.{in_range_in, read_comes_back_in, read_tree}
+use Rattle.bson_model.proofs.Offered.{in_range_in, read_comes_back_in, read_tree, tree_one}
 use Rattle.bson.specs.TextMeaning.{IsTextOf, HasTextMeaningIn, IsTextFaultIn}
 use Rattle.bson.specs.declared.extjson.text_error.TextError.{TextError}
 use Rattle.bson.specs.declared.extjson.text_error.TextError.TheVariants.{NotJson, NotExtendedJson, OutOfMemory}
-
-pub tree_one : (bytes : List ℕ) (t u : Data) → IsTextOf bytes t → IsTextOf bytes u → t ≡ u
-tree_one bytes t u a b = same_Some t u (sym a.tree_read ∙ b.tree_read)
 
 module _ (D : Doubles) where
   memory_alone : (bytes : List ℕ) (t : Data) (v : Value) → IsTextOf bytes t → MeansIn D t v → (e : TextError)

@@ -9,7 +9,7 @@ use Rattle.bson_model.specs.Value as model
 use Rattle.bson_model.specs.Writing.{writes_value_in, writes_items_in, writes_pairs_in, with_scope}
 use Rattle.bson_model.specs.OrderedWriting.{writes_value_in_order, writes_items_in_order, writes_pairs_in_order}
 use Rattle.bson.specs.KeyOrders.{writes_in_key_order, writes_items_in_key_order, writes_pairs_in_key_order}
-use Rattle.bson.specs.declared.extjson.key_order.KeyOrder.TheVariants.{Ascending, AsGiven}
+use Rattle.bson_model.specs.declared.options.KeyOrder.TheVariants.{Ascending, AsGiven}
 
 module _ (D : Doubles) (f : Form) where
   mutual

@@ -9,11 +9,11 @@ use Rattle.bson_model.specs.Value.{Value}
 use Rattle.bson_model.specs.OrderedTrees.{tree_sorted_by_key}
 use Rattle.bson_model.proofs.OfferedInOrder.{forgets, read_forgotten, comes_back}
 use Rattle.bson_tokens.specs.Normalized.{IsNormalizedText}
-use Rattle.bson_tokens.specs.declared.arrangement.Arrangement.TheVariants as normalized
+use Rattle.bson_model.specs.declared.options.KeyOrder.TheVariants as normalized
 use Rattle.bson_tokens.proofs.Offered.{text_read, meant_in_order}
 use Rattle.bson.specs.TextMeaning.{IsTextOf, HasTextMeaningIn, HasTextMeaningInKeyOrder, IsTextFaultIn, TextMeansInKeyOrder, RoundTripsInKeyOrder}
-use Rattle.bson.specs.declared.extjson.key_order.KeyOrder.{KeyOrder}
-use Rattle.bson.specs.declared.extjson.key_order.KeyOrder.TheVariants.{Ascending, AsGiven}
+use Rattle.bson_model.specs.declared.options.KeyOrder.{KeyOrder}
+use Rattle.bson_model.specs.declared.options.KeyOrder.TheVariants.{Ascending, AsGiven}
 use Rattle.bson.specs.declared.extjson.text_error.TextError.{TextError}
 use Rattle.bson.specs.declared.extjson.text_error.TextError.TheVariants.{OutOfMemory}
 use Rattle.bson.proofs.Accepted.{accepted, came_back, is_ranged}
@@ -31,7 +31,7 @@ module _ (D : Doubles) (text : List ℕ) (utf8 : IsUtf8 text) where
     meaning = means.meaning;
   }
 
-  pub meant_by_first_places : (written : List ℕ) (v : Value) → IsNormalizedText normalized.FirstPositions text written
+  pub meant_by_first_places : (written : List ℕ) (v : Value) → IsNormalizedText normalized.AsGiven text written
       → HasTextMeaningInKeyOrder AsGiven D written v → HasTextMeaningInKeyOrder AsGiven D text v
   meant_by_first_places written v is means = (utf8, (meant_in_order D text written v is).0 means.1)
 

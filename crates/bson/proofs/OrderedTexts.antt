@@ -21,8 +21,8 @@ use Rattle.bson_model.proofs.OfferedInOrder.{default_written, has_no_float, one_
 use Rattle.bson_model.proofs.OfferedInOrder.{writable_is}
 use Rattle.bson.specs.KeyOrders.{writes_in_key_order}
 use Rattle.bson.specs.Texts.{ReturnsWrittenText, AppendsText, IsTextInKeyOrder, IsTextInOrder}
-use Rattle.bson.specs.declared.extjson.key_order.KeyOrder.{KeyOrder}
-use Rattle.bson.specs.declared.extjson.key_order.KeyOrder.TheVariants.{Ascending, AsGiven}
+use Rattle.bson_model.specs.declared.options.KeyOrder.{KeyOrder}
+use Rattle.bson_model.specs.declared.options.KeyOrder.TheVariants.{Ascending, AsGiven}
 use Rattle.bson.proofs.KeyOrders.{as_given_is}
 use Rattle.bson.proofs.WholeTexts.{text_by_default, text_finite, text_is, text_writable}
 

@@ -28,8 +28,8 @@ use Rattle.bson.specs.KeyOrders.{pairs_of_order, writes_in_key_order, writes_ite
 use Rattle.bson.specs.Texts.{tokens_of, code_tokens, writes_each_pair}
 use Rattle.bson.specs.View.{bson_view, pairs_view}
 use Rattle.bson.specs.declared.bson.Bson.{Bson}
-use Rattle.bson.specs.declared.extjson.key_order.KeyOrder.{KeyOrder}
-use Rattle.bson.specs.declared.extjson.key_order.KeyOrder.TheVariants.{Ascending, AsGiven}
+use Rattle.bson_model.specs.declared.options.KeyOrder.{KeyOrder}
+use Rattle.bson_model.specs.declared.options.KeyOrder.TheVariants.{Ascending, AsGiven}
 use Rattle.bson.proofs.Seen.{Entry}
 use Rattle.bson.proofs.OntoTree.{bind_same}
 

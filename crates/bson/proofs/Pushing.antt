@@ -25,8 +25,8 @@ use Rattle.bson.specs.declared.bson.Bson as bson_form
 use Rattle.bson.specs.declared.bson.Bson.{Bson}
 use Rattle.bson.specs.declared.bson.Bson.TheVariants as bson
 use Rattle.bson.specs.declared.document.Document.{Document}
-use Rattle.bson.specs.declared.extjson.key_order.KeyOrder.{KeyOrder}
-use Rattle.bson.specs.declared.extjson.key_order.KeyOrder.TheVariants.{Ascending, AsGiven}
+use Rattle.bson_model.specs.declared.options.KeyOrder.{KeyOrder}
+use Rattle.bson_model.specs.declared.options.KeyOrder.TheVariants.{Ascending, AsGiven}
 use Rattle.bson.specs.declared.extjson.bson_writer.EnclosingContainer.{EnclosingContainer}
 use Rattle.bson.specs.declared.extjson.bson_writer.BsonWriter.{BsonWriter}
 use Rattle.bson.specs.declared.extjson.bson_writer.Container.{Container}

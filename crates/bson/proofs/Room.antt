@@ -17,8 +17,8 @@ use Rattle.bson.specs.OutputCapacity.{IsAllocationFree, ValuesAreAllocationFree,
 use Rattle.bson.specs.OutputCapacity.{value_capacity, values_capacity, pairs_capacity}
 use Rattle.bson.specs.View.{bson_view, pairs_view}
 use Rattle.bson.specs.declared.bson.Bson.{Bson}
-use Rattle.bson.specs.declared.extjson.key_order.KeyOrder.{KeyOrder}
-use Rattle.bson.specs.declared.extjson.key_order.KeyOrder.TheVariants.{Ascending, AsGiven}
+use Rattle.bson_model.specs.declared.options.KeyOrder.{KeyOrder}
+use Rattle.bson_model.specs.declared.options.KeyOrder.TheVariants.{Ascending, AsGiven}
 use Rattle.bson.proofs.Seen.{Entry}
 
 -- ---- writes one after another

@@ -13,7 +13,7 @@ use Rattle.bson_model.specs.Writing.{writes_value_in}
 use Rattle.bson_model.proofs.Offered.{has_text_in, has_no_float, tree_is_in, writable_from_in, writable_is_in}
 use Rattle.bson.specs.KeyOrders.{writes_in_key_order}
 use Rattle.bson.specs.Texts.{ReturnsWrittenText, IsTextWithDoubles}
-use Rattle.bson.specs.declared.extjson.key_order.KeyOrder.TheVariants.{Ascending}
+use Rattle.bson_model.specs.declared.options.KeyOrder.TheVariants.{Ascending}
 use Rattle.bson.proofs.KeyOrders.{ascending_is}
 
 pub text_by_default : (D : Doubles) (f : Form) (v : Value) (r : Result (String Global) WriteError)

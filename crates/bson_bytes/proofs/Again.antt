@@ -20,7 +20,7 @@ use Rattle.bson_bytes.specs.Grammar.{is_min_key}
 use Rattle.bson_bytes.specs.Grammar.{deduplicated_onto, text_bytes, IsText}
 use Rattle.bson_bytes.specs.Reading.{read_binary, read_boolean, read_bytes, read_regex, read_pointer, read_timestamp, read_code_with_scope}
 use Rattle.bson_bytes.specs.Reading.{read_value_in, read_elements, read_document_in, EarlierKeys, no_earlier_keys, add_earlier_key}
-use Rattle.bson_bytes.specs.declared.duplicate_keys.DuplicateKeys.{DuplicateKeys}
+use Rattle.bson_model.specs.declared.options.DuplicateKeys.{DuplicateKeys}
 use Rattle.bson_bytes.proofs.Standing.{Stand, stand_first, stand_rest, stand_from, key_again}
 use Rattle.bson_bytes.proofs.PartLaws.{wide32, wide64, length-little_endian, number_again, size_again, bytes_again, name_again}
 use Rattle.bson_bytes.proofs.PartLaws.{text_again, regroup as end_behind}

@@ -30,7 +30,7 @@ use Rattle.bson_bytes.specs.Grammar.{is_false}
 use Rattle.bson_bytes.specs.Grammar.{is_true, is_date, is_null, is_regex, is_pointer, is_code, is_symbol, is_scope}
 use Rattle.bson_bytes.specs.Grammar.{is_int32, is_timestamp, is_int64, is_decimal, is_min_key, is_max_key}
 use Rattle.bson_bytes.specs.ReadDocuments.{IsReadAsDocument}
-use Rattle.bson_bytes.specs.declared.duplicate_keys.DuplicateKeys.TheVariants.{Replace}
+use Rattle.bson_model.specs.declared.options.DuplicateKeys.TheVariants.{LastWins}
 use Rattle.bson_bytes.specs.Reading.{reads_bytes}
 use Rattle.bson_bytes.specs.Writing.{scalar_bytes, name_bytes, type_of, value_bytes, array_elements_bytes}
 use Rattle.bson_bytes.specs.Writing.{elements_bytes, document_bytes, FitsScalar, FitsValue, FitsItems, FitsElements}
@@ -65,14 +65,14 @@ bits64 z h = omega (arith, ints)
 
 binary_by : (test : Bool) (d b : ℕ) (s : List ℕ) → eqb b 2 ≡ test → b < 256
     → IsLength (cond test (length s + 4) (length s))
-    → IsValue Replace d tag.Binary (cond test (old_binary_bytes s) (binary_bytes b s)) (scalar (binary (subtype_of b) s))
+    → IsValue LastWins d tag.Binary (cond test (old_binary_bytes s) (binary_bytes b s)) (scalar (binary (subtype_of b) s))
 binary_by true d b s e lt f =
-    subst (λ (c : ℕ). IsValue Replace d tag.Binary (old_binary_bytes s) (scalar (binary (subtype_of c) s))) (sym (eqb-true b 2 e))
+    subst (λ (c : ℕ). IsValue LastWins d tag.Binary (old_binary_bytes s) (scalar (binary (subtype_of c) s))) (sym (eqb-true b 2 e))
     (is_old_binary d s f)
 binary_by false d b s e lt f = is_binary d b s lt (eqb-false b 2 e) f
 
 scalar_is : (x : Scalar) (d : ℕ) → FitsScalar x → IsWellTypedScalar x
-    → IsValue Replace d (scalar_type x) (scalar_bytes x) (scalar (with_written_subtype x))
+    → IsValue LastWins d (scalar_type x) (scalar_bytes x) (scalar (with_written_subtype x))
 scalar_is null d f t = is_null d
 scalar_is undefined d f t = is_undefined d
 scalar_is min_key d f t = is_min_key d
@@ -81,10 +81,10 @@ scalar_is (boolean true) d f t = is_true d
 scalar_is (boolean false) d f t = is_false d
 scalar_is (double p) d f t = is_double d p t
 scalar_is (int32 z) d f t =
-    subst (λ (x : ℤ). IsValue Replace d tag.Int32 (little_endian w32 (cast_unsigned w32 z)) (scalar (int32 x))) (to_z-of_z w32 z t)
+    subst (λ (x : ℤ). IsValue LastWins d tag.Int32 (little_endian w32 (cast_unsigned w32 z)) (scalar (int32 x))) (to_z-of_z w32 z t)
     (is_int32 d (cast_unsigned w32 z) (bits32 z t))
 scalar_is (int64 z) d f t =
-    subst (λ (x : ℤ). IsValue Replace d tag.Int64 (little_endian w64 (cast_unsigned w64 z)) (scalar (int64 x))) (to_z-of_z w64 z t)
+    subst (λ (x : ℤ). IsValue LastWins d tag.Int64 (little_endian w64 (cast_unsigned w64 z)) (scalar (int64 x))) (to_z-of_z w64 z t)
     (is_int64 d (cast_unsigned w64 z) (bits64 z t))
 scalar_is (text s) d f t = is_text d s (t, f)
 scalar_is (symbol s) d f t = is_symbol d s (t, f)
@@ -95,7 +95,7 @@ scalar_is (timestamp t i) d f h = is_timestamp d i t h.1 h.0
 scalar_is (binary k s) d f t = binary_by (eqb (subtype_byte k) 2) d (subtype_byte k) s refl t f
 scalar_is (object_id id) d f t = is_object_id d id t
 scalar_is (date z) d f t =
-    subst (λ (x : ℤ). IsValue Replace d tag.DateTime (little_endian w64 (cast_unsigned w64 z)) (scalar (date x))) (to_z-of_z w64 z t)
+    subst (λ (x : ℤ). IsValue LastWins d tag.DateTime (little_endian w64 (cast_unsigned w64 z)) (scalar (date x))) (to_z-of_z w64 z t)
     (is_date d (cast_unsigned w64 z) (bits64 z t))
 scalar_is (decimal128 s) d f t = is_decimal d s t
 scalar_is (db_pointer s id) d f t = is_pointer d s id (t.0, f) t.1
@@ -128,40 +128,40 @@ one_each_written ps e = settle_written no_pairs ps ∙ ap pairs_read_back e
 -- the values under their keys
 record Numbered (d n : ℕ) (vs : Values) : Type 0 where
   pairs : Pairs
-  spelled : IsElementList Replace d (array_elements_bytes n vs) pairs
+  spelled : IsElementList LastWins d (array_elements_bytes n vs) pairs
   are : pair_values pairs ≡ map_scalars_of_items with_written_subtype vs
 
 -- the document of a list that is in the grammar
-document_of : (e d : ℕ) (ps : Pairs) (list : List ℕ) → d ≡ suc e → IsElementList Replace e list ps → IsLength (length list + 5)
-    → IsDocument Replace d (document_of_elements list) ps
+document_of : (e d : ℕ) (ps : Pairs) (list : List ℕ) → d ≡ suc e → IsElementList LastWins e list ps → IsLength (length list + 5)
+    → IsDocument LastWins d (document_of_elements list) ps
 document_of e d ps list same w f =
-    subst (λ (n : ℕ). IsDocument Replace n (document_of_elements list) ps) (sym same) (is_document e list ps w f)
+    subst (λ (n : ℕ). IsDocument LastWins n (document_of_elements list) ps) (sym same) (is_document e list ps w f)
 
 -- an element in front of a list
-element_at_position : (d : ℕ) (k bytes list : List ℕ) (v w : Value) (ps : Pairs) → IsName k → IsValue Replace d (type_of v) bytes w
-    → IsElementList Replace d list ps → IsElementList Replace d (name_bytes (type_of v) k ++ (bytes ++ list)) (pair k w ps)
+element_at_position : (d : ℕ) (k bytes list : List ℕ) (v w : Value) (ps : Pairs) → IsName k → IsValue LastWins d (type_of v) bytes w
+    → IsElementList LastWins d list ps → IsElementList LastWins d (name_bytes (type_of v) k ++ (bytes ++ list)) (pair k w ps)
 element_at_position d k bytes list v w ps name val others =
-    subst (λ (x : List ℕ). IsElementList Replace d (tag_of (type_of v) ∷ x) (pair k w ps)) (sym (append_assoc k (0 ∷ []) (bytes ++ list)))
+    subst (λ (x : List ℕ). IsElementList LastWins d (tag_of (type_of v) ∷ x) (pair k w ps)) (sym (append_assoc k (0 ∷ []) (bytes ++ list)))
     (is_element d (type_of v) k bytes list w ps name val others)
 
 mutual
   value_is : (v : Value) (d : ℕ) → FitsValue v → IsWellTyped v → NestsUpTo v d
-      → IsValue Replace d (type_of v) (value_bytes v) (map_scalars with_written_subtype v)
+      → IsValue LastWins d (type_of v) (value_bytes v) (map_scalars with_written_subtype v)
   value_is (scalar x) d f t n = scalar_is x d f t
   value_is (code_scope s ps) d f t n =
       let list = list_is ps n.0 f.0.1.0 t.1 n.2 in
       let doc = document_of n.0 d (pairs_read_back ps) (elements_bytes ps) n.1 list f.0.1.1 in
-      subst (λ (q : Pairs). IsValue Replace d tag.JavaScriptCodeWithScope (code_with_scope_bytes s (document_of_elements (elements_bytes ps))) (code_scope s q))
+      subst (λ (q : Pairs). IsValue LastWins d tag.JavaScriptCodeWithScope (code_with_scope_bytes s (document_of_elements (elements_bytes ps))) (code_scope s q))
       (one_each_written ps t.2) (is_scope d s (document_of_elements (elements_bytes ps)) (pairs_read_back ps) (t.0, f.0.0) doc tt f.1)
   value_is (array vs) d f t n =
       let items = items_is vs n.0 0 f.0 t n.2 (omega (arith, f.1)) in
       let doc = document_of n.0 d items.pairs (array_elements_bytes 0 vs) n.1 items.spelled f.1 in
-      subst (λ (q : Values). IsValue Replace d tag.Array (document_of_elements (array_elements_bytes 0 vs)) (array q)) items.are
+      subst (λ (q : Values). IsValue LastWins d tag.Array (document_of_elements (array_elements_bytes 0 vs)) (array q)) items.are
       (is_array d (document_of_elements (array_elements_bytes 0 vs)) items.pairs doc)
   value_is (document ps) d f t n =
       let list = list_is ps n.0 f.0 t.0 n.2 in
       let doc = document_of n.0 d (pairs_read_back ps) (elements_bytes ps) n.1 list f.1 in
-      subst (λ (q : Pairs). IsValue Replace d tag.EmbeddedDocument (document_of_elements (elements_bytes ps)) (document q)) (one_each_written ps t.1)
+      subst (λ (q : Pairs). IsValue LastWins d tag.EmbeddedDocument (document_of_elements (elements_bytes ps)) (document q)) (one_each_written ps t.1)
       (is_embedded_document d (document_of_elements (elements_bytes ps)) (pairs_read_back ps) doc tt)
 
   items_is : (vs : Values) (d n : ℕ) → FitsItems vs → AreWellTyped vs → ItemsNestUpTo vs d
@@ -179,7 +179,7 @@ mutual
         are = ap (λ (ws : Values). value (map_scalars with_written_subtype v) ws) rest.are;
       }
 
-  list_is : (ps : Pairs) (d : ℕ) → FitsElements ps → PairsAreWellTyped ps → PairsNestUpTo ps d → IsElementList Replace d (elements_bytes ps) (pairs_read_back ps)
+  list_is : (ps : Pairs) (d : ℕ) → FitsElements ps → PairsAreWellTyped ps → PairsNestUpTo ps d → IsElementList LastWins d (elements_bytes ps) (pairs_read_back ps)
   list_is no_pairs d f t h = is_empty d
   list_is (pair k v ps) d f t h =
       element_at_position d k (value_bytes v) (elements_bytes ps) v (map_scalars with_written_subtype v) (pairs_read_back ps)
@@ -200,5 +200,5 @@ pub written_one : (d : ℕ) (ps qs : Pairs) → FitsDocument ps → FitsDocument
     → PairsNestUpTo ps d → PairsNestUpTo qs d → document_bytes ps ≡ document_bytes qs → pairs_read_back ps ≡ pairs_read_back qs
 written_one d ps qs f g t u h k e =
     ok_is (pairs_read_back ps) (pairs_read_back qs)
-    (sym (is_read Replace (suc d) (document_bytes ps) (pairs_read_back ps) (written_read d ps f t h)) ∙ ap (reads_bytes (suc d)) e
-    ∙ is_read Replace (suc d) (document_bytes qs) (pairs_read_back qs) (written_read d qs g u k))
+    (sym (is_read LastWins (suc d) (document_bytes ps) (pairs_read_back ps) (written_read d ps f t h)) ∙ ap (reads_bytes (suc d)) e
+    ∙ is_read LastWins (suc d) (document_bytes qs) (pairs_read_back qs) (written_read d qs g u k))

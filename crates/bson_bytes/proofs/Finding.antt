@@ -12,7 +12,7 @@ use Rattle.bson_types.specs.declared.spec.ElementType.{ElementType}
 use Rattle.bson_model.specs.Value.{Value, Pairs, no_pairs, pair, value_at_key}
 use Rattle.bson_bytes.specs.declared.fault.Fault.{Fault}
 use Rattle.bson_bytes.specs.Grammar.{deduplicated}
-use Rattle.bson_bytes.specs.declared.duplicate_keys.DuplicateKeys.TheVariants.{Replace}
+use Rattle.bson_model.specs.declared.options.DuplicateKeys.TheVariants.{LastWins}
 use Rattle.bson_bytes.specs.Fault.{fault_at, ◌>>=◌}
 use Rattle.bson_bytes.specs.declared.fault.FaultKind.TheVariants.{Trailing}
 use Rattle.bson_bytes.specs.Reading.{split_at_nul, read_first_document, read_document_in, read_value_in, insert_pairs_read, reads_bytes, reads_bytes_in}
@@ -226,11 +226,11 @@ got d bytes name key read same x h =
 
 -- what is read again is the same value
 pub read_same : (d : ℕ) (e : RawElement) (v w : Value) → HasValue d e v
-    → without_rest (read_value_in Replace (read_document_in Replace d) e.kind e.value.now) ≡ Ok w → v ≡ w
+    → without_rest (read_value_in LastWins (read_document_in LastWins d) e.kind e.value.now) ≡ Ok w → v ≡ w
 read_same d e v w h g = ok_is v w (sym (ap without_rest h) ∙ g)
 
 pub same_value : {d : ℕ} {e : RawElement} {total : Option Value} → Got d e total → (w : Value)
-    → without_rest (read_value_in Replace (read_document_in Replace (d - 1)) e.kind e.value.now) ≡ Ok w → Some w ≡ total
+    → without_rest (read_value_in LastWins (read_document_in LastWins (d - 1)) e.kind e.value.now) ≡ Ok w → Some w ≡ total
 same_value {d} {e} g w h = ap Some (sym (read_same (d - 1) e g.value w g.read h)) ∙ sym g.is
 
 -- ---- a whole document

@@ -2,8 +2,8 @@
 use Rattle.std.proofs.Common.{ℕ, List}
 use Rattle.bson_model.specs.Value.{Value, Pairs}
 use Rattle.bson_types.specs.declared.spec.ElementType.{ElementType}
-use Rattle.bson_bytes.specs.declared.duplicate_keys.DuplicateKeys.{DuplicateKeys}
-use Rattle.bson_bytes.specs.declared.duplicate_keys.DuplicateKeys.TheVariants.{Replace}
+use Rattle.bson_model.specs.declared.options.DuplicateKeys.{DuplicateKeys}
+use Rattle.bson_model.specs.declared.options.DuplicateKeys.TheVariants.{LastWins}
 use Rattle.bson_bytes.specs.Grammar.{IsDocument, is_document, IsElementList, is_empty, is_element, IsValue, is_double, is_text}
 use Rattle.bson_bytes.specs.Grammar.{is_embedded_document, is_array, is_binary, is_old_binary, is_undefined, is_object_id}
 use Rattle.bson_bytes.specs.Grammar.{is_false, is_true, is_date, is_null, is_regex, is_pointer, is_code, is_symbol}
@@ -12,7 +12,7 @@ use Rattle.bson_bytes.specs.ReadDocuments.{IsReadAsDocumentIn, IsReadAsDocument}
 
 mutual
   value_kept : {keys : DuplicateKeys} {d : ℕ} {t : ElementType} {bytes : List ℕ} {v : Value} → IsValue keys d t bytes v
-      → IsValue Replace d t bytes v
+      → IsValue LastWins d t bytes v
   value_kept (is_double d p f) = is_double d p f
   value_kept (is_text d s f) = is_text d s f
   value_kept (is_embedded_document d bytes ps w once) = is_embedded_document d bytes ps (document_kept w) tt
@@ -37,13 +37,13 @@ mutual
   value_kept (is_min_key d) = is_min_key d
   value_kept (is_max_key d) = is_max_key d
 
-  list_kept : {keys : DuplicateKeys} {d : ℕ} {list : List ℕ} {ps : Pairs} → IsElementList keys d list ps → IsElementList Replace d list ps
+  list_kept : {keys : DuplicateKeys} {d : ℕ} {list : List ℕ} {ps : Pairs} → IsElementList keys d list ps → IsElementList LastWins d list ps
   list_kept (is_empty d) = is_empty d
   list_kept (is_element d t k bytes list v ps name w ws) =
       is_element d t k bytes list v ps name (value_kept w) (list_kept ws)
 
   document_kept : {keys : DuplicateKeys} {d : ℕ} {bytes : List ℕ} {ps : Pairs} → IsDocument keys d bytes ps
-      → IsDocument Replace d bytes ps
+      → IsDocument LastWins d bytes ps
   document_kept (is_document d list ps ws f) = is_document d list ps (list_kept ws) f
 
 pub read_in_order : (keys : DuplicateKeys) (d : ℕ) (bytes : List ℕ) (ps : Pairs) → IsReadAsDocumentIn keys d bytes ps → IsReadAsDocument d bytes ps

@@ -8,7 +8,7 @@ use Rattle.bson_bytes.specs.Fault.{fault_at}
 use Rattle.bson_bytes.specs.Grammar.{IsDocument, AreAllowedKeys, deduplicated_onto, deduplicated}
 use Rattle.bson_bytes.specs.Reading.{insert_pairs_read, read_document_in, reads_bytes_in, no_earlier_keys}
 use Rattle.bson_bytes.specs.ReadDocuments.{IsReadAsDocumentIn, IsFirstDocumentIn}
-use Rattle.bson_bytes.specs.declared.duplicate_keys.DuplicateKeys.{DuplicateKeys}
+use Rattle.bson_model.specs.declared.options.DuplicateKeys.{DuplicateKeys}
 use Rattle.bson_bytes.proofs.PartLaws.{IsBytes, bind_ok, if_ok, ok_is}
 use Rattle.bson_bytes.proofs.Takes.{document_takes}
 use Rattle.bson_bytes.proofs.Again.{document_again}

@@ -7,7 +7,7 @@ use Rattle.std.proofs.lemmas.Str.{IsUtf8-from_is_utf8}
 use Rattle.bson_model.specs.Value.{Value, Pairs, no_pairs, pair}
 use Rattle.bson_bytes.specs.Grammar.{deduplicated, pair_values}
 use Rattle.bson_bytes.specs.Reading.{read_document_in, read_value_in, insert_pairs_read, reads_bytes}
-use Rattle.bson_bytes.specs.declared.duplicate_keys.DuplicateKeys.TheVariants.{Replace}
+use Rattle.bson_model.specs.declared.options.DuplicateKeys.TheVariants.{LastWins}
 use Rattle.bson_bytes.proofs.Offered.{front_from, is_read}
 use Rattle.bson_bytes.specs.RawElements.{HasValue, IsElement}
 use Rattle.bson_bytes.specs.RawIterators.{pairs_list, values_list}
@@ -25,14 +25,14 @@ pub alone : (d : ℕ) (bytes rest : List ℕ) (ps : Pairs) → ((i : ℕ) → ge
 alone d bytes rest ps fits x skips =
     let s = document_skips d bytes ps x.0 x.1 in
     let same : x.0 ≡ rest = some_is x.0 rest (sym (sized_follows s.0 0 bytes x.0 s.1 s.2) ∙ skips) in
-    let f = front_from Replace d bytes (deduplicated ps) x.0 fits (ap (insert_pairs_read no_pairs) x.1) in
+    let f = front_from LastWins d bytes (deduplicated ps) x.0 fits (ap (insert_pairs_read no_pairs) x.1) in
     let n = length bytes - length rest in
     let count : length bytes ≡ length f.front + length x.0 = ap length f.parts ∙ length-append f.front x.0 in
     let most : n ≤ length f.front = omega (arith, ap length same) in
     let least : length f.front ≤ n = omega (arith, ap length same) in
     let front : take n bytes ≡ f.front =
     ap (take n) f.parts ∙ take-append-le n f.front x.0 most ∙ take_all n f.front least in
-    ap (reads_bytes d) front ∙ is_read Replace d f.front (deduplicated ps) f.read
+    ap (reads_bytes d) front ∙ is_read LastWins d f.front (deduplicated ps) f.read
 
 pub sized_there : (d : ℕ) (bytes : List ℕ) (ps : Pairs) → BeginsWithDocument d bytes ps → skip_length_prefixed 0 bytes ≡ None → ⊥
 sized_there d bytes ps x none =
@@ -64,7 +64,7 @@ goes d bytes read e h =
 
 -- what the first element is, and the elements after it
 pub goes_list : (d : ℕ) (bytes : List ℕ) (e : RawElement) → Goes d bytes e → (k : List ℕ) (w : Value) → k ≡ e.key.now
-    → without_rest (read_value_in Replace (read_document_in Replace d) e.kind e.value.now) ≡ Ok w
+    → without_rest (read_value_in LastWins (read_document_in LastWins d) e.kind e.value.now) ≡ Ok w
     → pairs_list (pairs_or_none (elements_from_bytes d bytes)) ≡ (k, w) ∷ pairs_list (pairs_or_none (elements_from_bytes d e.rest.now))
 goes_list d bytes e g k w same read =
     let others = pairs_list (pairs_or_none (elements_from_bytes d e.rest.now)) in

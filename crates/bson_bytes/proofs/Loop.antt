@@ -7,8 +7,8 @@ use Rattle.bson_types.specs.declared.spec.ElementType.TheVariants as tag
 use Rattle.bson_model.specs.Value.{Value, Pairs, no_pairs, pair, array, document}
 use Rattle.bson_bytes.specs.declared.fault.Fault.{Fault}
 use Rattle.bson_bytes.specs.declared.fault.FaultKind.TheVariants.{Length}
-use Rattle.bson_bytes.specs.declared.duplicate_keys.DuplicateKeys.{DuplicateKeys}
-use Rattle.bson_bytes.specs.declared.duplicate_keys.DuplicateKeys.TheVariants.{Replace, Refuse}
+use Rattle.bson_model.specs.declared.options.DuplicateKeys.{DuplicateKeys}
+use Rattle.bson_model.specs.declared.options.DuplicateKeys.TheVariants.{LastWins, Reject}
 use Rattle.bson_bytes.specs.Fault.{fault_at, ◌>>=◌}
 use Rattle.bson_bytes.specs.Grammar.{pair_values}
 use Rattle.bson_bytes.specs.Reading.{read_byte, read_key, read_length, read_string, read_code_with_scope, insert_pairs_read, read_value_in, read_document_in}
@@ -71,9 +71,9 @@ keys_back_more (pair l w ps) ks k v = keys_back_more ps (l ∷ ks) k v
 
 before_more : (keys : DuplicateKeys) (doc : Bool) (ps : Pairs) (k : List ℕ) (v : Value)
     → earlier_keys keys doc (with_last_pair ps k v) ≡ add_earlier_key k (earlier_keys keys doc ps)
-before_more Replace doc ps k v = refl
-before_more Refuse true ps k v = ap (λ ks. Some ks) (keys_back_more ps [] k v)
-before_more Refuse false ps k v = refl
+before_more LastWins doc ps k v = refl
+before_more Reject true ps k v = ap (λ ks. Some ks) (keys_back_more ps [] k v)
+before_more Reject false ps k v = refl
 
 -- what is read after the pairs that are done, written after them, is the whole
 pub record ListLeft (keys : DuplicateKeys) (doc : Bool) (d : ℕ) (ps : Pairs) (rest : List ℕ) (total : Read) : Type 0 where
@@ -122,13 +122,13 @@ Given {S} B ps first begun list now = (start : S) → B start no_pairs first beg
 
 pub begins : (keys : DuplicateKeys) (d : ℕ) (bytes : List ℕ)
     → read_document_in keys d (no_earlier_keys keys) bytes ≡ read_document_in keys d (earlier_keys keys true no_pairs) bytes
-begins Replace d bytes = refl
-begins Refuse d bytes = refl
+begins LastWins d bytes = refl
+begins Reject d bytes = refl
 
 begins_array : (keys : DuplicateKeys) (d : ℕ) (bytes : List ℕ)
     → read_document_in keys d None bytes ≡ read_document_in keys d (earlier_keys keys false no_pairs) bytes
-begins_array Replace d bytes = refl
-begins_array Refuse d bytes = refl
+begins_array LastWins d bytes = refl
+begins_array Reject d bytes = refl
 
 pub array_read : (keys : DuplicateKeys) (d : ℕ) (bytes : List ℕ) (ps : Pairs) (rest : List ℕ)
     → read_document_in keys d (earlier_keys keys false no_pairs) bytes ≡ Ok (ps, rest)

@@ -10,7 +10,7 @@ use Rattle.bson_bytes.specs.declared.fault.FaultKind.TheVariants.{Short, Tag, Le
 use Rattle.bson_bytes.specs.Fault.{fault_at, ◌>>=◌}
 use Rattle.bson_bytes.specs.Reading.{read_string, read_code_with_scope, read_byte, read_key, read_length, map_pairs_read, insert_pairs_read, read_value_in, read_elements}
 use Rattle.bson_bytes.specs.Reading.{check_length, read_document_in, EarlierKeys, no_earlier_keys, add_earlier_key}
-use Rattle.bson_bytes.specs.declared.duplicate_keys.DuplicateKeys.{DuplicateKeys}
+use Rattle.bson_model.specs.declared.options.DuplicateKeys.{DuplicateKeys}
 use Rattle.bson_bytes.specs.TypeTags.{type_of_tag}
 use Rattle.bson_bytes.proofs.PartLaws.{byte_takes}
 

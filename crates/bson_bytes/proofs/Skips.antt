@@ -14,7 +14,7 @@ use Rattle.bson_model.specs.Value.{Value, Pairs, no_pairs, scalar, code_scope, a
 use Rattle.bson_bytes.specs.declared.fault.Fault.{Fault}
 use Rattle.bson_bytes.specs.declared.fault.FaultKind.{FaultKind}
 use Rattle.bson_bytes.specs.declared.fault.FaultKind.TheVariants.{Short, Length, Utf8, Boolean}
-use Rattle.bson_bytes.specs.declared.duplicate_keys.DuplicateKeys.TheVariants.{Replace}
+use Rattle.bson_model.specs.declared.options.DuplicateKeys.TheVariants.{LastWins}
 use Rattle.bson_bytes.specs.Fault.{fault_at, ◌>>=◌, some_or_fault}
 use Rattle.bson_bytes.specs.Grammar.{pair_values, deduplicated_onto}
 use Rattle.bson_bytes.specs.Reading.{read_byte, read_bytes, read_integer, read_length, read_nul, split_at_nul, prepend_byte, check_utf8, read_name}
@@ -293,22 +293,22 @@ timestamp_skips bytes v rest e =
 
 -- a document has the length that it begins with
 abbrev pub DocumentSkips : ℕ → Type 0
-DocumentSkips d = (bytes : List ℕ) (ps : Pairs) (rest : List ℕ) → read_document_in Replace d None bytes ≡ Ok (ps, rest)
+DocumentSkips d = (bytes : List ℕ) (ps : Pairs) (rest : List ℕ) → read_document_in LastWins d None bytes ≡ Ok (ps, rest)
     → Sized 0 bytes rest
 
 pub same_length : (n a b c m : ℕ) → n + c ≡ m → a + b + c ≡ m → n + 0 ≡ a + b
 same_length n a b c m e f = omega arith
 
 scope_sized : (d : ℕ) → DocumentSkips d → (bytes : List ℕ) (v : Value) (rest : List ℕ)
-    → read_code_with_scope (read_document_in Replace d None) bytes ≡ Ok (v, rest) → Sized 0 bytes rest
+    → read_code_with_scope (read_document_in LastWins d None) bytes ≡ Ok (v, rest) → Sized 0 bytes rest
 unfolding read_code_with_scope
 scope_sized d h bytes v rest e =
-    let b = bind_ok (read_length bytes) (λ n. read_string n.1 >>= λ s. insert_pairs_read no_pairs (read_document_in Replace d None s.1) >>= λ x. cond (eqb (n.0 + length x.1) (length bytes)) (Ok (code_scope s.0 x.0, x.1)) (Err (fault_at Length bytes))) (v, rest) e in
-    let s = bind_ok (read_string b.0.1) (λ s. insert_pairs_read no_pairs (read_document_in Replace d None s.1) >>= λ x. cond (eqb (b.0.0 + length x.1) (length bytes)) (Ok (code_scope s.0 x.0, x.1)) (Err (fault_at Length bytes))) (v, rest) b.2 in
-    let x = bind_ok (insert_pairs_read no_pairs (read_document_in Replace d None s.0.1)) (λ x. cond (eqb (b.0.0 + length x.1) (length bytes)) (Ok (code_scope s.0.0 x.0, x.1)) (Err (fault_at Length bytes))) (v, rest) s.2 in
+    let b = bind_ok (read_length bytes) (λ n. read_string n.1 >>= λ s. insert_pairs_read no_pairs (read_document_in LastWins d None s.1) >>= λ x. cond (eqb (n.0 + length x.1) (length bytes)) (Ok (code_scope s.0 x.0, x.1)) (Err (fault_at Length bytes))) (v, rest) e in
+    let s = bind_ok (read_string b.0.1) (λ s. insert_pairs_read no_pairs (read_document_in LastWins d None s.1) >>= λ x. cond (eqb (b.0.0 + length x.1) (length bytes)) (Ok (code_scope s.0 x.0, x.1)) (Err (fault_at Length bytes))) (v, rest) b.2 in
+    let x = bind_ok (insert_pairs_read no_pairs (read_document_in LastWins d None s.0.1)) (λ x. cond (eqb (b.0.0 + length x.1) (length bytes)) (Ok (code_scope s.0.0 x.0, x.1)) (Err (fault_at Length bytes))) (v, rest) s.2 in
     let g = if_ok (eqb (b.0.0 + length x.0.1) (length bytes)) (Ok (code_scope s.0.0 x.0.0, x.0.1)) (fault_at Length bytes) (v, rest) x.2 in
     let same : x.0.1 ≡ rest = rest_is (code_scope s.0.0 x.0.0) x.0.1 v rest g.1 in
-    let read = stepped (deduplicated_onto no_pairs) (read_document_in Replace d None s.0.1) x.0.0 x.0.1 x.1 in
+    let read = stepped (deduplicated_onto no_pairs) (read_document_in LastWins d None s.0.1) x.0.0 x.0.1 x.1 in
     let size = size_follows bytes b.0.0 b.0.1 b.1 in
     let text = text_sized b.0.1 s.0.0 s.0.1 s.1 in
     let scope = h s.0.1 read.0 x.0.1 read.1 in
@@ -321,15 +321,15 @@ scope_sized d h bytes v rest e =
 
 -- an array or a document that is a value
 inner_skips : {A : Type 0} (d : ℕ) → DocumentSkips d → (f : Pairs → A) (g : A → Value) (bytes : List ℕ) (v : Value) (rest : List ℕ)
-    → made g (map_pairs_read f (read_document_in Replace d None bytes)) ≡ Ok (v, rest)
+    → made g (map_pairs_read f (read_document_in LastWins d None bytes)) ≡ Ok (v, rest)
     → (skip_length_prefixed 0 bytes ≡ Some rest) × Lookahead bytes rest
 inner_skips d h f g bytes v rest e =
-    let x = stepped g (map_pairs_read f (read_document_in Replace d None bytes)) v rest e in
-    let read = stepped f (read_document_in Replace d None bytes) x.0 rest x.1 in
+    let x = stepped g (map_pairs_read f (read_document_in LastWins d None bytes)) v rest e in
+    let read = stepped f (read_document_in LastWins d None bytes) x.0 rest x.1 in
     sized_skips 0 bytes rest (h bytes read.0 rest read.1)
 
 pub value_skips : (d : ℕ) → DocumentSkips d → (k : ElementType) (bytes : List ℕ) (v : Value) (rest : List ℕ)
-    → read_value_in Replace (read_document_in Replace d) k bytes ≡ Ok (v, rest) → Skips k bytes rest
+    → read_value_in LastWins (read_document_in LastWins d) k bytes ≡ Ok (v, rest) → Skips k bytes rest
 unfolding read_value_in
 value_skips d h tag.Double bytes v rest e = number_skips w64 (λ n. scalar (kind.double n)) bytes v rest e
 value_skips d h tag.String bytes v rest e = text_skips (λ s. scalar (kind.text s)) bytes v rest e

@@ -5,8 +5,8 @@ use Rattle.std.proofs.lemmas.Bool.{false_from_ne_true}
 use Rattle.std.proofs.lemmas.Slice.Eq.{bytes_eq-Decides}
 use Rattle.bson_model.specs.Value.{Value, Pairs, no_pairs, pair}
 use Rattle.bson_bytes.specs.declared.fault.FaultKind.TheVariants.{DuplicateKey}
-use Rattle.bson_bytes.specs.declared.duplicate_keys.DuplicateKeys.{DuplicateKeys}
-use Rattle.bson_bytes.specs.declared.duplicate_keys.DuplicateKeys.TheVariants.{Replace, Refuse}
+use Rattle.bson_model.specs.declared.options.DuplicateKeys.{DuplicateKeys}
+use Rattle.bson_model.specs.declared.options.DuplicateKeys.TheVariants.{LastWins, Reject}
 use Rattle.bson_bytes.specs.Fault.{fault_at}
 use Rattle.bson_bytes.specs.Grammar.{IsNewKey, KeysOccurOnce, AreAllowedKeys}
 use Rattle.bson_bytes.specs.Reading.{EarlierKeys, no_earlier_keys, add_earlier_key, is_new_key, read_key, read_name}
@@ -41,12 +41,12 @@ stand_rest None k v ps h = tt
 stand_rest (Some ks) k v ps h = h.1
 
 pub may_stand : (keys : DuplicateKeys) (ps : Pairs) → Stand (no_earlier_keys keys) ps → AreAllowedKeys keys ps
-may_stand Replace ps h = tt
-may_stand Refuse ps h = h
+may_stand LastWins ps h = tt
+may_stand Reject ps h = h
 
 pub stand_from : (keys : DuplicateKeys) (ps : Pairs) → AreAllowedKeys keys ps → Stand (no_earlier_keys keys) ps
-stand_from Replace ps h = tt
-stand_from Refuse ps h = h
+stand_from LastWins ps h = tt
+stand_from Reject ps h = h
 
 -- ---- the test
 

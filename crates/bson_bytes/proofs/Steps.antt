@@ -8,7 +8,7 @@ use Rattle.bson_types.specs.declared.spec.ElementType.{ElementType}
 use Rattle.bson_model.specs.Value.{Value, Pairs, no_pairs, pair}
 use Rattle.bson_bytes.specs.declared.fault.Fault.{Fault}
 use Rattle.bson_bytes.specs.declared.fault.FaultKind.TheVariants.{Tag, Length}
-use Rattle.bson_bytes.specs.declared.duplicate_keys.DuplicateKeys.TheVariants.{Replace}
+use Rattle.bson_model.specs.declared.options.DuplicateKeys.TheVariants.{LastWins}
 use Rattle.bson_bytes.specs.Fault.{fault_at, ◌>>=◌, some_or_fault}
 use Rattle.bson_bytes.specs.Reading.{read_byte, read_length, split_at_nul, read_name, read_value_in, read_elements, check_length, read_document_in}
 use Rattle.bson_bytes.specs.TypeTags.{type_of_tag}
@@ -41,12 +41,12 @@ pub record Cursor (d m : ℕ) (bytes : List ℕ) (ps : Pairs) (rest : List ℕ) 
   pub utf8 : is_utf8 name ≡ true
   pub value : Value
   pub next : List ℕ
-  pub read : read_value_in Replace (read_document_in Replace d) type after ≡ Ok (value, next)
+  pub read : read_value_in LastWins (read_document_in LastWins d) type after ≡ Ok (value, next)
   pub skips : Skips type after next
   pub lookahead : (n : ℕ) × Follows (1 + n) bytes next
   pub others : Pairs
   pub pairs : ps ≡ pair name value others
-  pub more : elements Replace d None m next ≡ Ok (others, rest)
+  pub more : elements LastWins d None m next ≡ Ok (others, rest)
 
 abbrev pub Step : ℕ → ℕ → List ℕ → Pairs → List ℕ → Type 0
 Step d m bytes ps rest = Ends bytes ps rest ⊎ Cursor d m bytes ps rest
@@ -67,19 +67,19 @@ none_at (c ∷ bytes) a e =
 
 -- what is read after a tag that is not 0
 abbrev after_tag : ℕ → ℕ → List ℕ → ℕ → List ℕ → Result (Pairs × List ℕ) Fault
-after_tag d m bytes t a = some_or_fault (type_of_tag t) Tag bytes >>= λ k. read_name a >>= λ s. read_value_in Replace (read_document_in Replace d) k s.1
-    >>= λ v. elements Replace d None m v.1 >>= λ x. Ok (pair s.0 v.0 x.0, x.1)
+after_tag d m bytes t a = some_or_fault (type_of_tag t) Tag bytes >>= λ k. read_name a >>= λ s. read_value_in LastWins (read_document_in LastWins d) k s.1
+    >>= λ v. elements LastWins d None m v.1 >>= λ x. Ok (pair s.0 v.0 x.0, x.1)
 
 turn_of : (d : ℕ) → DocumentSkips d → (m : ℕ) (bytes : List ℕ) (t : ℕ) (a : List ℕ) (ps : Pairs) (rest : List ℕ)
     → read_byte bytes ≡ Ok (t, a) → (t ≡ 0 → ⊥)
     → after_tag d m bytes t a ≡ Ok (ps, rest)
     → Cursor d m bytes ps rest
 turn_of d h m bytes t a ps rest byte some e =
-    let value = read_value_in Replace (read_document_in Replace d) in
-    let k = bind_ok (some_or_fault (type_of_tag t) Tag bytes) (λ k. read_name a >>= λ s. value k s.1 >>= λ v. elements Replace d None m v.1 >>= λ x. Ok (pair s.0 v.0 x.0, x.1)) (ps, rest) e in
-    let s = bind_ok (read_name a) (λ s. value k.0 s.1 >>= λ v. elements Replace d None m v.1 >>= λ x. Ok (pair s.0 v.0 x.0, x.1)) (ps, rest) k.2 in
-    let v = bind_ok (value k.0 s.0.1) (λ v. elements Replace d None m v.1 >>= λ x. Ok (pair s.0.0 v.0 x.0, x.1)) (ps, rest) s.2 in
-    let x = bind_ok (elements Replace d None m v.0.1) (λ x. Ok (pair s.0.0 v.0.0 x.0, x.1)) (ps, rest) v.2 in
+    let value = read_value_in LastWins (read_document_in LastWins d) in
+    let k = bind_ok (some_or_fault (type_of_tag t) Tag bytes) (λ k. read_name a >>= λ s. value k s.1 >>= λ v. elements LastWins d None m v.1 >>= λ x. Ok (pair s.0 v.0 x.0, x.1)) (ps, rest) e in
+    let s = bind_ok (read_name a) (λ s. value k.0 s.1 >>= λ v. elements LastWins d None m v.1 >>= λ x. Ok (pair s.0 v.0 x.0, x.1)) (ps, rest) k.2 in
+    let v = bind_ok (value k.0 s.0.1) (λ v. elements LastWins d None m v.1 >>= λ x. Ok (pair s.0.0 v.0 x.0, x.1)) (ps, rest) s.2 in
+    let x = bind_ok (elements LastWins d None m v.0.1) (λ x. Ok (pair s.0.0 v.0.0 x.0, x.1)) (ps, rest) v.2 in
     let kind = or_fault_ok (type_of_tag t) Tag bytes k.0 k.1 in
     let name = name_split a s.0.0 s.0.1 s.1 in
     let skips = value_skips d h k.0 s.0.1 v.0.0 v.0.1 v.1 in
@@ -122,19 +122,19 @@ step_by d h m true bytes t a ps rest z byte e =
 step_by d h m false bytes t a ps rest z byte e = inr (turn_of d h m bytes t a ps rest byte (eqb-false t 0 z) e)
 
 pub list_step : (d : ℕ) → DocumentSkips d → (m : ℕ) (bytes : List ℕ) (ps : Pairs) (rest : List ℕ)
-    → elements Replace d None (suc m) bytes ≡ Ok (ps, rest) → Step d m bytes ps rest
+    → elements LastWins d None (suc m) bytes ≡ Ok (ps, rest) → Step d m bytes ps rest
 unfolding read_elements
 list_step d h m bytes ps rest e =
-    let value = read_value_in Replace (read_document_in Replace d) in
-    let b = bind_ok (read_byte bytes) (λ t. cond (eqb t.0 0) (Ok (no_pairs, t.1)) (some_or_fault (type_of_tag t.0) Tag bytes >>= λ k. read_name t.1 >>= λ s. value k s.1 >>= λ v. elements Replace d None m v.1 >>= λ x. Ok (pair s.0 v.0 x.0, x.1))) (ps, rest) e in
+    let value = read_value_in LastWins (read_document_in LastWins d) in
+    let b = bind_ok (read_byte bytes) (λ t. cond (eqb t.0 0) (Ok (no_pairs, t.1)) (some_or_fault (type_of_tag t.0) Tag bytes >>= λ k. read_name t.1 >>= λ s. value k s.1 >>= λ v. elements LastWins d None m v.1 >>= λ x. Ok (pair s.0 v.0 x.0, x.1))) (ps, rest) e in
     step_by d h m (eqb b.0.0 0) bytes b.0.0 b.0.1 ps rest refl b.1 b.2
 
-no_turns : (d : ℕ) (bytes : List ℕ) (ps : Pairs) (rest : List ℕ) → elements Replace d None zero bytes ≡ Ok (ps, rest) → ⊥
+no_turns : (d : ℕ) (bytes : List ℕ) (ps : Pairs) (rest : List ℕ) → elements LastWins d None zero bytes ≡ Ok (ps, rest) → ⊥
 unfolding read_elements
 no_turns d bytes ps rest e = absurd cc
 
 list_lookahead : (d : ℕ) → DocumentSkips d → (m : ℕ) (bytes : List ℕ) (ps : Pairs) (rest : List ℕ)
-    → elements Replace d None m bytes ≡ Ok (ps, rest) → Lookahead bytes rest
+    → elements LastWins d None m bytes ≡ Ok (ps, rest) → Lookahead bytes rest
 list_lookahead d h zero bytes ps rest e = absurd (no_turns d bytes ps rest e)
 list_lookahead d h (suc m) bytes ps rest e =
     elim (list_step d h m bytes ps rest e) [
@@ -147,8 +147,8 @@ pub document_skips : (d : ℕ) → DocumentSkips d
 unfolding read_document_in
 document_skips zero bytes ps rest e = absurd cc
 document_skips (suc d) bytes ps rest e =
-    let b = bind_ok (read_length bytes) (λ n. elements Replace d None (length n.1) n.1 >>= λ x. check_length n.0 bytes x) (ps, rest) e in
-    let x = bind_ok (elements Replace d None (length b.0.1) b.0.1) (λ x. check_length b.0.0 bytes x) (ps, rest) b.2 in
+    let b = bind_ok (read_length bytes) (λ n. elements LastWins d None (length n.1) n.1 >>= λ x. check_length n.0 bytes x) (ps, rest) e in
+    let x = bind_ok (elements LastWins d None (length b.0.1) b.0.1) (λ x. check_length b.0.0 bytes x) (ps, rest) b.2 in
     let g = if_ok (eqb (b.0.0 + length x.0.1) (length bytes)) (Ok x.0) (fault_at Length bytes) (ps, rest) x.2 in
     let size = size_follows bytes b.0.0 b.0.1 b.1 in
     let list = list_lookahead d (document_skips d) (length b.0.1) b.0.1 x.0.0 x.0.1 x.1 in
@@ -160,17 +160,17 @@ document_skips (suc d) bytes ps rest e =
 
 -- ---- the number of turns does not matter
 
-enough : (d n : ℕ) (bytes : List ℕ) (ps : Pairs) (rest : List ℕ) → elements Replace d None n bytes ≡ Ok (ps, rest) → (m : ℕ)
-    → length bytes ≤ m → elements Replace d None m bytes ≡ Ok (ps, rest)
+enough : (d n : ℕ) (bytes : List ℕ) (ps : Pairs) (rest : List ℕ) → elements LastWins d None n bytes ≡ Ok (ps, rest) → (m : ℕ)
+    → length bytes ≤ m → elements LastWins d None m bytes ≡ Ok (ps, rest)
 enough d zero bytes ps rest e m most = absurd (no_turns d bytes ps rest e)
 enough d (suc n) bytes ps rest e m most =
     elim (list_step d (document_skips d) n bytes ps rest e) [
       | inl end ↦
-          no_more Replace d None m bytes 0 rest most end.byte refl ∙ ap (λ (qs : Pairs). Ok (qs, rest)) (sym end.pairs)
+          no_more LastWins d None m bytes 0 rest most end.byte refl ∙ ap (λ (qs : Pairs). Ok (qs, rest)) (sym end.pairs)
       | inr turn ↦
           let shorter : length turn.next < length bytes =
           omega (arith, follows_length (1 + turn.lookahead.0) bytes turn.next turn.lookahead.1) in
-          let goes = one_more Replace d None m bytes turn.tag turn.behind turn.type turn.name turn.after turn.value turn.next most
+          let goes = one_more LastWins d None m bytes turn.tag turn.behind turn.type turn.name turn.after turn.value turn.next most
           shorter turn.byte turn.some turn.kind turn.key turn.read in
           let others = enough d n turn.next turn.others rest turn.more goes.turns goes.enough in
           goes.read ∙ ap (λ (r : Result (Pairs × List ℕ) Fault). r >>= then_pairs turn.name turn.value) others
@@ -184,15 +184,15 @@ pub record Opened (d : ℕ) (bytes : List ℕ) (ps : Pairs) (rest : List ℕ) : 
   pub deep : 1 ≤ d
   pub list : List ℕ
   pub first : Follows 4 bytes list
-  pub read : elements Replace (d - 1) None (length list) list ≡ Ok (ps, rest)
+  pub read : elements LastWins (d - 1) None (length list) list ≡ Ok (ps, rest)
 
-pub opened : (d : ℕ) (bytes : List ℕ) (ps : Pairs) (rest : List ℕ) → read_document_in Replace d None bytes ≡ Ok (ps, rest)
+pub opened : (d : ℕ) (bytes : List ℕ) (ps : Pairs) (rest : List ℕ) → read_document_in LastWins d None bytes ≡ Ok (ps, rest)
     → Opened d bytes ps rest
 unfolding read_document_in
 opened zero bytes ps rest e = absurd cc
 opened (suc d) bytes ps rest e =
-    let b = bind_ok (read_length bytes) (λ n. elements Replace d None (length n.1) n.1 >>= λ x. check_length n.0 bytes x) (ps, rest) e in
-    let x = bind_ok (elements Replace d None (length b.0.1) b.0.1) (λ x. check_length b.0.0 bytes x) (ps, rest) b.2 in
+    let b = bind_ok (read_length bytes) (λ n. elements LastWins d None (length n.1) n.1 >>= λ x. check_length n.0 bytes x) (ps, rest) e in
+    let x = bind_ok (elements LastWins d None (length b.0.1) b.0.1) (λ x. check_length b.0.0 bytes x) (ps, rest) b.2 in
     let g = if_ok (eqb (b.0.0 + length x.0.1) (length bytes)) (Ok x.0) (fault_at Length bytes) (ps, rest) x.2 in
     record {
       deep = omega arith;
@@ -206,7 +206,7 @@ pub record Took (d : ℕ) (k : ElementType) (s b : List ℕ) (ps : Pairs) : Type
   pub utf8 : is_utf8 s ≡ true
   pub value : Value
   pub next : List ℕ
-  pub read : read_value_in Replace (read_document_in Replace d) k b ≡ Ok (value, next)
+  pub read : read_value_in LastWins (read_document_in LastWins d) k b ≡ Ok (value, next)
   pub skips : skip_value k b ≡ Some next
   pub lookahead : Lookahead b next
   pub others : Pairs
@@ -226,7 +226,7 @@ is_last bytes rest h =
     h.1.0 ∙ ap (λ (n : ℕ). drop n bytes) count
 
 took_by : (d m : ℕ) (bytes : List ℕ) (ps : Pairs) (rest : List ℕ) (k : ElementType) (s b : List ℕ)
-    → elements Replace d None m bytes ≡ Ok (ps, rest) → first_element_of bytes ≡ Some (k, s, b) → Took d k s b ps
+    → elements LastWins d None m bytes ≡ Ok (ps, rest) → first_element_of bytes ≡ Some (k, s, b) → Took d k s b ps
 took_by d zero bytes ps rest k s b e found = absurd (no_turns d bytes ps rest e)
 took_by d (suc m) bytes ps rest k s b e found =
     elim (list_step d (document_skips d) m bytes ps rest e) [
@@ -252,7 +252,7 @@ pub took : (d : ℕ) (bytes : List ℕ) (ps : Pairs) (k : ElementType) (s b : Li
     → first_element_of bytes ≡ Some (k, s, b) → Took d k s b ps
 took d bytes ps k s b h found = took_by d (length bytes) bytes ps h.0 k s b h.1 found
 
-none_by : (d m : ℕ) (bytes : List ℕ) (ps : Pairs) (rest : List ℕ) → elements Replace d None m bytes ≡ Ok (ps, rest)
+none_by : (d m : ℕ) (bytes : List ℕ) (ps : Pairs) (rest : List ℕ) → elements LastWins d None m bytes ≡ Ok (ps, rest)
     → first_element_of bytes ≡ None → ps ≡ no_pairs
 none_by d zero bytes ps rest e none = absurd (no_turns d bytes ps rest e)
 none_by d (suc m) bytes ps rest e none =

@@ -26,7 +26,7 @@ use Rattle.bson_bytes.specs.Reading.{read_byte, read_bytes, read_integer, read_l
 use Rattle.bson_bytes.specs.Reading.{read_value_in, read_elements, check_length, read_document_in, map_pairs_read, insert_pairs_read, read_regex, read_pointer}
 use Rattle.bson_bytes.specs.Reading.{read_timestamp, read_code_with_scope, read_old_binary, read_plain_binary, EarlierKeys, no_earlier_keys, add_earlier_key}
 use Rattle.bson_bytes.specs.Reading.{read_key}
-use Rattle.bson_bytes.specs.declared.duplicate_keys.DuplicateKeys.{DuplicateKeys}
+use Rattle.bson_model.specs.declared.options.DuplicateKeys.{DuplicateKeys}
 use Rattle.bson_bytes.proofs.Standing.{Stand, stand_none, stand_more, may_stand, key_takes}
 use Rattle.bson_bytes.proofs.PartLaws.{IsBytes, IsBytes-rest, Takes, bind_ok, if_ok, chosen, ok_is, or_fault_ok}
 use Rattle.bson_bytes.proofs.PartLaws.{IsNumber, wide32, wide64, length-little_endian, number_takes, size_takes, bytes_takes}

@@ -13,7 +13,7 @@ use Rattle.bson_bytes.specs.declared.fault.Fault.{Fault}
 use Rattle.bson_bytes.specs.declared.fault.FaultKind.{FaultKind}
 use Rattle.bson_bytes.specs.declared.fault.FaultKind.TheVariants.{Short, Length, Tag, Utf8, Boolean, End}
 use Rattle.bson_bytes.specs.declared.fault.FaultKind.TheVariants.{Trailing, DuplicateKey}
-use Rattle.bson_bytes.specs.declared.duplicate_keys.DuplicateKeys.{DuplicateKeys}
+use Rattle.bson_model.specs.declared.options.DuplicateKeys.{DuplicateKeys}
 use Rattle.bson_bytes.specs.Fault.{fault_at, ◌>>=◌, some_or_fault}
 use Rattle.bson_bytes.specs.Grammar.{deduplicated_onto, pair_values}
 use Rattle.bson_bytes.specs.Reading.{read_byte, read_bytes, read_integer, read_length, read_nul, split_at_nul, check_utf8, read_name}

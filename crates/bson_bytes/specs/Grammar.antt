@@ -12,8 +12,8 @@ use Rattle.bson_types.specs.ElementTags.{tag_of}
 use Rattle.bson_scalar.specs.Scalar as kind
 use Rattle.bson_model.specs.Value.{Value, Values, no_values, value, Pairs, no_pairs, pair, scalar, code_scope, array}
 use Rattle.bson_model.specs.Value.{document}
-use Rattle.bson_bytes.specs.declared.duplicate_keys.DuplicateKeys.{DuplicateKeys}
-use Rattle.bson_bytes.specs.declared.duplicate_keys.DuplicateKeys.TheVariants.{Replace, Refuse}
+use Rattle.bson_model.specs.declared.options.DuplicateKeys.{DuplicateKeys}
+use Rattle.bson_model.specs.declared.options.DuplicateKeys.TheVariants.{LastWins, Reject}
 
 -- ---- numbers, names and texts
 
@@ -103,8 +103,8 @@ KeysOccurOnce earlier_keys (pair key first_value other_pairs) = IsNewKey earlier
 
 -- the keys are allowed in a document: any keys, or each key once
 abbrev pub AreAllowedKeys : DuplicateKeys → Pairs → Type 0
-AreAllowedKeys Replace pairs = Unit {0}
-AreAllowedKeys Refuse pairs = KeysOccurOnce [] pairs
+AreAllowedKeys LastWins pairs = Unit {0}
+AreAllowedKeys Reject pairs = KeysOccurOnce [] pairs
 
 -- ---- the productions
 

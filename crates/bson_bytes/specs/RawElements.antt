@@ -3,7 +3,7 @@ use Rattle.std.specs.Prelude.{◌≡◌, ℕ, ◌-◌, List, Option, None, Some,
 use Rattle.std.specs.Str.{is_utf8}
 use Rattle.bson_model.specs.Value.{Value, Pairs, no_pairs, pair}
 use Rattle.bson_bytes.specs.Reading.{read_value_in, read_document_in}
-use Rattle.bson_bytes.specs.declared.duplicate_keys.DuplicateKeys.TheVariants.{Replace}
+use Rattle.bson_model.specs.declared.options.DuplicateKeys.TheVariants.{LastWins}
 use Rattle.bson_bytes.specs.ReadElements.{BeginsWithElements}
 use Rattle.bson_bytes.specs.declared.raw_element.RawElement.{RawElement}
 
@@ -14,7 +14,7 @@ value_length element = length element.value.now - length element.rest.now
 -- so many bytes are read as this value
 abbrev pub HasValue : (depth : ℕ) → RawElement → Value → Type 0
 HasValue depth element value =
-    read_value_in Replace (read_document_in Replace depth) element.kind element.value.now
+    read_value_in LastWins (read_document_in LastWins depth) element.kind element.value.now
     ≡ Ok (value, drop (value_length element) element.value.now)
 
 -- the element is the first of these, and the bytes after it begin with the others

@@ -5,7 +5,7 @@ use Rattle.bson_model.specs.Value.{Value, Pairs, no_pairs, pair}
 use Rattle.bson_bytes.specs.Fault.{◌>>=◌}
 use Rattle.bson_bytes.specs.Reading.{read_elements, read_value_in, read_document_in, read_first_document}
 use Rattle.bson_bytes.specs.declared.fault.Fault.{Fault}
-use Rattle.bson_bytes.specs.declared.duplicate_keys.DuplicateKeys.TheVariants.{Replace}
+use Rattle.bson_model.specs.declared.options.DuplicateKeys.TheVariants.{LastWins}
 
 -- the pairs that were read, or none if reading fails
 abbrev pub pairs_or_none : Result (Pairs × List ℕ) Fault → Pairs
@@ -19,7 +19,7 @@ without_rest read_result = read_result >>= λ value_and_rest. Ok value_and_rest.
 -- the elements at the front of the bytes, to the byte 0
 abbrev pub elements_from_bytes : (depth : ℕ) → (bytes : List ℕ) → Result (Pairs × List ℕ) Fault
 elements_from_bytes depth bytes =
-    read_elements (read_value_in Replace (read_document_in Replace depth)) None (length bytes) bytes
+    read_elements (read_value_in LastWins (read_document_in LastWins depth)) None (length bytes) bytes
 
 -- the value of the last pair with the key, or this one if no pair has the key
 abbrev pub last_value : (key : List ℕ) → (found_value : Option Value) → Pairs → Option Value

@@ -15,8 +15,8 @@ use Rattle.bson_model.specs.Value.{Value, Pairs, no_pairs, pair, scalar, code_sc
 use Rattle.bson_bytes.specs.declared.fault.FaultKind.TheVariants.{Short, Length, Tag, Utf8, Boolean, End, Depth}
 use Rattle.bson_bytes.specs.declared.fault.FaultKind.TheVariants.{Trailing, DuplicateKey}
 use Rattle.bson_bytes.specs.declared.fault.Fault.{Fault}
-use Rattle.bson_bytes.specs.declared.duplicate_keys.DuplicateKeys.{DuplicateKeys}
-use Rattle.bson_bytes.specs.declared.duplicate_keys.DuplicateKeys.TheVariants.{Replace, Refuse}
+use Rattle.bson_model.specs.declared.options.DuplicateKeys.{DuplicateKeys}
+use Rattle.bson_model.specs.declared.options.DuplicateKeys.TheVariants.{LastWins, Reject}
 use Rattle.bson_bytes.specs.Fault.{fault_at, ◌>>=◌, some_or_fault}
 use Rattle.bson_bytes.specs.Grammar.{deduplicated_onto, pair_values}
 use Rattle.bson_bytes.specs.TypeTags.{type_of_tag}
@@ -69,8 +69,8 @@ abbrev pub EarlierKeys : Type 0
 EarlierKeys = Option (List (List ℕ))
 
 abbrev pub no_earlier_keys : DuplicateKeys → EarlierKeys
-no_earlier_keys Replace = None
-no_earlier_keys Refuse = Some []
+no_earlier_keys LastWins = None
+no_earlier_keys Reject = Some []
 
 abbrev pub add_earlier_key : (key : List ℕ) → EarlierKeys → EarlierKeys
 add_earlier_key key None = None
@@ -248,7 +248,7 @@ reads_bytes_in keys depth bytes = do
 
 -- the same, if duplicate keys are allowed
 abbrev pub read_first_document : (depth : ℕ) → (bytes : List ℕ) → Result (Pairs × List ℕ) Fault
-read_first_document depth = read_document_in Replace depth None
+read_first_document depth = read_document_in LastWins depth None
 
 abbrev pub reads_bytes : (depth : ℕ) → (bytes : List ℕ) → Result Pairs Fault
-reads_bytes depth = reads_bytes_in Replace depth
+reads_bytes depth = reads_bytes_in LastWins depth

@@ -3,8 +3,8 @@ use Rattle.std.specs.Prelude.{◌≡◌, ℕ, Bool, true, false, List, [], ◌�
 use Rattle.bson_model.specs.Value.{Value, Pairs, no_pairs, pair}
 use Rattle.bson_bytes.specs.Reading.{EarlierKeys}
 use Rattle.bson_bytes.specs.declared.fault.Fault.{Fault}
-use Rattle.bson_bytes.specs.declared.duplicate_keys.DuplicateKeys.{DuplicateKeys}
-use Rattle.bson_bytes.specs.declared.duplicate_keys.DuplicateKeys.TheVariants.{Replace, Refuse}
+use Rattle.bson_model.specs.declared.options.DuplicateKeys.{DuplicateKeys}
+use Rattle.bson_model.specs.declared.options.DuplicateKeys.TheVariants.{LastWins, Reject}
 use Rattle.bson_bytes.specs.declared.stop.Stop.{Stop}
 use Rattle.bson_bytes.specs.declared.stop.Stop.TheVariants as stops
 
@@ -50,6 +50,6 @@ reversed_keys (pair key first_value other_pairs) later_keys = reversed_keys othe
 
 -- the keys that a document (true) of these pairs may not have again; an array may have any names
 abbrev pub earlier_keys : DuplicateKeys → (is_document : Bool) → Pairs → EarlierKeys
-earlier_keys Replace is_document pairs = None
-earlier_keys Refuse true pairs = Some (reversed_keys pairs [])
-earlier_keys Refuse false pairs = None
+earlier_keys LastWins is_document pairs = None
+earlier_keys Reject true pairs = Some (reversed_keys pairs [])
+earlier_keys Reject false pairs = None

@@ -4,7 +4,7 @@ ghost use Rattle.bson_bytes.specs.declared.fault.Fault.{Fault};
 ghost use Rattle.bson_bytes.specs.Grammar.{IsDocument};
 ghost use Rattle.bson_bytes.specs.ReadDocuments.{IsReadAsDocument, IsReadAsDocumentIn};
 ghost use Rattle.bson_bytes.specs.Reading.{reads_bytes_in};
-ghost use Rattle.bson_bytes.specs.declared.duplicate_keys.DuplicateKeys.{DuplicateKeys};
+ghost use Rattle.bson_model.specs.declared.options.DuplicateKeys.{DuplicateKeys};
 ghost use Rattle.bson_bytes.specs.Writing.{document_bytes, pairs_read_back, NoBytesCause, FitsDocument, DocumentDoesNotFit};
 ghost use Rattle.bson_bytes.specs.Writing.{IsWellTypedDocument, PairsNestUpTo};
 ghost use Rattle.bson_model.specs.Value.{Pairs};

@@ -6,7 +6,6 @@
 //! or as text (`text_sink`). `raw_document` has documents that remain bytes.
 #![tactic(auto)]
 
-pub mod duplicate_keys;
 pub mod error;
 pub mod fault;
 pub mod find_key;

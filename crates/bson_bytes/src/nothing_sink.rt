@@ -1,7 +1,7 @@
 //! A sink that keeps nothing.
 ghost use Rattle.std.specs.Prelude.{◌≡◌, IfErr, OnOk, Ok, Err};
 ghost use Rattle.bson_bytes.specs.Reading.{reads_bytes};
-ghost use Rattle.bson_bytes.specs.declared.duplicate_keys.DuplicateKeys.TheVariants.{Replace};
+ghost use Rattle.bson_model.specs.declared.options.DuplicateKeys.TheVariants.{LastWins};
 ghost use Rattle.bson_model.specs.Value.{Pairs};
 
 use crate::fault::Fault;
@@ -27,7 +27,7 @@ impl ValueSink for Nothing {
 
     type Code = ();
 
-    ghost keys = { Replace };
+    ghost keys = { LastWins };
 
     ghost may_stop = { λ stop. ⊥ };
 

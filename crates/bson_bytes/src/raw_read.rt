@@ -5,7 +5,7 @@ ghost use Rattle.bson_bytes.specs.Fault.{ReturnsReading};
 ghost use Rattle.bson_bytes.specs.Reading.{read_old_binary, read_plain_binary, read_binary, read_boolean, read_regex, read_pointer};
 ghost use Rattle.bson_bytes.specs.Reading.{read_timestamp, read_code_with_scope, read_value_in, read_document_in, read_first_document};
 ghost use Rattle.bson_types.specs.declared.spec.ElementType.TheVariants as tag;
-ghost use Rattle.bson_bytes.specs.declared.duplicate_keys.DuplicateKeys.TheVariants.{Replace};
+ghost use Rattle.bson_model.specs.declared.options.DuplicateKeys.TheVariants.{LastWins};
 ghost use Rattle.bson_bytes.specs.ReadScalars.{double_from_bytes, date_from_bytes, int32_from_bytes, int64_from_bytes, string_from_bytes, symbol_from_bytes};
 ghost use Rattle.bson_bytes.specs.ReadScalars.{code_from_bytes, object_id_from_bytes, decimal_from_bytes};
 ghost use Rattle.bson_model.specs.Value.{Value};
@@ -185,8 +185,8 @@ fn read_code_with_scope(bytes: &[u8], depth: usize) -> Result<RawBsonRef<'_>, Fa
 // Returns a document that is a value, and does not validate it again.
 #[tactic(auto, unfolding(crate::specs::Reading::read_value_in))]
 fn read_embedded_document(bytes: &[u8], depth: usize) -> RawBsonRef<'_>
-    requires { is_ok (read_value_in Replace (read_document_in Replace depth) tag.EmbeddedDocument bytes.now) ≡ true }
-    ensures { without_rest (read_value_in Replace (read_document_in Replace depth) tag.EmbeddedDocument bytes.now)
+    requires { is_ok (read_value_in LastWins (read_document_in LastWins depth) tag.EmbeddedDocument bytes.now) ≡ true }
+    ensures { without_rest (read_value_in LastWins (read_document_in LastWins depth) tag.EmbeddedDocument bytes.now)
         ≡ Ok (raw_view result) }
 {
     RawBsonRef::Document(RawDocument { bytes, depth })
@@ -195,8 +195,8 @@ fn read_embedded_document(bytes: &[u8], depth: usize) -> RawBsonRef<'_>
 // Returns an array, and does not validate it again.
 #[tactic(auto, unfolding(crate::specs::Reading::read_value_in))]
 fn read_array(bytes: &[u8], depth: usize) -> RawBsonRef<'_>
-    requires { is_ok (read_value_in Replace (read_document_in Replace depth) tag.Array bytes.now) ≡ true }
-    ensures { without_rest (read_value_in Replace (read_document_in Replace depth) tag.Array bytes.now)
+    requires { is_ok (read_value_in LastWins (read_document_in LastWins depth) tag.Array bytes.now) ≡ true }
+    ensures { without_rest (read_value_in LastWins (read_document_in LastWins depth) tag.Array bytes.now)
         ≡ Ok (raw_view result) }
 {
     let elements = RawDocument { bytes, depth };
@@ -209,8 +209,8 @@ pub(crate) fn read_valid_value(
     bytes: &[u8],
     depth: usize,
 ) -> RawBsonRef<'_>
-    requires { is_ok (read_value_in Replace (read_document_in Replace depth) element_type bytes.now) ≡ true }
-    ensures { without_rest (read_value_in Replace (read_document_in Replace depth) element_type bytes.now)
+    requires { is_ok (read_value_in LastWins (read_document_in LastWins depth) element_type bytes.now) ≡ true }
+    ensures { without_rest (read_value_in LastWins (read_document_in LastWins depth) element_type bytes.now)
         ≡ Ok (raw_view result) }
 {
     match read_value(element_type, bytes, depth) {
@@ -226,9 +226,9 @@ fn read_value(
     bytes: &[u8],
     depth: usize,
 ) -> Result<RawBsonRef<'_>, Fault>
-    requires { is_ok (read_value_in Replace (read_document_in Replace depth) element_type bytes.now) ≡ true }
+    requires { is_ok (read_value_in LastWins (read_document_in LastWins depth) element_type bytes.now) ≡ true }
     ensures { ReturnsReading raw_view result
-        (without_rest (read_value_in Replace (read_document_in Replace depth) element_type bytes.now)) }
+        (without_rest (read_value_in LastWins (read_document_in LastWins depth) element_type bytes.now)) }
 {
     match element_type {
         ElementType::EmbeddedDocument => Ok(read_embedded_document(bytes, depth)),
@@ -242,7 +242,7 @@ fn read_value(
 /// the bytes begin with a value of this type.
 pub fn read_scalar_value(element_type: ElementType, bytes: &[u8]) -> Option<RawBsonRef<'_>>
     ensures { (depth : ℕ) (value_read : Value) (rest : List ℕ)
-        → read_value_in Replace (read_document_in Replace depth) element_type bytes.now ≡ Ok (value_read, rest)
+        → read_value_in LastWins (read_document_in LastWins depth) element_type bytes.now ≡ Ok (value_read, rest)
         → MatchOption result (IsNested value_read) (λ raw_value. raw_view raw_value ≡ value_read) }
 {
     match read_scalar(element_type, bytes) {
@@ -256,7 +256,7 @@ pub fn read_scalar_value(element_type: ElementType, bytes: &[u8]) -> Option<RawB
 fn read_scalar(element_type: ElementType, bytes: &[u8]) -> Result<RawBsonRef<'_>, Fault>
     ensures scalar { (depth : ℕ) → is_nested_type element_type ≡ false
         → ReturnsReading raw_view result
-        (without_rest (read_value_in Replace (read_document_in Replace depth) element_type bytes.now)) }
+        (without_rest (read_value_in LastWins (read_document_in LastWins depth) element_type bytes.now)) }
     ensures nested { is_nested_type element_type ≡ true → IfOk result (λ raw_value. ⊥) }
 {
     match element_type {

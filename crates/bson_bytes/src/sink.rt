@@ -4,7 +4,7 @@ ghost use Rattle.bson_scalar.specs.Scalar as kind;
 ghost use Rattle.bson_types.specs.BinarySubtypes.{subtype_of};
 ghost use Rattle.bson_bytes.specs.Grammar.{deduplicated, pair_values};
 ghost use Rattle.bson_bytes.specs.Reading.{read_key};
-ghost use Rattle.bson_bytes.specs.declared.duplicate_keys.DuplicateKeys.{DuplicateKeys};
+ghost use Rattle.bson_model.specs.declared.options.DuplicateKeys.{DuplicateKeys};
 ghost use Rattle.bson_model.specs.Value.{Value, Pairs, no_pairs, scalar, code_scope, array, document};
 ghost use Rattle.bson_bytes.specs.declared.stop.Stop.{Stop};
 ghost use Rattle.bson_bytes.specs.declared.stop.Stop.TheVariants as stops;

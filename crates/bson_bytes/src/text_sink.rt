@@ -2,7 +2,7 @@
 ghost use Rattle.std.specs.Prelude.{◌≡◌, ◌≢◌, ◌≤◌, true, [], length, take, drop, string_bytes, IsTrue, OnOk};
 ghost use Rattle.std.specs.List.{AllPairs};
 ghost use Rattle.bson_bytes.specs.Reading.{reads_bytes};
-ghost use Rattle.bson_bytes.specs.declared.duplicate_keys.DuplicateKeys.TheVariants.{Replace};
+ghost use Rattle.bson_model.specs.declared.options.DuplicateKeys.TheVariants.{LastWins};
 ghost use Rattle.json.specs.Print.{print as print_tokens};
 ghost use Rattle.bson_scalar.specs.Normal.{writable_scalar_in};
 ghost use Rattle.bson_scalar.specs.View.{scalar_view};
@@ -116,7 +116,7 @@ impl ValueSink for TextSink {
 
     ghost use Rattle.bson_bytes.specs.TextSinkStates.{TextValueWritten, TextDocumentWritten, TextListOpened, TextNameWritten, TextCodeOpened};
 
-    ghost keys = { Replace };
+    ghost keys = { LastWins };
 
     ghost may_stop = { λ stop. Unit {0} };
 

@@ -18,7 +18,7 @@ use Rattle.bson_model.specs.OrderedWritten.{WrittenInOrder}
 use Rattle.bson_model.proofs.OfferedInOrder.{default_written, has_no_float, one_written, ordered_text, written_from}
 use Rattle.bson_model.proofs.OfferedInOrder.{writable_is, written_to}
 use Rattle.bson.specs.Texts.{IsTextInKeyOrder, IsTextInOrder}
-use Rattle.bson.specs.declared.extjson.key_order.KeyOrder.TheVariants.{AsGiven}
+use Rattle.bson_model.specs.declared.options.KeyOrder.TheVariants.{AsGiven}
 use Rattle.bson_bytes.specs.PrintedText.{IsPrintedText}
 use Rattle.bson_codec.specs.DumpRuns.{IsLineOfDocument, WritesLine}
 use Rattle.bson_codec.specs.DocumentText.{IsDocumentTextOf}

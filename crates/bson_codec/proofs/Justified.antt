@@ -9,7 +9,7 @@ use Rattle.bson_bytes.specs.ReadDocuments.{IsReadAsDocument, IsFirstDocument}
 use Rattle.bson_bytes.specs.Reading.{reads_bytes}
 use Rattle.bson_bytes.specs.declared.fault.Fault.{Fault}
 use Rattle.bson_bytes.specs.declared.fault.FaultKind.{FaultKind}
-use Rattle.bson_bytes.specs.declared.duplicate_keys.DuplicateKeys.TheVariants.{Replace}
+use Rattle.bson_model.specs.declared.options.DuplicateKeys.TheVariants.{LastWins}
 use Rattle.bson_codec.proofs.Streams.{front_none, front_read}
 use Rattle.bson_codec.specs.DumpRuns.{EndsAt, IsEndReason, IsRejectedWithFault, IsJustifiedEnd, IsFaultOfDocument, IsSkipped, HasNoTextInForm}
 use Rattle.bson_codec.specs.DumpRuns.{ConsumesPrefix}
@@ -23,13 +23,13 @@ use Rattle.bson_codec.specs.declared.run_end.RunFault.TheVariants.{OutOfMemory}
 -- the documents that bytes are read as are one
 pub read_one : (d : ℕ) (bytes : List ℕ) (ps qs : Pairs) → IsReadAsDocument d bytes ps → IsReadAsDocument d bytes qs → ps ≡ qs
 read_one d bytes ps qs h k =
-    let a : reads_bytes d bytes ≡ Ok ps = is_read Replace d bytes ps h in
-    let b : reads_bytes d bytes ≡ Ok qs = is_read Replace d bytes qs k in cc
+    let a : reads_bytes d bytes ≡ Ok ps = is_read LastWins d bytes ps h in
+    let b : reads_bytes d bytes ≡ Ok qs = is_read LastWins d bytes qs k in cc
 
 -- a document has no fault
 pub faultless : (k : FaultKind) (n d : ℕ) (bytes : List ℕ) (ps : Pairs) → IsReadAsDocument d bytes ps
     → IsFaultAtOffset k n bytes (reads_bytes d bytes) → ⊥
-faultless k n d bytes ps h (f, e, w, l) = let o : reads_bytes d bytes ≡ Ok ps = is_read Replace d bytes ps h in absurd cc
+faultless k n d bytes ps h (f, e, w, l) = let o : reads_bytes d bytes ≡ Ok ps = is_read LastWins d bytes ps h in absurd cc
 
 -- a document of which nothing can be written has no text
 pub no_line : (fault : RunFault) (run : Run) (bytes : List ℕ) (ps : Pairs) → IsRejectedWithFault fault run bytes

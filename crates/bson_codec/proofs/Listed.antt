@@ -6,8 +6,8 @@ use Rattle.bson_store.specs.declared.small.Pair.{Pair}
 use Rattle.bson_model.specs.Value.{Value, Values, no_values, value, Pairs, no_pairs, pair}
 use Rattle.bson_bytes.specs.Grammar.{pair_values, insert_value, deduplicated_onto, deduplicated}
 use Rattle.bson_bytes.specs.Reading.{read_key, read_name}
-use Rattle.bson_bytes.specs.declared.duplicate_keys.DuplicateKeys.{DuplicateKeys}
-use Rattle.bson_bytes.specs.declared.duplicate_keys.DuplicateKeys.TheVariants.{Replace, Refuse}
+use Rattle.bson_model.specs.declared.options.DuplicateKeys.{DuplicateKeys}
+use Rattle.bson_model.specs.declared.options.DuplicateKeys.TheVariants.{LastWins, Reject}
 use Rattle.bson.specs.Pairs.{insert_pair}
 use Rattle.bson.specs.InsertedPairs.{insert_entries}
 use Rattle.bson.specs.View.{bson_view, document_view, values_view, pairs_view, contents}
@@ -104,5 +104,5 @@ pub named_free : {X : Type 0} (May : Stop → Type 0) (rest name : X → List �
     (bytes : List ℕ) (r : Result X Stop) → b ≡ false → ReadsTo May rest (λ s x. Unit {0}) r (read_name bytes)
     → ReadsTo May rest (λ s x. DocumentOrArray b (name x ≡ s) (Unit {0})) r (read_key (earlier_keys keys b ps) bytes)
 named_free May rest name true keys ps bytes r t h = absurd cc
-named_free May rest name false Replace ps bytes r t h = h
-named_free May rest name false Refuse ps bytes r t h = h
+named_free May rest name false LastWins ps bytes r t h = h
+named_free May rest name false Reject ps bytes r t h = h

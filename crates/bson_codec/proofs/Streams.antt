@@ -11,7 +11,7 @@ use Rattle.bson_bytes.specs.Grammar.{little_endian, IsDocument, is_document}
 use Rattle.bson_bytes.specs.ReadDocuments.{IsReadAsDocument, IsFirstDocument}
 use Rattle.bson_bytes.specs.Reading.{read_length}
 use Rattle.bson_bytes.specs.declared.fault.Fault.{Fault}
-use Rattle.bson_bytes.specs.declared.duplicate_keys.DuplicateKeys.{DuplicateKeys}
+use Rattle.bson_model.specs.declared.options.DuplicateKeys.{DuplicateKeys}
 use Rattle.bson_bytes.proofs.Offered.{length-little_endian, wide32, size_again}
 use Rattle.bson_codec.specs.Streams.{BytesAdded, declared_prefix, declared_length, larger_length}
 

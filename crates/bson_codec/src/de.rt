@@ -4,7 +4,7 @@ ghost use Rattle.bson_model.specs.Value.{Pairs, no_pairs};
 ghost use Rattle.bson_bytes.specs.ReadDocuments.{IsReadAsDocument, IsReadAsDocumentIn, IsFirstDocument, IsFirstDocumentIn, IsCanonical};
 ghost use Rattle.bson_bytes.specs.Reading.{read_first_document, read_document_in, reads_bytes, reads_bytes_in, insert_pairs_read, no_earlier_keys};
 ghost use Rattle.bson_bytes.specs.declared.error.Error.TheVariants as causes;
-ghost use Rattle.bson_bytes.specs.declared.duplicate_keys.DuplicateKeys.TheVariants.{Replace};
+ghost use Rattle.bson_model.specs.declared.options.DuplicateKeys.TheVariants.{LastWins};
 ghost use Rattle.bson.specs.View.{document_view};
 ghost use Rattle.bson_codec.specs.ReadErrors.{IsReadFault, IsFaultWithoutMemory, IsStopInBytes, error_with_offset};
 ghost use Rattle.bson_codec.specs.declared.de.Error.TheVariants as errors;
@@ -13,10 +13,10 @@ use crate::read_to_memory::{read_document, read_first_document};
 use crate::ser;
 use crate::ser::to_vec;
 use bson::Document;
-pub use bson_bytes::duplicate_keys::DuplicateKeys;
 pub use bson_bytes::fault::FaultKind;
 use bson_bytes::nothing_sink;
 use bson_bytes::stop::Stop;
+pub use bson_model::options::DuplicateKeys;
 use std::alloc::{AllocError, Global};
 
 /// How deep documents, arrays and scopes nest if a caller has no limit of its own: the limit of
@@ -28,7 +28,7 @@ pub const DEPTH: usize = 100;
 ///
 /// ```
 /// let options = ReadOptions {
-///     duplicate_keys: DuplicateKeys::Refuse,
+///     duplicate_keys: DuplicateKeys::Reject,
 ///     ..ReadOptions::default()
 /// };
 /// let twice = b"\x0b\0\0\0\x0aa\0\x0aa\0\0";
@@ -47,11 +47,11 @@ pub struct ReadOptions {
 impl Default for ReadOptions {
     fn default() -> ReadOptions
         ensures depth { result.depth ≡ 100 }
-        ensures keys { result.duplicate_keys ≡ Replace }
+        ensures keys { result.duplicate_keys ≡ LastWins }
     {
         ReadOptions {
             depth: DEPTH,
-            duplicate_keys: DuplicateKeys::Replace,
+            duplicate_keys: DuplicateKeys::LastWins,
         }
     }
 }
@@ -105,7 +105,7 @@ pub fn from_slice(alloc: Global, bytes: &[u8], depth: usize) -> Result<Document>
 {
     let options = ReadOptions {
         depth,
-        duplicate_keys: DuplicateKeys::Replace,
+        duplicate_keys: DuplicateKeys::LastWins,
     };
     from_bytes(alloc, options, bytes)
 }
@@ -162,7 +162,7 @@ pub fn front(alloc: Global, bytes: &[u8], depth: usize) -> Result<(Document, &[u
 {
     let options = ReadOptions {
         depth,
-        duplicate_keys: DuplicateKeys::Replace,
+        duplicate_keys: DuplicateKeys::LastWins,
     };
     front_of_bytes(alloc, options, bytes)
 }

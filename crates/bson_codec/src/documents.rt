@@ -7,7 +7,7 @@ ghost use Rattle.bson_bytes.specs.ReadDocuments.{IsReadAsDocument};
 ghost use Rattle.bson.specs.View.{document_view};
 ghost use Rattle.bson.specs.Doubles.TheVariants.{Special};
 ghost use Rattle.bson.specs.Form.TheVariants.{Canonical};
-ghost use Rattle.bson.specs.declared.extjson.key_order.KeyOrder.TheVariants.{AsGiven, Ascending};
+ghost use Rattle.bson_model.specs.declared.options.KeyOrder.TheVariants.{AsGiven, Ascending};
 ghost use Rattle.bson_codec.specs.DumpRuns.{BeginsWithLength, CompletedRun, EndsAt, IsLineOrSkip, IsConversionFault};
 ghost use Rattle.bson_codec.specs.DumpRuns.{IsJustifiedEnd, IsLineOfDocument, IsFaultOfDocument, IsRunEnd, IsReportFailure, IsLineFault};
 ghost use Rattle.bson_codec.specs.DumpRuns.{WritesLine, run_fault};

@@ -3,10 +3,10 @@ ghost use Rattle.std.specs.Prelude.{IfOk};
 ghost use Rattle.bson_codec.specs.PackedText.{IsPackedText};
 
 use crate::element_writer::ElementWriter;
+use bson_model::options::KeyOrder;
 use bson_scalar::form::Doubles;
 use bson_text::traversal::write_document_text;
 use bson_text::traversal_error::TraversalError;
-use bson_tokens::arrangement::Arrangement;
 use bson_tokens::normalize::normalize_text;
 use json::Scratch;
 use std::alloc::Global;
@@ -46,7 +46,7 @@ fn pack_normalized(
 ) -> Result<Vec<u8>, TraversalError>
     ensures ok { IfOk result (λ packed_bytes. IsPackedText doubles text.now packed_bytes.items) }
 {
-    let normalized = normalize_text(alloc, Arrangement::FirstPositions, text)?;
+    let normalized = normalize_text(alloc, KeyOrder::AsGiven, text)?;
     try_pack(alloc, doubles, normalized.as_str(), scratch)
 }
 

@@ -4,8 +4,8 @@ ghost use Rattle.bson.specs.View.{bson_view, document_view, contents};
 ghost use Rattle.bson_bytes.specs.Fault.{ReturnsReading};
 ghost use Rattle.bson_bytes.specs.Grammar.{deduplicated};
 ghost use Rattle.bson_bytes.specs.Reading.{read_key};
-ghost use Rattle.bson_bytes.specs.declared.duplicate_keys.DuplicateKeys.{DuplicateKeys};
-ghost use Rattle.bson_bytes.specs.declared.duplicate_keys.DuplicateKeys.TheVariants.{Replace, Refuse};
+ghost use Rattle.bson_model.specs.declared.options.DuplicateKeys.{DuplicateKeys};
+ghost use Rattle.bson_model.specs.declared.options.DuplicateKeys.TheVariants.{LastWins, Reject};
 ghost use Rattle.bson_codec.specs.ReadToMemory.{entries_view, HaveKeys};
 ghost use Rattle.bson_model.specs.Value.{Pairs, no_pairs};
 ghost use Rattle.bson_bytes.specs.Source.{reversed_keys, earlier_keys, with_last_pair};
@@ -54,7 +54,7 @@ pub(crate) struct AnyPairs {
 }
 
 impl PairList for AnyPairs {
-    ghost keys = { Replace };
+    ghost keys = { LastWins };
 
     ghost list_has_pairs = { λ pairs_added list. entries_view list.entries.items ≡ pairs_added };
 
@@ -84,7 +84,7 @@ pub(crate) struct DistinctPairs {
 }
 
 impl PairList for DistinctPairs {
-    ghost keys = { Refuse };
+    ghost keys = { Reject };
 
     ghost list_has_pairs = { λ pairs_added list. (document_view list.inserted ≡ deduplicated pairs_added)
         × HaveKeys (reversed_keys pairs_added []) (contents list.inserted) };

@@ -9,9 +9,9 @@ ghost use Rattle.bson_bytes.specs.declared.stop.Stop.TheVariants as stops;
 use crate::pair_list::{AnyPairs, DistinctPairs};
 use crate::value_sink::Values;
 use bson::Document;
-use bson_bytes::duplicate_keys::DuplicateKeys;
 use bson_bytes::source;
 use bson_bytes::stop::Stop;
+use bson_model::options::DuplicateKeys;
 use std::alloc::Global;
 
 /// Reads all of the bytes as a document.
@@ -25,10 +25,10 @@ pub(crate) fn read_document(
         (reads_bytes_in keys depth bytes.now) }
 {
     match keys {
-        DuplicateKeys::Replace => {
+        DuplicateKeys::LastWins => {
             source::read_document(bytes, depth, &mut Values::<AnyPairs>::new(alloc))
         }
-        DuplicateKeys::Refuse => {
+        DuplicateKeys::Reject => {
             source::read_document(bytes, depth, &mut Values::<DistinctPairs>::new(alloc))
         }
     }
@@ -46,10 +46,10 @@ pub(crate) fn read_first_document(
         (insert_pairs_read no_pairs (read_document_in keys depth (no_earlier_keys keys) bytes.now)) }
 {
     match keys {
-        DuplicateKeys::Replace => {
+        DuplicateKeys::LastWins => {
             source::read_first_document(bytes, depth, &mut Values::<AnyPairs>::new(alloc))
         }
-        DuplicateKeys::Refuse => {
+        DuplicateKeys::Reject => {
             source::read_first_document(bytes, depth, &mut Values::<DistinctPairs>::new(alloc))
         }
     }

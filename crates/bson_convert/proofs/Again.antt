@@ -6,8 +6,8 @@ use Rattle.bson_model.specs.Normal.{normal_form}
 use Rattle.bson_model.specs.Written.{WrittenIn}
 use Rattle.bson_model.specs.Laws.{IsReadFormIn}
 use Rattle.bson_model.proofs.Offered.{means_one_in}
-use Rattle.bson.specs.declared.extjson.options.Options.{Options}
-use Rattle.bson.specs.Texts.{IsTextWithDoubles}
+use Rattle.bson_model.specs.declared.options.Options.{Options}
+use Rattle.bson_model.specs.ValueTexts.{IsTextWithDoubles}
 use Rattle.bson_convert.specs.Convert.{IsWrittenIn, newline}
 
 pub is_written : (o : Options) (f : Form) (v : Value) (text output : List ℕ) → IsReadFormIn o.doubles v

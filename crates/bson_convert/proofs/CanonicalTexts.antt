@@ -8,8 +8,8 @@ use Rattle.bson_scalar.specs.TreeText.{tree_text}
 use Rattle.bson_scalar.specs.declared.form.Form.TheVariants as form
 use Rattle.bson_model.specs.Normal.{normal_form}
 use Rattle.bson_model.specs.Written.{WrittenIn}
-use Rattle.bson.specs.TextMeaning.{IsTextOf}
-use Rattle.bson.specs.declared.extjson.options.Options.{Options}
+use Rattle.bson_model.specs.TextMeaning.{IsTextOf}
+use Rattle.bson_model.specs.declared.options.Options.{Options}
 use Rattle.bson_convert.specs.Convert.{ConvertsIn, IsCanonicalText, IsRejectedIn, IsUncanonicalAt, IsUncanonicalIn, newline}
 use Rattle.bson_convert.specs.declared.error.Error.{Error}
 use Rattle.bson_convert.specs.declared.error.Error.TheVariants.{CannotRead, CannotWrite, NotJson, NotExtendedJson}

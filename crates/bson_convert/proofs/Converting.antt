@@ -9,8 +9,8 @@ use Rattle.bson_model.specs.Laws.{IsReadFormIn}
 use Rattle.bson_convert.specs.Convert.{ConvertsIn, IsWrittenIn, IsOutputIn, IsTextInMode, IsConvertedText, newline}
 use Rattle.bson_convert.specs.declared.mode.Mode.{Mode}
 use Rattle.bson_convert.specs.declared.mode.Mode.TheVariants.{Canonical, Relaxed, Show}
-use Rattle.bson.specs.declared.extjson.options.Options.{Options}
-use Rattle.bson.proofs.Offered.{tree_one}
+use Rattle.bson_model.specs.declared.options.Options.{Options}
+use Rattle.bson_model.proofs.Offered.{tree_one}
 use Rattle.bson_convert.proofs.Again.{is_written}
 
 module _ (o : Options) where

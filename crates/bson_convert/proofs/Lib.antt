@@ -4,7 +4,10 @@ mod CanonicalTexts
 mod Converting
 mod Deep
 mod Differences
+mod EitherOrder
 mod Newline
 pub mod Offered
+mod Ordered
 mod Rows
 mod Twice
+mod TwiceInOrder

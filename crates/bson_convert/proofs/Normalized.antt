@@ -4,10 +4,12 @@ use Rattle.std.specs.Prelude.{IsUtf8}
 use Rattle.serde_json.specs.Data.{Data}
 use Rattle.serde_json.specs.Read.{read}
 use Rattle.bson_model.specs.Means.{MeansIn}
+use Rattle.bson_model.specs.OrderedTexts.{HasMeaningInOrder}
+use Rattle.bson_model.specs.Sorted.{sorted}
 use Rattle.bson_model.specs.Value.{Value}
-use Rattle.bson.proofs.Offered.{tree_one}
-use Rattle.bson.specs.TextMeaning.{HasTextMeaningIn, IsTextOf}
-use Rattle.bson.specs.declared.extjson.options.Options.{Options}
+use Rattle.bson_model.proofs.Offered.{tree_one}
+use Rattle.bson_model.specs.TextMeaning.{HasTextMeaningIn, IsTextOf}
+use Rattle.bson_model.specs.declared.options.Options.{Options}
 use Rattle.bson_convert.specs.Convert.{IsAccepted, IsRejectedIn}
 use Rattle.bson_convert.specs.declared.error.Error.{Error}
 use Rattle.bson_convert.specs.declared.error.Error.TheVariants.{CannotRead, CannotWrite, NotJson, NotExtendedJson}
@@ -38,9 +40,6 @@ module _ (o : Options) (text normalized : List ℕ) (utf8 : IsUtf8 text) (same :
   pub meant_alike : (v : Value) → HasTextMeaningIn o.doubles normalized v → HasTextMeaningIn o.doubles text v
   meant_alike v has = record { tree = has.tree; text = text_alike has.tree has.text; meaning = has.meaning }
 
-  pub accepted_alike : IsAccepted o normalized → IsAccepted o text
-  accepted_alike (t, v, is, means) = (t, v, text_alike t is, means)
-
   pub refused_alike : (f : Error) → IsUtf8 normalized → IsRejectedIn o f normalized → IsRejectedIn o f text
   refused_alike NotJson valid none = λ _. sym same ∙ none valid
   refused_alike (NotExtendedJson place) valid (t, is, first) = (t, text_alike t is, first)
@@ -49,3 +48,9 @@ module _ (o : Options) (text normalized : List ℕ) (utf8 : IsUtf8 text) (same :
   refused_alike (NoBytes why) valid is = is
   refused_alike (NotCanonical column) valid is = is
   refused_alike CannotWrite valid is = is
+
+-- a text that means a value in the order of its keys means something
+pub accepted_in_order : (o : Options) (text : List ℕ) (v : Value) → IsUtf8 text → HasMeaningInOrder o.doubles text v
+    → IsAccepted o text
+accepted_in_order o text v utf8 m =
+    (m.by_default.0, sorted v, record { utf8 = utf8; tree_read = m.by_default.1 }, m.by_default.2.means)

@@ -1,5 +1,5 @@
 -- Output in a form is read as a tree with the same output.
-use Rattle.std.proofs.Common.{◌≡◌, ◌++◌, ℕ, List, Vec, Global, IfOk, true, Result, Ok, Err, refl, sym, ap, ◌∙◌, subst}
+use Rattle.std.proofs.Common.{◌≡◌, ◌++◌, ℕ, List, true, Result, Ok, Err, refl, sym, ap, ◌∙◌, subst}
 use Rattle.std.specs.Prelude.{is_ok, IsUtf8}
 use Rattle.serde_json.specs.Data.{Data}
 use Rattle.serde_json.specs.Read.{read}
@@ -15,13 +15,11 @@ use Rattle.bson_model.specs.Writing.{writes_value_in}
 use Rattle.bson_model.specs.Written.{WrittenIn}
 use Rattle.bson_model.proofs.Offered.{has_text_in, in_range_in, means_to_in, read_tree, tree_is_in}
 use Rattle.bson_model.proofs.Offered.{value_read_in, writable_is_in}
-use Rattle.bson.specs.TextMeaning.{IsTextOf}
-use Rattle.bson.specs.declared.extjson.options.Options.{Options}
-use Rattle.bson_convert.specs.Convert.{ConvertsIn, ConvertsToItself, IsConvertedText, IsFixedPointIn, IsOutputIn, IsWrittenIn, newline}
-use Rattle.bson_convert.specs.declared.error.Error.{Error}
+use Rattle.bson_model.specs.TextMeaning.{IsTextOf}
+use Rattle.bson_model.specs.declared.options.Options.{Options}
+use Rattle.bson_convert.specs.Convert.{ConvertsIn, ConvertsToItself, IsFixedPointIn, IsOutputIn, IsWrittenIn, newline}
 use Rattle.bson_convert.specs.declared.mode.Mode.{Mode}
 use Rattle.bson_convert.specs.declared.mode.Mode.TheVariants.{Canonical, Relaxed, Show}
-use Rattle.bson_convert.proofs.Converting.{text_converts}
 use Rattle.bson_convert.proofs.Deep.{numbers, shallow}
 use Rattle.bson_convert.proofs.Newline.{read_then}
 
@@ -93,11 +91,3 @@ output_kept o Canonical bytes output x utf8 =
 output_kept o Relaxed bytes output x utf8 =
     kept o form.Relaxed Relaxed bytes output x.tree x.value x.text x.meaning utf8 x.is_output (λ v w. w)
 output_kept o Show bytes output x utf8 = tt
-
--- the same of a text that is ended
-pub kept_ok : (o : Options) (mode : Mode) (bytes text : List ℕ) (r : Result (Vec ℕ Global) Error)
-    → IsConvertedText o mode bytes text → IsUtf8 text → IfOk r (λ ended. ended.items ≡ text ++ newline)
-    → (IsUtf8 text → IfOk r (λ ended. IsUtf8 ended.items)) → IfOk r (λ ended. IsFixedPointIn o mode ended.items)
-kept_ok o mode bytes text (Ok ended) is utf8 line valid =
-    output_kept o mode bytes ended.items (text_converts o mode bytes text ended.items is line) (valid utf8)
-kept_ok o mode bytes text (Err e) is utf8 line valid = tt

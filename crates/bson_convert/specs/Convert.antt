@@ -1,9 +1,9 @@
 -- Converting bytes: the output for the one value that they denote as a text, or why they denote none.
-use Rattle.std.specs.Prelude.{◌≡◌, ◌≤◌, ℕ, List, [], ◌∷◌, ◌++◌, Some, IsUtf8, string_bytes}
+use Rattle.std.specs.Prelude.{◌≡◌, ◌≤◌, ℕ, List, [], ◌∷◌, ◌++◌, Some}
 use Rattle.serde_json.specs.Data.{Data, depth}
 use Rattle.serde_json.specs.Read.{read, max_depth}
-use Rattle.bson.specs.Options.{default_options}
-use Rattle.bson.specs.declared.extjson.options.Options.{Options}
+use Rattle.bson_model.specs.NamedOptions.{default_options}
+use Rattle.bson_model.specs.declared.options.Options.{Options}
 use Rattle.bson_scalar.specs.TreeText.{tree_text}
 use Rattle.bson_scalar.specs.declared.form.Form.{Form}
 use Rattle.bson_scalar.specs.declared.form.Form.TheVariants as form
@@ -14,10 +14,8 @@ use Rattle.bson_model.specs.Normal.{normal_form}
 use Rattle.bson_model.specs.Written.{WrittenIn}
 use Rattle.bson_model.specs.Laws.{HasMeaningIn, IsTreeOfIn}
 use Rattle.bson_tree.specs.Place.{IsFirstFaultIn}
-use Rattle.bson.specs.TextMeaning.{IsTextOf, IsNotJsonText, HasTextMeaningIn}
-use Rattle.bson.specs.Texts.{IsTextWithDoubles}
-use Rattle.bson_convert.specs.declared.conversion_attempt.Attempt.{Attempt}
-use Rattle.bson_convert.specs.declared.conversion_attempt.Attempt.TheVariants.{Written, Normalized}
+use Rattle.bson_model.specs.TextMeaning.{IsTextOf, IsNotJsonText, HasTextMeaningIn}
+use Rattle.bson_model.specs.ValueTexts.{IsTextWithDoubles}
 use Rattle.bson_convert.specs.declared.mode.Mode.{Mode}
 use Rattle.bson_convert.specs.declared.mode.Mode.TheVariants.{Canonical, Relaxed, Show}
 use Rattle.bson_convert.specs.declared.error.Error.{Error}
@@ -129,14 +127,3 @@ IsTextInMode options Show value text = text ≡ display_text value
 abbrev pub IsConvertedText : Options → Mode → (bytes text : List ℕ) → Type 0
 IsConvertedText options mode bytes text =
     (value : Value) × HasTextMeaningIn options.doubles bytes value × IsTextInMode options mode value text
-
--- that text, or a text of the same tree as the bytes', which means something
-abbrev pub IsAttemptResult : Options → Mode → (bytes : List ℕ) → Attempt → Type 0
-IsAttemptResult options mode bytes (Written text) = IsConvertedText options mode bytes text.items
-IsAttemptResult options mode bytes (Normalized text) = IsUtf8 bytes × (read (string_bytes text) ≡ read bytes)
-    × IsAccepted options (string_bytes text)
-
--- the text that was written is UTF-8; the other is by its type
-abbrev pub IsUtf8Attempt : Attempt → Type 0
-IsUtf8Attempt (Written text) = IsUtf8 text.items
-IsUtf8Attempt (Normalized text) = Unit {0}

@@ -2,9 +2,10 @@
 use Rattle.std.specs.Prelude.{◌≡◌, ℕ, ◌<◌, List, length, Option, Some, IsUtf8}
 use Rattle.std.specs.Io.{StartsWith}
 use Rattle.std.specs.Io.KnownBytes.{Keeps, Appends, Consumes, IsAtEnd}
-use Rattle.bson.specs.declared.extjson.options.Options.{Options}
-use Rattle.bson.specs.Options.{default_options}
-use Rattle.bson_convert.specs.Convert.{ConvertsIn, IsRejectedIn}
+use Rattle.bson_model.specs.declared.options.Options.{Options}
+use Rattle.bson_model.specs.NamedOptions.{default_options}
+use Rattle.bson_convert.specs.Convert.{IsRejectedIn}
+use Rattle.bson_convert.specs.InOrder.{ConvertsBy}
 use Rattle.bson_convert.specs.Messages.{fault_kind}
 use Rattle.bson_convert.specs.declared.error.Error.{Error}
 use Rattle.bson_convert.specs.declared.mode.Mode.{Mode}
@@ -34,7 +35,7 @@ pub record AcceptsIn (options : Options) (mode : Mode) (input_before input_after
     (output : List ℕ) : Type 0 where
   pub bytes : List ℕ
   pub all : ReadsAll input_before input_after bytes
-  pub converts : ConvertsIn options mode bytes output
+  pub converts : ConvertsBy options.key_order options mode bytes output
   pub utf8 : IsUtf8 output
 
 -- the input was accepted, and the output written

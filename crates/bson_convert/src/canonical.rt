@@ -1,11 +1,16 @@
 //! Texts that are canonical.
 ghost use Rattle.std.specs.Prelude.{◌≡◌, ◌≢◌, ◌≤◌, ◌↔◌, suc, length, take, IfErr, IfOk, IsTrue, OnOk};
-ghost use Rattle.bson_convert.specs.Convert.{IsCanonicalText, IsUncanonicalIn};
+ghost use Rattle.serde_json.specs.Data.{Data};
+ghost use Rattle.bson_model.specs.Means.{MeansIn};
+ghost use Rattle.bson_model.specs.TextMeaning.{IsTextOf};
+ghost use Rattle.bson_model.specs.Value as model;
+ghost use Rattle.bson_convert.specs.Convert.{IsCanonicalText, IsConvertedText, IsRejectedIn, IsUncanonicalIn};
+ghost use Rattle.bson_convert.specs.declared.mode.Mode.TheVariants.{Canonical};
 
 use crate::convert::line_text;
 use crate::error::Error;
 use crate::mode::Mode;
-use bson::extjson::Options;
+use bson_model::options::{KeyOrder, Options};
 use json::Scratch;
 use std::alloc::{AllocError, Global};
 
@@ -80,11 +85,30 @@ pub fn check_canonical_line(
     ensures accepts { IsCanonicalText options bytes.now → IfErr result (λ fault. fault ≡ Error.OutOfMemory) }
     ensures fault { IfErr result (λ fault. IsUncanonicalIn options fault bytes.now) }
 {
-    let text = line_text(alloc, options, Mode::Canonical, bytes, scratch)?;
+    let text = sorted_canonical_text(alloc, options, bytes, scratch)?;
     if text.as_slice() == bytes {
         return Ok(());
     }
     Err(Error::NotCanonical(common_len(bytes, text.as_slice()) + 1))
+}
+
+// The canonical text of the value that the bytes mean, with keys in ascending order.
+fn sorted_canonical_text(
+    alloc: Global,
+    options: Options,
+    bytes: &[u8],
+    scratch: &mut Scratch,
+) -> Result<Vec<u8>, Error>
+    ensures ok { IfOk result (λ text. IsConvertedText options Canonical bytes.now text.items) }
+    ensures accepts { (tree : Data) (value : model.Value) → IsTextOf bytes.now tree
+        → MeansIn options.doubles tree value → IfErr result (λ fault. fault ≡ Error.OutOfMemory) }
+    ensures fault { IfErr result (λ fault. IsRejectedIn options fault bytes.now) }
+{
+    let ascending = Options {
+        key_order: KeyOrder::Ascending,
+        ..options
+    };
+    line_text(alloc, ascending, Mode::Canonical, bytes, scratch)
 }
 
 // How many bytes two texts have in common at their beginning.

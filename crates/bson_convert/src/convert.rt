@@ -1,19 +1,18 @@
-//! One text to another: from bytes to bytes.
+//! One text to another, in either order of keys: from bytes to bytes.
 ghost use Rattle.std.specs.Prelude.{◌≡◌, ◌++◌, IfOk, IfErr, IsUtf8, ℕ, List};
 ghost use Rattle.serde_json.specs.Data.{Data};
 ghost use Rattle.bson_model.specs.Means.{Means, MeansIn};
 ghost use Rattle.bson_model.specs.Value as model;
-ghost use Rattle.bson_convert.specs.Convert.{Converts, ConvertsIn, IsFixedPoint, IsFixedPointIn, IsRejected, IsRejectedIn};
-ghost use Rattle.bson.specs.declared.extjson.options.Options.{Options};
-ghost use Rattle.bson_convert.specs.Convert.{IsConvertedText, IsAttemptResult, IsUtf8Attempt, newline};
-ghost use Rattle.bson.specs.TextMeaning.{IsTextOf, IsTextFaultIn};
-ghost use Rattle.bson.specs.declared.extjson.text_error.TextError.{TextError};
+ghost use Rattle.bson_convert.specs.Attempts.{IsAttemptResult, IsUtf8Attempt};
+ghost use Rattle.bson_convert.specs.Convert.{Converts, IsFixedPoint, IsRejected, IsRejectedIn, newline};
+ghost use Rattle.bson_convert.specs.InOrder.{ConvertsBy, IsConvertedTextBy, IsFixedPointBy};
+ghost use Rattle.bson_model.specs.declared.options.Options.{Options};
+ghost use Rattle.bson_model.specs.TextMeaning.{IsTextOf};
 
 use crate::conversion_attempt::{Attempt, read_normalized, try_line, try_text};
 use crate::error::Error;
 use crate::mode::Mode;
-use bson::extjson::Options;
-use bson::extjson::de::TextError;
+use bson_model::options::Options;
 use json::Scratch;
 use std::alloc::Global;
 
@@ -46,25 +45,35 @@ pub fn convert(alloc: Global, mode: Mode, bytes: &[u8]) -> Result<Vec<u8>, Error
         → IfErr result (λ fault. fault ≡ Error.OutOfMemory) }
     ensures fault { IfErr result (λ fault. IsRejected fault bytes.now) }
 {
-    convert_sorted(alloc, Options::default(), mode, bytes)
+    convert_text(alloc, Options::default(), mode, bytes)
 }
 
-/// Returns the text of [`convert`] with options, which say what a text means and which values have
-/// one. The keys of each document ascend, whatever the options say.
+/// Returns the text of [`convert`] with options.
+///
+/// With `KeyOrder::AsGiven` each document has its keys in the order of the text, at every depth. If a
+/// key is duplicated, its last value wins, at its first position. Apart from the order of keys the
+/// texts are equal.
 ///
 /// # Errors
 ///
 /// The errors of [`convert`].
-pub fn convert_sorted(
+///
+/// ```
+/// let text = br#"{"find": "orders", "batchSize": {"$numberInt": "10"}}"#;
+/// if let Ok(line) = convert_text(alloc, Options::mongodb(), Mode::Relaxed, text) {
+///     rt.print(str::from_utf8(&line)?)?; // {"find":"orders","batchSize":10}
+/// }
+/// ```
+pub fn convert_text(
     alloc: Global,
     options: Options,
     mode: Mode,
     bytes: &[u8],
 ) -> Result<Vec<u8>, Error>
-    ensures ok { IfOk result (λ output. ConvertsIn options mode bytes.now output.items) }
+    ensures ok { IfOk result (λ output. ConvertsBy options.key_order options mode bytes.now output.items) }
     ensures utf8 { IfOk result (λ output. IsUtf8 output.items) }
-    ensures again { IfOk result (λ output. IsFixedPointIn options mode output.items) }
-    ensures unique { IfOk result (λ output. (other_output : List ℕ) → ConvertsIn options mode bytes.now other_output
+    ensures again { IfOk result (λ output. IsFixedPointBy options.key_order options mode output.items) }
+    ensures unique { IfOk result (λ output. (other_output : List ℕ) → ConvertsBy options.key_order options mode bytes.now other_output
         → other_output ≡ output.items) }
     ensures accepts { (tree : Data) (value : model.Value) → IsTextOf bytes.now tree
         → MeansIn options.doubles tree value → IfErr result (λ fault. fault ≡ Error.OutOfMemory) }
@@ -73,11 +82,11 @@ pub fn convert_sorted(
     convert_line(alloc, options, mode, bytes, &mut Scratch::new(alloc))
 }
 
-/// Converts the bytes as [`convert_sorted`] does, with memory that serves one text after another.
+/// Converts the bytes as [`convert_text`] does, with memory that serves one text after another.
 ///
 /// # Errors
 ///
-/// The errors of [`convert_sorted`].
+/// The errors of [`convert_text`].
 pub fn convert_line(
     alloc: Global,
     options: Options,
@@ -85,10 +94,10 @@ pub fn convert_line(
     bytes: &[u8],
     scratch: &mut Scratch,
 ) -> Result<Vec<u8>, Error>
-    ensures ok { IfOk result (λ output. ConvertsIn options mode bytes.now output.items) }
+    ensures ok { IfOk result (λ output. ConvertsBy options.key_order options mode bytes.now output.items) }
     ensures utf8 { IfOk result (λ output. IsUtf8 output.items) }
-    ensures again { IfOk result (λ output. IsFixedPointIn options mode output.items) }
-    ensures unique { IfOk result (λ output. (other_output : List ℕ) → ConvertsIn options mode bytes.now other_output
+    ensures again { IfOk result (λ output. IsFixedPointBy options.key_order options mode output.items) }
+    ensures unique { IfOk result (λ output. (other_output : List ℕ) → ConvertsBy options.key_order options mode bytes.now other_output
         → other_output ≡ output.items) }
     ensures accepts { (tree : Data) (value : model.Value) → IsTextOf bytes.now tree
         → MeansIn options.doubles tree value → IfErr result (λ fault. fault ≡ Error.OutOfMemory) }
@@ -98,7 +107,7 @@ pub fn convert_line(
     end_line(text)
 }
 
-/// Returns the text of [`convert_sorted`], and frees the bytes once they are read or normalized. Then
+/// Returns the text of [`convert_text`], and frees the bytes once they are read or normalized. Then
 /// they need no memory in addition to the output of the normalized text.
 ///
 /// # Errors
@@ -110,9 +119,9 @@ pub fn convert_whole(
     mode: Mode,
     bytes: Vec<u8>,
 ) -> Result<Vec<u8>, Error>
-    ensures ok { IfOk result (λ output. ConvertsIn options mode bytes.items output.items) }
+    ensures ok { IfOk result (λ output. ConvertsBy options.key_order options mode bytes.items output.items) }
     ensures utf8 { IfOk result (λ output. IsUtf8 output.items) }
-    ensures again { IfOk result (λ output. IsFixedPointIn options mode output.items) }
+    ensures again { IfOk result (λ output. IsFixedPointBy options.key_order options mode output.items) }
     ensures accepts { (tree : Data) (value : model.Value) → IsTextOf bytes.items tree
         → MeansIn options.doubles tree value → IfErr result (λ fault. fault ≡ Error.OutOfMemory) }
     ensures fault { IfErr result (λ fault. IsRejectedIn options fault bytes.items) }
@@ -123,7 +132,7 @@ pub fn convert_whole(
     end_line(text)
 }
 
-/// Returns the text of [`convert_sorted`] without the newline.
+/// Returns the text of [`convert_text`] without the newline.
 ///
 /// # Errors
 ///
@@ -141,7 +150,7 @@ pub fn converted_text(
     mode: Mode,
     bytes: &[u8],
 ) -> Result<Vec<u8>, Error>
-    ensures ok { IfOk result (λ text. IsConvertedText options mode bytes.now text.items) }
+    ensures ok { IfOk result (λ text. IsConvertedTextBy options.key_order options mode bytes.now text.items) }
     ensures utf8 { IfOk result (λ text. IsUtf8 text.items) }
     ensures accepts { (tree : Data) (value : model.Value) → IsTextOf bytes.now tree
         → MeansIn options.doubles tree value → IfErr result (λ fault. fault ≡ Error.OutOfMemory) }
@@ -158,7 +167,7 @@ pub(crate) fn line_text(
     bytes: &[u8],
     scratch: &mut Scratch,
 ) -> Result<Vec<u8>, Error>
-    ensures ok { IfOk result (λ text. IsConvertedText options mode bytes.now text.items) }
+    ensures ok { IfOk result (λ text. IsConvertedTextBy options.key_order options mode bytes.now text.items) }
     ensures utf8 { IfOk result (λ text. IsUtf8 text.items) }
     ensures accepts { (tree : Data) (value : model.Value) → IsTextOf bytes.now tree
         → MeansIn options.doubles tree value → IfErr result (λ fault. fault ≡ Error.OutOfMemory) }
@@ -176,7 +185,7 @@ fn finish_attempt(
     attempt: Attempt,
 ) -> Result<Vec<u8>, Error>
     ensures ok { (bytes : List ℕ) → IsAttemptResult options mode bytes attempt
-        → IfOk result (λ text. IsConvertedText options mode bytes text.items) }
+        → IfOk result (λ text. IsConvertedTextBy options.key_order options mode bytes text.items) }
     ensures utf8 { IsUtf8Attempt attempt → IfOk result (λ text. IsUtf8 text.items) }
     ensures fault { (bytes : List ℕ) → IsAttemptResult options mode bytes attempt
         → IfErr result (λ fault. IsRejectedIn options fault bytes) }
@@ -189,19 +198,6 @@ fn finish_attempt(
             mode,
             normalized.as_str(),
         ),
-    }
-}
-
-/// Returns the error of a conversion whose text was not read.
-pub fn error_of(error: TextError) -> Error
-    ensures cause { (options : Options) (bytes : List ℕ) → IsTextFaultIn options.doubles bytes error
-        → IsRejectedIn options result bytes }
-    ensures memory { error ≡ TextError.OutOfMemory → result ≡ Error.OutOfMemory }
-{
-    match error {
-        TextError::NotJson => Error::NotJson,
-        TextError::NotExtendedJson(place) => Error::NotExtendedJson(place),
-        TextError::OutOfMemory => Error::OutOfMemory,
     }
 }
 

@@ -2,8 +2,8 @@
 ghost use Rattle.std.specs.Prelude.{◌≡◌, ◌++◌, ℕ, List};
 ghost use Rattle.serde_json.specs.Data.{Data};
 ghost use Rattle.bson_model.specs.Normal.{normal_form};
-ghost use Rattle.bson.specs.TextMeaning.{IsTextOf};
-ghost use Rattle.bson.specs.declared.extjson.options.Options.{Options};
+ghost use Rattle.bson_model.specs.TextMeaning.{IsTextOf};
+ghost use Rattle.bson_model.specs.declared.options.Options.{Options};
 ghost use Rattle.bson_convert.specs.Convert.{ConvertsIn, IsCanonicalText, newline};
 ghost use Rattle.bson_convert.specs.declared.mode.Mode.TheVariants.{Canonical};
 

@@ -4,12 +4,13 @@
 //! In reading order: `mode` (what is asked), `error` (why a conversion failed, and where) with
 //! `encode_error` (why a value has no BSON bytes, which the crate above writes) and `fault` (the kinds of
 //! errors that a run reports), `convert` (bytes to bytes) over `conversion_attempt` (a text that is written
-//! as another is read), `canonical` (texts that are canonical), `stream` (all bytes of a reader and
+//! as another is read), `check` (texts that are only checked), `canonical` (texts that are canonical), `stream` (all bytes of a reader and
 //! to a writer) and `run` (the whole way from a reader to a writer). What the programs have in common
 //! is in `program`. The laws of the definitions are in `laws`.
 #![tactic(auto)]
 
 pub mod canonical;
+pub mod check;
 pub mod conversion_attempt;
 pub mod convert;
 pub mod encode_error;

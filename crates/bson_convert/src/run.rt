@@ -6,7 +6,7 @@ use crate::convert::convert_whole;
 use crate::fault::Fault;
 use crate::mode::Mode;
 use crate::stream::{read_whole, write_whole};
-use bson::extjson::Options;
+use bson_model::options::Options;
 use std::alloc::Global;
 use std::io::{Read, Write};
 
@@ -38,8 +38,7 @@ pub fn run<R: Read, W: Write>(
     convert_stream(alloc, Options::default(), mode, reader, writer)
 }
 
-/// Runs as [`run`] with options, which say what a text means and which values have one. The keys of
-/// each document ascend, whatever the options say.
+/// Runs as [`run`] with options.
 ///
 /// # Errors
 ///

@@ -20,7 +20,7 @@ use Rattle.bson_model.specs.OrderedTrees.{tree_sorted_by_key, items_sorted_by_ke
 use Rattle.bson_model.specs.OrderedTrees.{ItemsAreTreesInOrder, MembersAreTreesInOrder}
 use Rattle.bson_model.specs.OrderedReading.{reads_tree_in_order, reads_items_in_order, reads_members_in_order, reads_wrapper_in_order}
 use Rattle.bson_model.specs.OrderedReading.{reads_scope_in_order}
-use Rattle.bson_model.proofs.Options.{same_bytes}
+use Rattle.bson_model.proofs.OptionalValues.{same_bytes}
 use Rattle.bson_model.proofs.SortedKeys.{same_wrapper, same_key, not_equal, size, same_size}
 
 abbrev cmp : List ℕ → List ℕ → Ordering

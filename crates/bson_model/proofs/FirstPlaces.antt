@@ -8,7 +8,7 @@ use Rattle.serde_json.specs.Data.{Data, Members, no_members, member}
 use Rattle.bson_model.specs.OrderedTrees.{put_at_key_position, tree_of_json, members_of_json, has_key}
 use Rattle.bson_model.specs.DuplicateKeys.{written_keys, tree_keys, without_key, first_occurrences, last_value_at_key, tree_at_key}
 use Rattle.bson_model.specs.DuplicateKeys.{last_of_two, HasFirstPositions}
-use Rattle.bson_model.proofs.Options.{un_some, after, same_bytes, turned}
+use Rattle.bson_model.proofs.OptionalValues.{un_some, after, same_bytes, turned}
 
 -- ---- the keys of what is inserted in its place
 

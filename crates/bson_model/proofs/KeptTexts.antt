@@ -22,7 +22,7 @@ use Rattle.bson_model.specs.OrderedTrees.{put_at_key_position, tree_of_json, ite
 use Rattle.bson_model.specs.OrderedTrees.{IsTreeInOrder, ItemsAreTreesInOrder, MembersAreTreesInOrder}
 use Rattle.bson_model.specs.OrderedTexts.{TextReadsBackInOrder}
 use Rattle.bson_model.proofs.Forgetting.{read_forgotten}
-use Rattle.bson_model.proofs.Options.{un_some, turned}
+use Rattle.bson_model.proofs.OptionalValues.{un_some, turned}
 
 -- ---- the tokens of the text are those of the tree
 

@@ -10,7 +10,7 @@ use Rattle.serde_json.specs.Read.{number_of, max_depth}
 use Rattle.bson_model.proofs.Offered.{number_fits}
 use Rattle.bson_model.specs.OrderedTrees.{put_at_key_position, tree_of_json, items_of_json, members_of_json, read_in_order, has_key, KeysDiffer, IsTreeInOrder}
 use Rattle.bson_model.specs.OrderedTrees.{ItemsAreTreesInOrder, MembersAreTreesInOrder}
-use Rattle.bson_model.proofs.Options.{un_some, mapped, after, turned}
+use Rattle.bson_model.proofs.OptionalValues.{un_some, mapped, after, turned}
 
 -- ---- a value that is inserted in its place leaves each key there once
 

@@ -22,6 +22,7 @@ use Rattle.bson_model.specs.Writing.{writes_value}
 use Rattle.bson_model.specs.Written.{Written}
 pub use Rattle.bson_model.proofs.Binds.{bind_ok, fault_bind_ok, un_ok}
 pub use Rattle.bson_model.proofs.EachLaws.{as_read_each}
+pub use Rattle.bson_model.proofs.OneTree.{tree_one}
 pub use Rattle.bson_model.proofs.PutLaws.{put_swap}
 pub use Rattle.bson_model.proofs.PutMembers.{put_members_swap}
 pub use Rattle.bson_model.proofs.PutSwap.{equal_keys, flipped}

@@ -11,7 +11,7 @@ pub use Rattle.bson_model.proofs.SortedKeys.{same_wrapper}
 pub use Rattle.bson_model.proofs.TextMeaning.{text_means, meant_by_text}
 -- ---- for writers: `writes_value_in_order` gives just what `WrittenInOrder` says, part by part
 pub use Rattle.bson_model.proofs.KeptTexts.{own_text, joined, joined_again, joined_none, put_last}
-pub use Rattle.bson_model.proofs.Options.{turned}
+pub use Rattle.bson_model.proofs.OptionalValues.{turned}
 pub use Rattle.bson_model.proofs.OrderedTexts.{ordered_text, comes_back, has_no_float}
 pub use Rattle.bson_model.proofs.OrderedWriteLaws.{written_from, written_to, one_written, writable_is, default_written}
 pub use Rattle.bson_model.proofs.OrderedWriteLaws.{items_from as items_written_from, items_to as items_written_to}

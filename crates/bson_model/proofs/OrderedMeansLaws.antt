@@ -27,7 +27,7 @@ use Rattle.bson_model.specs.OrderedReading.{reads_tree_in_order, reads_items_in_
 use Rattle.bson_model.specs.OrderedReading.{reads_scope_in_order}
 use Rattle.bson_model.proofs.Complete.{read_in_order}
 use Rattle.bson_model.proofs.Forgets.{forgets}
-use Rattle.bson_model.proofs.Options.{same_bytes}
+use Rattle.bson_model.proofs.OptionalValues.{same_bytes}
 
 module _ (D : Doubles) where
   -- ---- from reading to the grammar

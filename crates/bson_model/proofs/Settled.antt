@@ -11,7 +11,7 @@ use Rattle.bson_model.specs.Texts.{IsTree, ItemsAreTrees, MembersAreTrees, IsBel
 use Rattle.bson_model.proofs.Offered.{ascends_put, trees_put}
 use Rattle.bson_model.specs.OrderedTrees.{tree_sorted_by_key, items_sorted_by_key, members_sorted_by_key, has_key, KeysDiffer, IsTreeInOrder}
 use Rattle.bson_model.specs.OrderedTrees.{ItemsAreTreesInOrder, MembersAreTreesInOrder}
-use Rattle.bson_model.proofs.Options.{same_bytes}
+use Rattle.bson_model.proofs.OptionalValues.{same_bytes}
 
 abbrev cmp : List ℕ → List ℕ → Ordering
 cmp k l = slice_cmp nat_cmp k l

@@ -13,7 +13,7 @@ use Rattle.bson_model.proofs.Forgets.{forgets}
 use Rattle.bson_model.proofs.Forgetting.{read_forgotten}
 use Rattle.bson_model.proofs.KeptTrees.{read_is_kept}
 use Rattle.bson_model.proofs.OrderedMeansLaws.{meant_in_order, one_in_order}
-use Rattle.bson_model.proofs.Options.{mapped}
+use Rattle.bson_model.proofs.OptionalValues.{mapped}
 use Rattle.bson_model.proofs.OrderedReadForm.{form, in_range, distinct}
 
 module _ (D : Doubles) where

@@ -14,8 +14,8 @@ use Rattle.bson.specs.Scalar.{code, regex, timestamp, binary, object_id, date, d
 use Rattle.bson.specs.Texts.{IsTextInOrder}
 use Rattle.bson.specs.Value.{Value, scalar, code_scope, array, document, Values, no_values, value, Pairs, no_pairs, pair}
 use Rattle.bson.specs.WrittenInOrder.{WrittenInOrder}
-use Rattle.bson.specs.Options.{mongodb_options}
-use Rattle.bson.specs.declared.extjson.key_order.KeyOrder.TheVariants.{AsGiven}
+use Rattle.bson.specs.NamedOptions.{mongodb_options}
+use Rattle.bson.specs.KeyOrder.TheVariants.{AsGiven}
 use Rattle.bson_codec.specs.Canonical.{PairsNestUpTo, pairs_read_back, with_written_subtype, document_bytes}
 use Rattle.bson_codec.specs.ReadDocuments.{IsReadAsDocument}
 use Rattle.bson_run.specs.Encode.{Encodes}

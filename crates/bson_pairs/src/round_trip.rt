@@ -3,7 +3,7 @@
 ghost use Rattle.std.specs.Prelude.{◌≡◌, IfOk, IfErr, string_bytes};
 ghost use Rattle.bson.specs.Doubles.TheVariants.{Finite};
 ghost use Rattle.bson.specs.Form.TheVariants.{Canonical};
-ghost use Rattle.bson.specs.Options.{mongodb_options};
+ghost use Rattle.bson.specs.NamedOptions.{mongodb_options};
 ghost use Rattle.bson.specs.Texts.{IsTextInOrder};
 ghost use Rattle.bson.specs.Value.{Pairs, document};
 ghost use Rattle.bson_codec.specs.Canonical.{FitsDocument};

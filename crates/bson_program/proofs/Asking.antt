@@ -3,17 +3,16 @@ use Rattle.std.proofs.Common.{◌≡◌, ◌⊎◌, codes, inl, inr, ◌<◌, �
 use Rattle.std.proofs.Common.{refl, sym, ap, subst, get_or, Result, Ok, Err, IfOk, zero, suc, [], ◌∷◌, ◌++◌, ◌+◌, take, add-one, arith}
 use Rattle.std.proofs.lemmas.List.{get_or-map, length-map}
 use Rattle.std.specs.List.{Contains}
-use Rattle.std.specs.Option.{IfSome, option_map_or}
-use Rattle.bson.specs.declared.extjson.key_order.KeyOrder.TheVariants.{Ascending}
-use Rattle.bson.specs.declared.extjson.options.Options.{Options}
-use Rattle.bson_run.specs.TaskNames.{task_name}
-use Rattle.bson_run.specs.declared.task.Criterion.TheVariants.{Canonical, Valid}
-use Rattle.bson_run.specs.declared.task.Preprocessing.{Preprocessing}
+use Rattle.std.specs.Option.{IfSome}
+use Rattle.bson.specs.KeyOrder.TheVariants.{Ascending}
+use Rattle.bson.specs.Options.{Options}
+use Rattle.bson_run.specs.TaskNames.{output_name}
 use Rattle.bson_run.specs.declared.task.Task.{Task}
-use Rattle.bson_run.specs.declared.task.Task.TheVariants.{Write, Check, Encode, Preprocessed}
+use Rattle.bson_run.specs.declared.task.Output.{Output}
+use Rattle.bson_run.specs.declared.task.Output.TheVariants.{Text, Bytes, Nothing}
 use Rattle.bson_program.specs.Flags.{has_flag}
-use Rattle.bson_program.specs.Invocation.{with_preprocessing, is_option, with_criterion, mode_arg, requested_key_order, AreParsed, one_more_arg, IsRequestOf}
-use Rattle.bson_program.specs.Invocation.{requested_preprocessing, IsRequestedBy, NamesMode, IsTaskFor, IsNamedTaskFor, IsArgAfter}
+use Rattle.bson_program.specs.Invocation.{is_option, with_criterion, mode_arg, requested_key_order, AreParsed, one_more_arg, IsRequestOf}
+use Rattle.bson_program.specs.Invocation.{IsRequestedBy, NamesMode, IsOutputFor, IsNamedKindFor, IsArgAfter}
 use Rattle.bson_program.specs.Invocation.{command_of, StartsWithDash, IsValueInArg, IsParsedCount, IsUsageError, IsParsed, AcceptsArg}
 use Rattle.bson_program.specs.declared.arguments.ArgsSoFar.{ArgsSoFar}
 use Rattle.bson_program.specs.declared.arguments.ParsedArg as arguments
@@ -27,95 +26,71 @@ use Rattle.bson_program.specs.declared.invocation.Purpose.{Purpose}
 use Rattle.bson_program.specs.declared.invocation.Purpose.TheVariants as purpose
 use Rattle.bson_convert.specs.declared.mode.Mode.TheVariants as modes
 
--- ---- options leave a task its name
+-- ---- options leave an output its name
 
-taken_name : (preprocessing : Preprocessing) (task : Task) → task_name (with_preprocessing preprocessing task) ≡ task_name task
-taken_name preprocessing (Write mode) = refl
-taken_name preprocessing (Check Valid) = refl
-taken_name preprocessing (Check Canonical) = refl
-taken_name preprocessing Encode = refl
-taken_name preprocessing (Preprocessed other inner_task) = refl
-
-judged_name : (b : Bool) (task : Task) → task_name (with_criterion b task) ≡ task_name task
-judged_name false task = refl
-judged_name true (Write mode) = refl
-judged_name true (Check criterion) = refl
-judged_name true Encode = refl
-judged_name true (Preprocessed preprocessing inner_task) = refl
-
-named : (preprocessing : Option Preprocessing) (task : Task)
-    → task_name (option_map_or (λ it. with_preprocessing it task) preprocessing task) ≡ task_name task
-named None task = refl
-named (Some it) task = taken_name it task
+judged_name : (b : Bool) (output : Output) → output_name (with_criterion b output) ≡ output_name output
+judged_name false output = refl
+judged_name true (Text mode) = refl
+judged_name true Bytes = refl
+judged_name true (Nothing criterion) = refl
 
 -- ---- digests and comparisons are of canonical text, with keys in ascending order
 
-named_for : (it : Purpose) (task named_task : Task) → task_name task ≡ task_name named_task → mode_arg it task ≡ mode_arg it named_task
-named_for purpose.Output task named_task e = e
-named_for purpose.Digests task named_task e = refl
-named_for purpose.Comparison task named_task e = refl
+named_for : (it : Purpose) (output named_kind : Output) → output_name output ≡ output_name named_kind → mode_arg it output ≡ mode_arg it named_kind
+named_for purpose.Output output named_kind e = e
+named_for purpose.Digests output named_kind e = refl
+named_for purpose.Comparison output named_kind e = refl
 
-canonical_taken : (preprocessing : Option Preprocessing) (it : Purpose) (sorts strict : Bool)
-    → IsTaskFor it (requested_key_order it sorts strict)
-    (option_map_or (λ t. with_preprocessing t (Write modes.Canonical)) preprocessing (Write modes.Canonical))
-canonical_taken preprocessing purpose.Output sorts strict = tt
-canonical_taken None purpose.Digests sorts strict = (refl, refl)
-canonical_taken None purpose.Comparison sorts strict = (refl, refl)
-canonical_taken (Some preprocessing) purpose.Digests sorts strict = (refl, refl)
-canonical_taken (Some preprocessing) purpose.Comparison sorts strict = (refl, refl)
-
-unjudged : (b : Bool) → with_criterion b (Write modes.Canonical) ≡ Write modes.Canonical
+unjudged : (b : Bool) → with_criterion b (Text modes.Canonical) ≡ Text modes.Canonical
 unjudged true = refl
 unjudged false = refl
 
--- with what sorts the keys, and what is looked for in a text first
-sorted_for : (it : Purpose) (b sorts strict : Bool) (preprocessing : Option Preprocessing) (named_task : Task) → IsNamedTaskFor it named_task
-    → IsTaskFor it (requested_key_order it sorts strict)
-    (let task = with_criterion b named_task in option_map_or (λ t. with_preprocessing t task) preprocessing task)
-sorted_for purpose.Output b sorts strict preprocessing named_task is = tt
-sorted_for purpose.Digests b sorts strict preprocessing named_task is =
-    subst (λ task. IsTaskFor purpose.Digests Ascending (option_map_or (λ t. with_preprocessing t task) preprocessing task))
-    (sym (ap (with_criterion b) is ∙ unjudged b)) (canonical_taken preprocessing purpose.Digests sorts strict)
-sorted_for purpose.Comparison b sorts strict preprocessing named_task is =
-    subst (λ task. IsTaskFor purpose.Comparison Ascending (option_map_or (λ t. with_preprocessing t task) preprocessing task))
-    (sym (ap (with_criterion b) is ∙ unjudged b)) (canonical_taken preprocessing purpose.Comparison sorts strict)
+-- with what sorts the keys
+sorted_for : (it : Purpose) (b sorts strict : Bool) (named_kind : Output) → IsNamedKindFor it named_kind
+    → IsOutputFor it (requested_key_order it sorts strict) (with_criterion b named_kind)
+sorted_for purpose.Output b sorts strict named_kind is = tt
+sorted_for purpose.Digests b sorts strict named_kind is =
+    subst (IsOutputFor purpose.Digests Ascending) (sym (ap (with_criterion b) is ∙ unjudged b)) (refl, refl)
+sorted_for purpose.Comparison b sorts strict named_kind is =
+    subst (IsOutputFor purpose.Comparison Ascending) (sym (ap (with_criterion b) is ∙ unjudged b)) (refl, refl)
 
 -- ---- the answer
 
 -- the mode is among the args
-abbrev pub IsThere : List (List ℕ) → Purpose → Task → Type 0
-IsThere args it named_task = Contains args (mode_arg it named_task) × IsNamedTaskFor it named_task
+abbrev pub IsThere : List (List ℕ) → Purpose → Output → Type 0
+IsThere args it named_kind = Contains args (mode_arg it named_kind) × IsNamedKindFor it named_kind
 
-verb_there : (args : List (List ℕ)) (it : Purpose) (o : Option Task) (named_task : Task) → IfSome o (IsThere args it)
-    → o ≡ Some named_task → IsThere args it named_task
-verb_there args it o named_task h e = subst (λ o. IfSome o (IsThere args it)) e h
+verb_there : (args : List (List ℕ)) (it : Purpose) (o : Option Output) (named_kind : Output) → IfSome o (IsThere args it)
+    → o ≡ Some named_kind → IsThere args it named_kind
+verb_there args it o named_kind h e = subst (λ o. IfSome o (IsThere args it)) e h
 
 answered : (args : List (List ℕ)) (args_so_far : ArgsSoFar) (requested : Request) → AreParsed args args_so_far
-    → IfSome args_so_far.task (IsThere args args_so_far.purpose) → IsRequestOf args_so_far requested → IsRequestedBy args requested
+    → IfSome args_so_far.output_kind (IsThere args args_so_far.purpose) → IsRequestOf args_so_far requested → IsRequestedBy args requested
 answered args args_so_far (Run invocation) are h is =
-    let there : IsThere args args_so_far.purpose is.named_task = verb_there args args_so_far.purpose args_so_far.task is.named_task h is.is_named_task in
-    let name : task_name invocation.task ≡ task_name is.named_task =
-    ap task_name is.task ∙ named _ (with_criterion args_so_far.is_canonical is.named_task) ∙ judged_name args_so_far.is_canonical is.named_task in (
-      subst (λ it. Contains args (mode_arg it invocation.task)) (sym is.purpose)
-          (subst (Contains args) (sym (named_for args_so_far.purpose invocation.task is.named_task name)) there.0),
-      subst (λ it. IsTaskFor it invocation.options.key_order invocation.task) (sym is.purpose)
-          (subst (λ order. IsTaskFor args_so_far.purpose order invocation.task) (sym (ap (λ (o : Options). o.key_order) is.options))
-          (subst (IsTaskFor args_so_far.purpose (requested_key_order args_so_far.purpose args_so_far.sorts_keys args_so_far.is_strict)) (sym is.task)
-          (sorted_for args_so_far.purpose args_so_far.is_canonical args_so_far.sorts_keys args_so_far.is_strict
-          (requested_preprocessing args_so_far.rejects_duplicates args_so_far.is_legacy) is.named_task there.1))),
+    let kind : Output = with_criterion args_so_far.is_canonical is.named_kind in
+    let there : IsThere args args_so_far.purpose is.named_kind = verb_there args args_so_far.purpose args_so_far.output_kind is.named_kind h is.is_named_kind in
+    let same : invocation.task.output ≡ kind = ap (λ (t : Task). t.output) is.task in
+    let name : output_name invocation.task.output ≡ output_name is.named_kind =
+    ap output_name same ∙ judged_name args_so_far.is_canonical is.named_kind in (
+      subst (λ it. Contains args (mode_arg it invocation.task.output)) (sym is.purpose)
+          (subst (Contains args) (sym (named_for args_so_far.purpose invocation.task.output is.named_kind name)) there.0),
+      subst (λ it. IsOutputFor it invocation.options.key_order invocation.task.output) (sym is.purpose)
+          (subst (λ order. IsOutputFor args_so_far.purpose order invocation.task.output) (sym (ap (λ (o : Options). o.key_order) is.options))
+          (subst (IsOutputFor args_so_far.purpose (requested_key_order args_so_far.purpose args_so_far.sorts_keys args_so_far.is_strict)) (sym same)
+          (sorted_for args_so_far.purpose args_so_far.is_canonical args_so_far.sorts_keys args_so_far.is_strict is.named_kind there.1))),
       (args_so_far, are, is),
     )
 answered args args_so_far (Help command) are h is = absurd is
 answered args args_so_far Version are h is = absurd is
 answered args args_so_far (InvalidUsage invalid_usage) are h is = (args_so_far, is.1, inl (are, is.0))
 
-pub still_there : (args : List (List ℕ)) (arg : List ℕ) (before after : Purpose) (old new : Option Task) → Contains args arg
+pub still_there : (args : List (List ℕ)) (arg : List ℕ) (before after : Purpose) (old new : Option Output) → Contains args arg
     → IfSome old (IsThere args before)
-    → IfSome new (λ named_task. ((old ≡ Some named_task) × (after ≡ before)) ⊎ NamesMode arg after named_task) → IfSome new (IsThere args after)
+    → IfSome new (λ named_kind. ((old ≡ Some named_kind) × (after ≡ before)) ⊎ NamesMode arg after named_kind) → IfSome new (IsThere args after)
 still_there args arg before after old None there h is = tt
-still_there args arg before after old (Some named_task) there h (inl e) =
-    subst (λ it. IsThere args it named_task) (sym e.1) (verb_there args before old named_task h e.0)
-still_there args arg before after old (Some named_task) there h (inr e) = (subst (Contains args) e.0 there, e.1)
+still_there args arg before after old (Some named_kind) there h (inl e) =
+    subst (λ it. IsThere args it named_kind) (sym e.1) (verb_there args before old named_kind h e.0)
+still_there args arg before after old (Some named_kind) there h (inr e) = (subst (Contains args) e.0 there, e.1)
 
 pub version_there : (args : List (List ℕ)) (arg : List ℕ) (args_so_far : ArgsSoFar) (it : arguments.ParsedArg) → Contains args arg
     → IsParsed args_so_far arg it → it ≡ parsed.Version → IsRequestedBy args Version
@@ -133,7 +108,7 @@ word_there f all xs i x arg same within is of =
     (i, subst (λ n. i < n) (sym (length-map xs f)) within, get_or-map f xs i x (f x) within ∙ ap f (sym is)))
 
 pub answer : {E : Type 0} (args : List (List ℕ)) (args_so_far : ArgsSoFar) (r : Result Request E) → AreParsed args args_so_far
-    → IfSome args_so_far.task (IsThere args args_so_far.purpose) → IfOk r (λ requested. IsRequestOf args_so_far requested)
+    → IfSome args_so_far.output_kind (IsThere args args_so_far.purpose) → IfOk r (λ requested. IsRequestOf args_so_far requested)
     → IfOk r (λ requested. IsRequestedBy args requested)
 answer args args_so_far (Ok requested) are h is = answered args args_so_far requested are h is
 answer args args_so_far (Err e) are h is = tt
@@ -173,7 +148,7 @@ following f all xs i x arg args_so_far same within is of are = record {
 }
 
 pub help_behind : (args : List (List ℕ)) (args_so_far : ArgsSoFar) (arg : List ℕ) (it : arguments.ParsedArg) (command : Command)
-    → IsArgAfter args args_so_far arg → IsParsed args_so_far arg it → it ≡ parsed.Help → command ≡ command_of args_so_far.input args_so_far.task
+    → IsArgAfter args args_so_far arg → IsParsed args_so_far arg it → it ≡ parsed.Help → command ≡ command_of args_so_far.input args_so_far.output_kind
     → IsRequestedBy args (Help command)
 help_behind args args_so_far arg parsed.AcceptedArg command there h e of = absurd cc
 help_behind args args_so_far arg parsed.Help command there h e of = (args_so_far, arg, there, h, of)

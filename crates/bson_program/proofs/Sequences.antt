@@ -16,9 +16,9 @@ use Rattle.bson_run.specs.declared.accepted.Accepted.{Accepted}
 use Rattle.bson_run.specs.Lines.{WritesText}
 use Rattle.bson_run.specs.ErrorMessages.{IsPositionMessage}
 use Rattle.bson_program.specs.Texts.{CannotWriteAccepted, AreTextOutputs, IsErrorLine, IsNotJson, IsSequence, WritesTextOutput, StopsAt, IsTextFailure}
-use Rattle.bson_program.specs.Texts.{FailsAtText, ConvertsTexts, FailsOnInput, WritesAcceptedText, WritesAllTexts, content_of, is_sequence}
+use Rattle.bson_program.specs.Texts.{FailsAtText, ConvertsTexts, FailsOnInput, HasOutputOfTexts, WritesAcceptedText, WritesAllTexts, content_of, is_sequence}
 use Rattle.bson_program.specs.Texts.AreTextOutputs.{no_texts, one_more_text}
-use Rattle.bson_program.specs.SingleText.{IsTextRejected, WritesOutput}
+use Rattle.bson_program.specs.SingleText.{IsOutputOfText, IsTextRejected}
 use Rattle.bson_program.specs.declared.invocation.Invocation.{Invocation}
 use Rattle.bson_program.specs.declared.run.RunFailure.{RunFailure}
 use Rattle.bson_program.specs.declared.run.RunFailure.TheVariants as stops
@@ -64,7 +64,7 @@ pub record Reaches (invocation : Invocation) (content rest : List ℕ) (output_b
   pub written : List ℕ
   pub texts : texts_in content ≡ done ++ texts_in rest
   pub outputs : AreTextOutputs invocation done written
-  pub utf8 : WritesText invocation.task → IsUtf8 written
+  pub utf8 : WritesText invocation.task.output → IsUtf8 written
   pub kept : Appends output_before output_after written
   pub front : List ℕ
   pub following : content ≡ front ++ rest
@@ -232,9 +232,29 @@ reads_and_stops invocation stop name content bytes before after output_before ou
   stops_at = subst (λ c. StopsAt invocation stop name c output_before output_after) is at;
 })
 
+-- the outputs of all texts of a sequence
+pub sequence_done : (invocation : Invocation) (name content bytes : List ℕ) (before after output_before output_after : Option (List ℕ))
+    (fault : Error) → IsTextRejected invocation.options invocation.task fault content → fault ≡ NotJson
+    → is_sequence invocation content ≡ true → ReadsAll before after bytes → content ≡ content_of invocation name bytes
+    → WritesAllTexts invocation content output_before output_after
+    → ConvertsTexts invocation name before after output_before output_after
+sequence_done invocation name content bytes before after output_before output_after fault rejected not_json several all is w =
+    let sequence : IsSequence invocation content = record {
+      not_single_text = subst (λ e. IsTextRejected invocation.options invocation.task e content) not_json rejected;
+      several = several;
+    } in
+    record {
+      bytes = bytes;
+      output = w.output;
+      reads_all = all;
+      writes_output = subst (λ c. HasOutputOfTexts invocation c w.output) is (inr (sequence, w.outputs));
+      utf8 = w.utf8;
+      written = w.written;
+    }
+
 module _ (invocation : Invocation) (name content : List ℕ) (accepted : Accepted) (output_before output_after : Option (List ℕ))
-    (has : HasOutput invocation.options (WritesOutput invocation invocation.task content) accepted)
-    (utf8 : WritesText invocation.task → IsUtf8Accepted accepted) where
+    (has : HasOutput invocation.options (IsOutputOfText invocation content) accepted)
+    (utf8 : WritesText invocation.task.output → IsUtf8Accepted accepted) where
   pub one_text_done : (before after : Option (List ℕ)) (bytes : List ℕ) → ReadsAll before after bytes
       → content ≡ content_of invocation name bytes → WritesAcceptedText invocation accepted output_before output_after
       → ConvertsTexts invocation name before after output_before output_after
@@ -242,7 +262,7 @@ module _ (invocation : Invocation) (name content : List ℕ) (accepted : Accepte
     bytes = bytes;
     output = w.output;
     reads_all = all;
-    writes_output = inl (subst (λ c. WritesOutput invocation invocation.task c w.output) is (has.each_output w.output w.outputs));
+    writes_output = inl (subst (λ c. IsOutputOfText invocation c w.output) is (has.each_output w.output w.outputs));
     utf8 = λ t. w.utf8 (utf8 t);
     written = w.written;
   }

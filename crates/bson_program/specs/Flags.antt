@@ -2,8 +2,8 @@
 use Rattle.std.specs.Prelude.{ℕ, Bool, true, false, not, ◌&&◌, List, codes, is_some, if◌then◌else◌}
 use Rattle.bson_convert.specs.declared.mode.Mode.TheVariants.{Show}
 use Rattle.bson_run.specs.declared.task.Criterion.TheVariants as criterion
-use Rattle.bson_run.specs.declared.task.Task.{Task}
-use Rattle.bson_run.specs.declared.task.Task.TheVariants.{Write, Check, Encode}
+use Rattle.bson_run.specs.declared.task.Output as task
+use Rattle.bson_run.specs.declared.task.Output.TheVariants as output
 use Rattle.bson_program.specs.declared.arguments.ArgsSoFar.{ArgsSoFar}
 use Rattle.bson_program.specs.declared.invocation.Flag.{Flag}
 use Rattle.bson_program.specs.declared.invocation.Flag.TheVariants.{SortKeys, Strict, Legacy, NoDuplicateKeys, Canonical, Indent, KeepGoing, Jobs}
@@ -15,34 +15,33 @@ use Rattle.bson_program.specs.declared.invocation.Purpose.TheVariants as purpose
 
 -- ---- the table of options
 --
--- The columns are one document (Text), lines and dumps (Documents), each with its task.
+-- The columns are one document (Text), lines and dumps (Documents), each with its output.
 
 -- a form of Extended JSON is written
-abbrev pub writes_form : Task → Bool
-writes_form (Write Show) = false
-writes_form (Write mode) = true
-writes_form task = false
+abbrev pub writes_form : task.Output → Bool
+writes_form (output.Text Show) = false
+writes_form (output.Text mode) = true
+writes_form other_output = false
 
 -- the input is only checked
-abbrev pub is_check : Task → Bool
-is_check (Check criterion) = true
-is_check task = false
+abbrev pub is_check : task.Output → Bool
+is_check (output.Nothing criterion) = true
+is_check other_output = false
 
--- the task writes an output
-abbrev pub has_output : Task → Bool
-has_output task = not (is_check task)
+-- something is written
+abbrev pub has_output : task.Output → Bool
+has_output output = not (is_check output)
 
--- texts are read that need not be canonical, and no bytes are written of them
-abbrev pub reads_texts : Input → Task → Bool
-reads_texts Documents task = false
-reads_texts input Encode = false
-reads_texts input (Check criterion.Canonical) = false
-reads_texts input task = true
+-- texts are read that need not be canonical
+abbrev pub reads_texts : Input → task.Output → Bool
+reads_texts Documents output = false
+reads_texts input (output.Nothing criterion.Canonical) = false
+reads_texts input other_output = true
 
 -- texts are read, and only checked
-abbrev pub checks_texts : Input → Task → Bool
-checks_texts Documents task = false
-checks_texts input task = is_check task
+abbrev pub checks_texts : Input → task.Output → Bool
+checks_texts Documents output = false
+checks_texts input output = is_check output
 
 -- many documents are read
 abbrev pub reads_lines_or_documents : Input → Bool
@@ -50,20 +49,20 @@ reads_lines_or_documents Text = false
 reads_lines_or_documents input = true
 
 -- the command has the option
-abbrev pub command_allows : Flag → Input → Task → Bool
-command_allows SortKeys Documents task = writes_form task
-command_allows SortKeys input task = has_output task
-command_allows Strict Documents task = writes_form task
-command_allows Strict input task = true
-command_allows Legacy input task = reads_texts input task
-command_allows NoDuplicateKeys input task = reads_texts input task
-command_allows Canonical input task = checks_texts input task
-command_allows Indent Text task = writes_form task
-command_allows Indent input task = false
-command_allows KeepGoing input task = reads_lines_or_documents input
-command_allows Jobs input task = reads_lines_or_documents input
-command_allows Output input task = has_output task
-command_allows Unordered input task = true
+abbrev pub command_allows : Flag → Input → task.Output → Bool
+command_allows SortKeys Documents output = writes_form output
+command_allows SortKeys input output = has_output output
+command_allows Strict Documents output = writes_form output
+command_allows Strict input output = true
+command_allows Legacy input output = reads_texts input output
+command_allows NoDuplicateKeys input output = reads_texts input output
+command_allows Canonical input output = checks_texts input output
+command_allows Indent Text output = writes_form output
+command_allows Indent input output = false
+command_allows KeepGoing input output = reads_lines_or_documents input
+command_allows Jobs input output = reads_lines_or_documents input
+command_allows Output input output = has_output output
+command_allows Unordered input output = true
 
 -- modes with this purpose have the option
 abbrev pub purpose_allows : Flag → Purpose → Bool
@@ -93,9 +92,9 @@ has_flag Output args_so_far = is_some args_so_far.output
 has_flag Unordered args_so_far = args_so_far.is_unordered
 
 -- an option is set that the command does not have
-abbrev pub is_unsupported : Flag → ArgsSoFar → Task → Bool
-is_unsupported flag args_so_far task =
-    if purpose_allows flag args_so_far.purpose && command_allows flag args_so_far.input task then false
+abbrev pub is_unsupported : Flag → ArgsSoFar → task.Output → Bool
+is_unsupported flag args_so_far output =
+    if purpose_allows flag args_so_far.purpose && command_allows flag args_so_far.input output then false
     else has_flag flag args_so_far
 
 -- ---- the names of options

@@ -3,10 +3,12 @@ use Rattle.std.specs.Prelude.{◌≡◌, ◌==◌, ◌||◌, ◌&&◌, ◌+◌, 
 use Rattle.std.specs.Prelude.{if◌then◌else◌, codes, length, nat_eq, nat_le, nat_lt, slice_index, reverse, take, drop, is_some}
 use Rattle.std.specs.List.{find, starts_with}
 use Rattle.bson.specs.Doubles.{Doubles}
-use Rattle.bson.specs.declared.extjson.options.Options.{Options}
+use Rattle.bson.specs.Options.{Options}
 use Rattle.bson.specs.Doubles.TheVariants.{Finite, Special}
-use Rattle.bson.specs.declared.extjson.key_order.KeyOrder.{KeyOrder}
-use Rattle.bson.specs.declared.extjson.key_order.KeyOrder.TheVariants.{Ascending}
+use Rattle.bson.specs.KeyOrder.{KeyOrder}
+use Rattle.bson.specs.KeyOrder.TheVariants.{Ascending}
+use Rattle.bson_model.specs.declared.options.DuplicateKeys.{DuplicateKeys}
+use Rattle.bson_model.specs.declared.options.DuplicateKeys.TheVariants.{LastWins, Reject}
 use Rattle.bson_codec.specs.declared.run_end.RunFault.{RunFault}
 use Rattle.bson_codec.specs.declared.run_end.RunFault.TheVariants as run_fault
 use Rattle.bson_convert.specs.Convert.{IsAccepted}
@@ -18,9 +20,8 @@ use Rattle.bson_run.specs.ErrorMessages.{BreaksRule, IsSubslice}
 use Rattle.bson_run.specs.Preprocessed.{IsPreprocessedAs}
 use Rattle.bson_run.specs.declared.task.Criterion.TheVariants as criterion
 use Rattle.bson_run.specs.declared.task.Preprocessing.{Preprocessing}
-use Rattle.bson_run.specs.declared.task.Preprocessing.TheVariants as preprocessing
-use Rattle.bson_run.specs.declared.task.Task.{Task}
-use Rattle.bson_run.specs.declared.task.Task.TheVariants as task
+use Rattle.bson_run.specs.declared.task.Output.{Output}
+use Rattle.bson_run.specs.declared.task.Output.TheVariants as output
 use Rattle.bson_run.specs.declared.rule.Rule.{Rule}
 use Rattle.bson_run.specs.declared.rule.Rule.TheVariants.{ControlCharacter, TrailingData, Utf8}
 use Rattle.bson_program.specs.Messages.{line_len, shown_name}
@@ -202,37 +203,27 @@ abbrev pub IsSyntaxAdvice : Invocation → (text : List ℕ) → Advice → Type
 IsSyntaxAdvice invocation text given_advice = (rule : Rule) × (offset : ℕ) × BreaksRule text rule
     × (advice_for_rule invocation.input invocation.options.doubles rule (drop offset text) ≡ Some given_advice)
 
--- what `--legacy` does before a text is read, if that is not done already
-abbrev pub legacy_preprocessing : Task → Option Preprocessing
-legacy_preprocessing (task.Preprocessed preprocessing.Distinct inner_task) = Some preprocessing.DistinctLegacy
-legacy_preprocessing (task.Preprocessed preprocessing inner_task) = None
-legacy_preprocessing (task.Check criterion.Canonical) = None
-legacy_preprocessing task = Some preprocessing.Legacy
-
 -- a text has to be canonical
-abbrev pub is_canonical : Task → Bool
-is_canonical (task.Check criterion.Canonical) = true
-is_canonical task = false
-
-abbrev pub legacy_advice : Task → Advice
-legacy_advice task.Encode = advice.LegacyToEncode
-legacy_advice task = advice.Legacy
+abbrev pub is_canonical : Output → Bool
+is_canonical (output.Nothing criterion.Canonical) = true
+is_canonical other_output = false
 
 -- the text that is read instead has a value
 abbrev pub IsReadUpgraded : Options → Preprocessing → (text : List ℕ) → Type 0
 IsReadUpgraded options preprocessing text =
     (upgraded : List ℕ) × IsPreprocessedAs preprocessing text upgraded × IsAccepted options upgraded
 
+-- `--legacy` is not set, and the text has a value with it
 abbrev pub IsReadWithLegacy : Invocation → (text : List ℕ) → Type 0
-IsReadWithLegacy invocation text = (preprocessing : Preprocessing)
-    × (legacy_preprocessing invocation.task ≡ Some preprocessing)
-    × IsReadUpgraded invocation.options preprocessing text
+IsReadWithLegacy invocation text = (invocation.task.preprocessing.v1 ≡ false)
+    × (is_canonical invocation.task.output ≡ false)
+    × IsReadUpgraded invocation.options (record invocation.task.preprocessing { v1 = true }) text
 
 -- what helps with a text that is rejected with the error
 abbrev pub IsAdviceFor : Invocation → Error → (text : List ℕ) → Advice → Type 0
 IsAdviceFor invocation error.NotJson text given_advice = IsSyntaxAdvice invocation text given_advice
 IsAdviceFor invocation (error.NotExtendedJson place) text given_advice =
-    (legacy_advice invocation.task ≡ given_advice) × IsReadWithLegacy invocation text
+    (given_advice ≡ advice.Legacy) × IsReadWithLegacy invocation text
 IsAdviceFor invocation (error.NoBytes reason) text given_advice = (reason ≡ NoDocument)
     × (given_advice ≡ advice.NotADocument)
 IsAdviceFor invocation fault text given_advice = ⊥
@@ -303,8 +294,6 @@ advice_text advice.ControlCharacter =
     codes "has a control character in a string; write a tab as \\t, a newline as \\n, any other as \\u0001"
 advice_text advice.NotUtf8 = codes "is not UTF-8; if it is Latin-1, give it through 'iconv -f latin1 -t utf-8'"
 advice_text advice.Legacy = codes "has Extended JSON v1, which is read with --legacy"
-advice_text advice.LegacyToEncode =
-    codes "has Extended JSON v1; './bson lines canonical --legacy' makes lines that encode reads"
 advice_text advice.NotADocument =
     codes "has a value that is not a document, and encode makes bytes of documents alone"
 
@@ -331,9 +320,9 @@ hint_text hint.MultilineTextsToEncode command =
 hint_text (hint.Advised given_advice) command = advice_text given_advice
 
 -- the mode of a command that reads the input; lines that become bytes are texts for `canonical`
-abbrev pub reading_mode : Input → Purpose → Task → List ℕ
-reading_mode Lines purpose task.Encode = codes "canonical"
-reading_mode input purpose task = mode_arg purpose task
+abbrev pub reading_mode : Input → Purpose → Output → List ℕ
+reading_mode Lines purpose output.Bytes = codes "canonical"
+reading_mode input purpose other_output = mode_arg purpose other_output
 
 -- the option that sorts keys is set, and not another that sorts them
 abbrev pub sorts_keys : Purpose → Doubles → KeyOrder → Bool
@@ -344,21 +333,24 @@ abbrev pub is_strict : Doubles → Bool
 is_strict Special = true
 is_strict Finite = false
 
-abbrev pub preprocessing_options : Task → List ℕ
-preprocessing_options (task.Preprocessed preprocessing.Legacy inner_task) = codes " --legacy"
-preprocessing_options (task.Preprocessed preprocessing.Distinct inner_task) = codes " --no-double-keys"
-preprocessing_options (task.Preprocessed preprocessing.DistinctLegacy inner_task) = codes " --legacy --no-double-keys"
-preprocessing_options task = []
+abbrev pub options_of_preprocessing : (reads_v1 : Bool) → DuplicateKeys → List ℕ
+options_of_preprocessing true LastWins = codes " --legacy"
+options_of_preprocessing false Reject = codes " --no-double-keys"
+options_of_preprocessing true Reject = codes " --legacy --no-double-keys"
+options_of_preprocessing false LastWins = []
+
+abbrev pub preprocessing_options : Preprocessing → List ℕ
+preprocessing_options preprocessing = options_of_preprocessing preprocessing.v1 preprocessing.duplicate_keys
 
 abbrev pub option_if : (is_given : Bool) → (option : List ℕ) → List ℕ
 option_if is_given option = if is_given then option else []
 
 -- the mode and the options of a command that reads the input
 abbrev pub reading_command : Invocation → List ℕ
-reading_command invocation = reading_mode invocation.input invocation.purpose invocation.task
+reading_command invocation = reading_mode invocation.input invocation.purpose invocation.task.output
     ++ option_if (sorts_keys invocation.purpose invocation.options.doubles invocation.options.key_order)
     (codes " --sort-keys")
-    ++ option_if (is_strict invocation.options.doubles) (codes " --strict") ++ preprocessing_options invocation.task
+    ++ option_if (is_strict invocation.options.doubles) (codes " --strict") ++ preprocessing_options invocation.task.preprocessing
 
 -- the line on standard error
 abbrev pub hint_line : (file_name : List ℕ) → Hint → (command : List ℕ) → List ℕ

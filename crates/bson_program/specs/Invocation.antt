@@ -6,14 +6,16 @@ use Rattle.std.specs.declared.alloc.Global.{Global}
 use Rattle.std.specs.Fmt.{decimal}
 use Rattle.std.specs.Option.{option_map_or}
 use Rattle.bson_convert.specs.declared.mode.Mode.TheVariants as modes
-use Rattle.bson_run.specs.TaskNames.{task_name}
-use Rattle.bson_run.specs.declared.task.Criterion.TheVariants.{Canonical, Valid}
+use Rattle.bson_run.specs.TaskNames.{output_name}
+use Rattle.bson_run.specs.declared.task.Criterion.TheVariants.{Canonical}
 use Rattle.bson_run.specs.declared.task.OnRefusal.TheVariants.{KeepGoing, Stop}
 use Rattle.bson_run.specs.declared.task.Preprocessing.{Preprocessing}
-use Rattle.bson_run.specs.declared.task.Preprocessing.TheVariants.{Distinct, Legacy, DistinctLegacy}
 use Rattle.bson_run.specs.declared.task.Task.{Task}
-use Rattle.bson_run.specs.declared.task.Task.TheVariants.{Write, Check, Encode, Preprocessed}
-use Rattle.bson_run.specs.declared.task.InnerTask.TheVariants as inner_task
+use Rattle.bson_run.specs.declared.task.Output.{Output}
+use Rattle.bson_run.specs.declared.task.Output.TheVariants.{Bytes, Nothing}
+use Rattle.bson_run.specs.declared.task.Output.TheVariants as output
+use Rattle.bson_model.specs.declared.options.DuplicateKeys.{DuplicateKeys}
+use Rattle.bson_model.specs.declared.options.DuplicateKeys.TheVariants.{LastWins, Reject}
 use Rattle.bson_program.specs.Flags.{is_unsupported, has_flag}
 use Rattle.bson_program.specs.declared.invocation.Request.{Request}
 use Rattle.bson_program.specs.declared.invocation.Request.TheVariants.{Run, Help, Version, InvalidUsage}
@@ -35,30 +37,25 @@ use Rattle.bson_program.specs.declared.arguments.ExpectedArg.{ExpectedArg}
 use Rattle.bson_program.specs.declared.arguments.ExpectedArg.TheVariants.{AnyArg, OutputFile, IndentWidth, JobCount, Operand}
 use Rattle.bson.specs.Doubles.{Doubles}
 use Rattle.bson.specs.Doubles.TheVariants.{Finite, Special}
-use Rattle.bson.specs.declared.extjson.key_order.KeyOrder.{KeyOrder}
-use Rattle.bson.specs.declared.extjson.key_order.KeyOrder.TheVariants.{Ascending, AsGiven}
-use Rattle.bson.specs.declared.extjson.options.Options.{Options}
+use Rattle.bson.specs.KeyOrder.{KeyOrder}
+use Rattle.bson.specs.KeyOrder.TheVariants.{Ascending, AsGiven}
+use Rattle.bson.specs.Options.{Options}
 
--- ---- tasks and options
+-- ---- outputs and options
 
--- a check by the criterion that the option sets
-abbrev pub with_criterion : (is_canonical : Bool) → (named_task : Task) → Task
-with_criterion false task = task
-with_criterion true (Check criterion) = Check Canonical
-with_criterion true task = task
+-- the criterion of a check is the one that the option sets
+abbrev pub with_criterion : (is_canonical : Bool) → (named_kind : Output) → Output
+with_criterion true (Nothing criterion) = Nothing Canonical
+with_criterion is_canonical named_kind = named_kind
+
+abbrev pub requested_duplicate_keys : (rejects_duplicates : Bool) → DuplicateKeys
+requested_duplicate_keys true = Reject
+requested_duplicate_keys false = LastWins
 
 -- the preprocessing of a text before it is read: the check for duplicate keys, and rewriting Extended JSON v1
-abbrev pub requested_preprocessing : (rejects_duplicates is_legacy : Bool) → Option Preprocessing
-requested_preprocessing true true = Some DistinctLegacy
-requested_preprocessing true false = Some Distinct
-requested_preprocessing false true = Some Legacy
-requested_preprocessing false false = None
-
--- the task on preprocessed texts; texts that are encoded, or checked for their canonical form, are not preprocessed
-abbrev pub with_preprocessing : Preprocessing → Task → Task
-with_preprocessing preprocessing (Write mode) = Preprocessed preprocessing (inner_task.Write mode)
-with_preprocessing preprocessing (Check Valid) = Preprocessed preprocessing inner_task.Check
-with_preprocessing preprocessing task = task
+abbrev pub requested_preprocessing : (rejects_duplicates is_legacy : Bool) → Preprocessing
+requested_preprocessing rejects_duplicates is_legacy =
+    record { duplicate_keys = requested_duplicate_keys rejects_duplicates; v1 = is_legacy }
 
 -- all doubles have a text; or, if the run is strict, those of the specification
 abbrev pub accepted_doubles : (is_strict : Bool) → Doubles
@@ -92,27 +89,25 @@ is_option arg = bytes_eq arg (codes "--sort-keys") || bytes_eq arg (codes "--str
 -- ---- modes
 
 -- the argument that names a mode
-abbrev pub mode_arg : Purpose → Task → List ℕ
-mode_arg purpose.Output task = task_name task
-mode_arg purpose.Digests task = codes "hash"
-mode_arg purpose.Comparison task = codes "same"
+abbrev pub mode_arg : Purpose → Output → List ℕ
+mode_arg purpose.Output output = output_name output
+mode_arg purpose.Digests output = codes "hash"
+mode_arg purpose.Comparison output = codes "same"
 
 -- digests and comparisons are of canonical text
-abbrev pub IsNamedTaskFor : Purpose → (named_task : Task) → Type 0
-IsNamedTaskFor purpose.Output named_task = Unit {0}
-IsNamedTaskFor purpose named_task = named_task ≡ Write modes.Canonical
+abbrev pub IsNamedKindFor : Purpose → (named_kind : Output) → Type 0
+IsNamedKindFor purpose.Output named_kind = Unit {0}
+IsNamedKindFor purpose named_kind = named_kind ≡ output.Text modes.Canonical
 
 -- with the keys of each document in ascending order
-abbrev pub IsTaskFor : Purpose → KeyOrder → Task → Type 0
-IsTaskFor purpose.Output key_order task = Unit {0}
-IsTaskFor purpose key_order (Write mode) = (mode ≡ modes.Canonical) × (key_order ≡ Ascending)
-IsTaskFor purpose key_order (Preprocessed preprocessing (inner_task.Write mode)) = (mode ≡ modes.Canonical)
-    × (key_order ≡ Ascending)
-IsTaskFor purpose key_order task = ⊥
+abbrev pub IsOutputFor : Purpose → KeyOrder → Output → Type 0
+IsOutputFor purpose.Output key_order output = Unit {0}
+IsOutputFor purpose key_order (output.Text mode) = (mode ≡ modes.Canonical) × (key_order ≡ Ascending)
+IsOutputFor purpose key_order other_output = ⊥
 
 -- the argument names this mode
-abbrev pub NamesMode : (arg : List ℕ) → Purpose → (named_task : Task) → Type 0
-NamesMode arg purpose named_task = (arg ≡ mode_arg purpose named_task) × IsNamedTaskFor purpose named_task
+abbrev pub NamesMode : (arg : List ℕ) → Purpose → (named_kind : Output) → Type 0
+NamesMode arg purpose named_kind = (arg ≡ mode_arg purpose named_kind) × IsNamedKindFor purpose named_kind
 
 -- ---- commands
 
@@ -127,18 +122,18 @@ abbrev pub is_text : Input → Bool
 is_text Text = true
 is_text input = false
 
-abbrev pub command_of : Input → Option Task → Command
+abbrev pub command_of : Input → Option Output → Command
 command_of Text None = command.AllCommands
-command_of Text (Some task) = command.Text
-command_of Documents task = command.Decode
-command_of Lines (Some Encode) = command.Encode
-command_of Lines task = command.Lines
+command_of Text (Some named_kind) = command.Text
+command_of Documents named_kind = command.Decode
+command_of Lines (Some Bytes) = command.Encode
+command_of Lines named_kind = command.Lines
 
 -- ---- the meaning of the arguments
 
 -- after a mode an argument is a file
 abbrev pub input_after_arg : (arg : List ℕ) → ArgsSoFar → Input
-input_after_arg arg args_so_far = option_map_or (λ named_task. args_so_far.input) args_so_far.task (input_of_command arg args_so_far.input)
+input_after_arg arg args_so_far = option_map_or (λ named_kind. args_so_far.input) args_so_far.output_kind (input_of_command arg args_so_far.input)
 
 -- what an argument sets that is not the value of an option: each option and each command sets its own part, and any
 -- other argument none of these
@@ -161,7 +156,7 @@ set_flags arg args_so_far = record args_so_far {
 -- an argument that is an option sets what the table says; arguments for files, the mode and numbers set the rest
 abbrev pub SetsOption : (arg : List ℕ) → (old new : ArgsSoFar) → Type 0
 SetsOption arg old new = new ≡ record (set_flags arg old) {
-  task = new.task;
+  output_kind = new.output_kind;
   purpose = new.purpose;
   indent = new.indent;
   jobs = new.jobs;
@@ -176,7 +171,7 @@ AcceptsExpectedArg OutputFile arg old new = new ≡ record old { expected_arg = 
 AcceptsExpectedArg IndentWidth arg old new = new ≡ record old { expected_arg = AnyArg; indent = new.indent }
 AcceptsExpectedArg JobCount arg old new = new ≡ record old { expected_arg = AnyArg; jobs = new.jobs }
 AcceptsExpectedArg Operand arg old new = new ≡ record old {
-  task = new.task;
+  output_kind = new.output_kind;
   purpose = new.purpose;
   input = input_after_arg arg old;
   inputs = new.inputs;
@@ -188,7 +183,7 @@ AcceptsArg arg old new = AcceptsExpectedArg old.expected_arg arg old new
 -- the state before the first argument
 abbrev pub IsInitialState : ArgsSoFar → Type 0
 IsInitialState args_so_far = args_so_far ≡ record args_so_far {
-  task = None;
+  output_kind = None;
   purpose = purpose.Output;
   input = Text;
   keeps_going = false;
@@ -215,9 +210,9 @@ pub data AreParsed : (args : List (List ℕ)) → ArgsSoFar → Type 0 where
 
 -- the argument names a mode, or, as the first, a command
 abbrev pub IsModeOrCommand : Input → (arg : List ℕ) → Type 0
-IsModeOrCommand Text arg = ((purpose : Purpose) × (task : Task) × (arg ≡ mode_arg purpose task)) ⊎ (arg ≡ codes "lines")
+IsModeOrCommand Text arg = ((purpose : Purpose) × (output : Output) × (arg ≡ mode_arg purpose output)) ⊎ (arg ≡ codes "lines")
     ⊎ (arg ≡ codes "decode")
-IsModeOrCommand input arg = (purpose : Purpose) × (task : Task) × (task ≢ Encode) × (arg ≡ mode_arg purpose task)
+IsModeOrCommand input arg = (purpose : Purpose) × (output : Output) × (output ≢ Bytes) × (arg ≡ mode_arg purpose output)
 
 -- the argument, or the part after its option, is not the expected value
 abbrev pub HasInvalidNumber : (maximum : ℕ) → (option arg : List ℕ) → Type 0
@@ -231,7 +226,7 @@ StartsWithDash arg = (slice_index arg 0 == 45) ≡ true
 -- why the argument is not accepted after those before it
 abbrev pub IsUsageError : ArgsSoFar → (arg : List ℕ) → UsageError → Type 0
 IsUsageError args_so_far arg usage_error.UnknownOption = StartsWithDash arg × (is_option arg ≡ false)
-IsUsageError args_so_far arg usage_error.UnknownMode = (args_so_far.task ≡ None)
+IsUsageError args_so_far arg usage_error.UnknownMode = (args_so_far.output_kind ≡ None)
     × (IsModeOrCommand args_so_far.input arg → ⊥)
 IsUsageError args_so_far arg usage_error.RemovedOption = (arg ≡ codes "--doubles") ⊎ (arg ≡ codes "--keep-order")
 IsUsageError args_so_far arg (usage_error.OptionTwice flag) = has_flag flag args_so_far ≡ true
@@ -242,7 +237,7 @@ IsUsageError args_so_far arg error_kind = ⊥
 -- the argument requests help: `help` is a file after a mode
 abbrev pub RequestsHelp : ArgsSoFar → (arg : List ℕ) → Type 0
 RequestsHelp args_so_far arg = (arg ≡ codes "--help") ⊎ (arg ≡ codes "-h")
-    ⊎ ((arg ≡ codes "help") × (args_so_far.task ≡ None))
+    ⊎ ((arg ≡ codes "help") × (args_so_far.output_kind ≡ None))
 
 -- the result for an argument after those before it
 abbrev pub IsParsed : ArgsSoFar → (arg : List ℕ) → arguments.ParsedArg → Type 0
@@ -254,17 +249,17 @@ IsParsed args_so_far arg (parsed.InvalidUsage error_kind) = IsUsageError args_so
 -- ---- modes and options
 
 -- the command has all options that are set
-pub record AllOptionsSupported (args_so_far : ArgsSoFar) (task : Task) : Type 0 where
-  pub sort_keys : is_unsupported flag.SortKeys args_so_far task ≡ false
-  pub strict : is_unsupported flag.Strict args_so_far task ≡ false
-  pub legacy : is_unsupported flag.Legacy args_so_far task ≡ false
-  pub no_double_keys : is_unsupported flag.NoDuplicateKeys args_so_far task ≡ false
-  pub canonical : is_unsupported flag.Canonical args_so_far task ≡ false
-  pub indent : is_unsupported flag.Indent args_so_far task ≡ false
-  pub keep_going : is_unsupported flag.KeepGoing args_so_far task ≡ false
-  pub jobs : is_unsupported flag.Jobs args_so_far task ≡ false
-  pub output : is_unsupported flag.Output args_so_far task ≡ false
-  pub unordered : is_unsupported flag.Unordered args_so_far task ≡ false
+pub record AllOptionsSupported (args_so_far : ArgsSoFar) (output_kind : Output) : Type 0 where
+  pub sort_keys : is_unsupported flag.SortKeys args_so_far output_kind ≡ false
+  pub strict : is_unsupported flag.Strict args_so_far output_kind ≡ false
+  pub legacy : is_unsupported flag.Legacy args_so_far output_kind ≡ false
+  pub no_double_keys : is_unsupported flag.NoDuplicateKeys args_so_far output_kind ≡ false
+  pub canonical : is_unsupported flag.Canonical args_so_far output_kind ≡ false
+  pub indent : is_unsupported flag.Indent args_so_far output_kind ≡ false
+  pub keep_going : is_unsupported flag.KeepGoing args_so_far output_kind ≡ false
+  pub jobs : is_unsupported flag.Jobs args_so_far output_kind ≡ false
+  pub output : is_unsupported flag.Output args_so_far output_kind ≡ false
+  pub unordered : is_unsupported flag.Unordered args_so_far output_kind ≡ false
 
 -- the file at this place among the files is standard input
 abbrev pub IsStandardInputAt : (input_index : ℕ) → (inputs : Vec (String Global) Global) → Type 0
@@ -275,19 +270,20 @@ abbrev pub AreTwoFiles : (inputs : Vec (String Global) Global) → Type 0
 AreTwoFiles inputs = (vec_len inputs ≡ 2) × ((IsStandardInputAt 0 inputs × IsStandardInputAt 1 inputs) → ⊥)
 
 -- the mode has the options, and a comparison is of two files
-pub record OptionsFitMode (args_so_far : ArgsSoFar) (task : Task) : Type 0 where
+pub record OptionsFitMode (args_so_far : ArgsSoFar) (output : Output) : Type 0 where
   pub files : args_so_far.purpose ≡ purpose.Comparison → AreTwoFiles args_so_far.inputs
-  pub options : AllOptionsSupported args_so_far task
+  pub options : AllOptionsSupported args_so_far output
 
 -- why they do not fit
-abbrev pub IsOptionError : ArgsSoFar → Task → UsageError → Type 0
-IsOptionError args_so_far task (usage_error.UnsupportedOption flag purpose named_task) = (purpose ≡ args_so_far.purpose)
-    × (named_task ≡ task) × (is_unsupported flag args_so_far task ≡ true)
-IsOptionError args_so_far task usage_error.NeedsTwoFiles = (args_so_far.purpose ≡ purpose.Comparison)
+abbrev pub IsOptionError : ArgsSoFar → Output → UsageError → Type 0
+IsOptionError args_so_far output (usage_error.UnsupportedOption flag purpose shown_output) =
+    (purpose ≡ args_so_far.purpose)
+    × (shown_output ≡ output) × (is_unsupported flag args_so_far output ≡ true)
+IsOptionError args_so_far output usage_error.NeedsTwoFiles = (args_so_far.purpose ≡ purpose.Comparison)
     × (vec_len args_so_far.inputs ≢ 2)
-IsOptionError args_so_far task usage_error.StandardInputTwice =
+IsOptionError args_so_far output usage_error.StandardInputTwice =
     (args_so_far.purpose ≡ purpose.Comparison) × IsStandardInputAt 0 args_so_far.inputs × IsStandardInputAt 1 args_so_far.inputs
-IsOptionError args_so_far task error_kind = ⊥
+IsOptionError args_so_far output error_kind = ⊥
 
 -- the option whose value is missing
 abbrev pub option_without_value : ExpectedArg → Option Flag
@@ -299,10 +295,11 @@ option_without_value expected_arg = None
 -- ---- what is asked for
 
 -- the task of a mode with the options
-abbrev pub requested_task : ArgsSoFar → (named_task : Task) → Task
-requested_task args_so_far named_task =
-    let task = with_criterion args_so_far.is_canonical named_task in
-    option_map_or (λ preprocessing. with_preprocessing preprocessing task) (requested_preprocessing args_so_far.rejects_duplicates args_so_far.is_legacy) task
+abbrev pub requested_task : ArgsSoFar → (named_kind : Output) → Task
+requested_task args_so_far named_kind = record {
+  preprocessing = requested_preprocessing args_so_far.rejects_duplicates args_so_far.is_legacy;
+  output = with_criterion args_so_far.is_canonical named_kind;
+}
 
 abbrev pub requested_options : ArgsSoFar → Options
 requested_options args_so_far = record {
@@ -317,11 +314,11 @@ or_standard_input (name ∷ names) = name ∷ names
 
 -- the run that the arguments request
 pub record IsInvocationOf (args_so_far : ArgsSoFar) (invocation : Invocation) : Type 0 where
-  pub named_task : Task
-  pub is_named_task : args_so_far.task ≡ Some named_task
+  pub named_kind : Output
+  pub is_named_kind : args_so_far.output_kind ≡ Some named_kind
   pub no_missing_value : option_without_value args_so_far.expected_arg ≡ None
-  pub options_fit_mode : OptionsFitMode args_so_far (with_criterion args_so_far.is_canonical named_task)
-  pub task : invocation.task ≡ requested_task args_so_far named_task
+  pub options_fit_mode : OptionsFitMode args_so_far (with_criterion args_so_far.is_canonical named_kind)
+  pub task : invocation.task ≡ requested_task args_so_far named_kind
   pub options : invocation.options ≡ requested_options args_so_far
   pub on_refusal : invocation.on_refusal ≡ (if args_so_far.keeps_going then KeepGoing else Stop)
   pub purpose : invocation.purpose ≡ args_so_far.purpose
@@ -334,15 +331,15 @@ pub record IsInvocationOf (args_so_far : ArgsSoFar) (invocation : Invocation) : 
 -- what is wrong with all arguments, if each was accepted
 abbrev pub IsErrorOfAllArgs : ArgsSoFar → UsageError → Type 0
 IsErrorOfAllArgs args_so_far (usage_error.BadOptionValue flag) = option_without_value args_so_far.expected_arg ≡ Some flag
-IsErrorOfAllArgs args_so_far usage_error.NoMode = args_so_far.task ≡ None
-IsErrorOfAllArgs args_so_far error_kind = (named_task : Task) × (args_so_far.task ≡ Some named_task)
-    × IsOptionError args_so_far (with_criterion args_so_far.is_canonical named_task) error_kind
+IsErrorOfAllArgs args_so_far usage_error.NoMode = args_so_far.output_kind ≡ None
+IsErrorOfAllArgs args_so_far error_kind = (named_kind : Output) × (args_so_far.output_kind ≡ Some named_kind)
+    × IsOptionError args_so_far (with_criterion args_so_far.is_canonical named_kind) error_kind
 
 -- the result for all arguments, if no help was requested: a run, or what is wrong
 abbrev pub IsRequestOf : ArgsSoFar → Request → Type 0
 IsRequestOf args_so_far (Run invocation) = IsInvocationOf args_so_far invocation
 IsRequestOf args_so_far (InvalidUsage invalid_usage) = IsErrorOfAllArgs args_so_far invalid_usage.usage_error
-    × (invalid_usage.command ≡ command_of args_so_far.input args_so_far.task)
+    × (invalid_usage.command ≡ command_of args_so_far.input args_so_far.output_kind)
 IsRequestOf args_so_far request = ⊥
 
 -- the argument is among the arguments, and this is the state after those before it
@@ -356,15 +353,15 @@ pub record IsArgAfter (args : List (List ℕ)) (args_so_far : ArgsSoFar) (arg : 
 -- first argument that requests help, or is not accepted, or that of all arguments
 abbrev pub IsRequestedBy : (args : List (List ℕ)) → Request → Type 0
 IsRequestedBy args (Run invocation) =
-    Contains args (mode_arg invocation.purpose invocation.task)
-    × IsTaskFor invocation.purpose invocation.options.key_order invocation.task
+    Contains args (mode_arg invocation.purpose invocation.task.output)
+    × IsOutputFor invocation.purpose invocation.options.key_order invocation.task.output
     × ((args_so_far : ArgsSoFar) × AreParsed args args_so_far × IsInvocationOf args_so_far invocation)
 IsRequestedBy args (Help command) = (args_so_far : ArgsSoFar) × (arg : List ℕ) × IsArgAfter args args_so_far arg
     × RequestsHelp args_so_far arg
-    × (command ≡ command_of args_so_far.input args_so_far.task)
+    × (command ≡ command_of args_so_far.input args_so_far.output_kind)
 IsRequestedBy args Version = Contains args (codes "--version") ⊎ Contains args (codes "-v")
 IsRequestedBy args (InvalidUsage invalid_usage) = (args_so_far : ArgsSoFar)
-    × (invalid_usage.command ≡ command_of args_so_far.input args_so_far.task)
+    × (invalid_usage.command ≡ command_of args_so_far.input args_so_far.output_kind)
     × ((AreParsed args args_so_far × IsErrorOfAllArgs args_so_far invalid_usage.usage_error)
     ⊎ (IsArgAfter args args_so_far (string_bytes invalid_usage.arg)
     × IsUsageError args_so_far (string_bytes invalid_usage.arg) invalid_usage.usage_error))

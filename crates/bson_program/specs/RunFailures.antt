@@ -7,8 +7,8 @@ use Rattle.bson_codec.specs.declared.documents.Line as documents
 use Rattle.bson_codec.specs.declared.documents.Line.TheVariants as line
 use Rattle.bson.specs.Form.TheVariants as forms
 use Rattle.bson_convert.specs.declared.mode.Mode.TheVariants.{Canonical, Relaxed, Show}
-use Rattle.bson_run.specs.declared.task.Task.{Task}
-use Rattle.bson_run.specs.declared.task.Task.TheVariants as task
+use Rattle.bson_run.specs.declared.task.Output as task
+use Rattle.bson_run.specs.declared.task.Output.TheVariants as output
 use Rattle.bson_program.specs.Messages.{with_file_names, message_prefix, is_standard_stream}
 use Rattle.bson_program.specs.declared.invocation.Input as invocation
 use Rattle.bson_program.specs.declared.invocation.Input.TheVariants.{Documents}
@@ -46,11 +46,11 @@ diagnostics_of_file (Some file_name) diagnostics = with_file_names (string_bytes
 -- ---- documents
 
 -- the line for each document: its text in the mode, the text of Display, or nothing
-abbrev pub document_line : Task → documents.Line
-document_line (task.Write Canonical) = line.Text forms.Canonical
-document_line (task.Write Relaxed) = line.Text forms.Relaxed
-document_line (task.Write Show) = line.Shown
-document_line other_task = line.Nothing
+abbrev pub document_line : task.Output → documents.Line
+document_line (output.Text Canonical) = line.Text forms.Canonical
+document_line (output.Text Relaxed) = line.Text forms.Relaxed
+document_line (output.Text Show) = line.Shown
+document_line other_output = line.Nothing
 
 -- ---- files
 

@@ -1,10 +1,10 @@
 -- The output of one text.
 use Rattle.std.specs.Prelude.{◌≡◌, ◌⊎◌, ◌-◌, ℕ, List, [], Option, None, Some, length, nat_eq, take, if◌then◌else◌}
 use Rattle.std.specs.List.{ends_with}
-use Rattle.bson.specs.declared.extjson.options.Options.{Options}
+use Rattle.bson.specs.Options.{Options}
 use Rattle.bson_convert.specs.Convert.{IsRejectedIn, IsUncanonicalIn, newline}
 use Rattle.bson_run.specs.Encode.{Encodes, IsEncodeErrorBy}
-use Rattle.bson_run.specs.InOrder.{ConvertsBy}
+use Rattle.bson_convert.specs.InOrder.{ConvertsBy}
 use Rattle.bson_run.specs.Lines.{CriterionAccepts}
 use Rattle.bson_run.specs.Indent.{mode_of, ConvertsIndented}
 use Rattle.bson_run.specs.Preprocessed.{IsPreprocessedAs, IsPreprocessingError}
@@ -15,9 +15,8 @@ use Rattle.bson_run.specs.declared.task.Criterion.{Criterion}
 use Rattle.bson_run.specs.declared.task.Criterion.TheVariants as criterion
 use Rattle.bson_run.specs.declared.task.Criterion.TheVariants.{Valid}
 use Rattle.bson_run.specs.declared.task.Task.{Task}
-use Rattle.bson_run.specs.declared.task.Task.TheVariants.{Write, Check, Encode, Preprocessed}
-use Rattle.bson_run.specs.declared.task.InnerTask.{InnerTask}
-use Rattle.bson_run.specs.declared.task.InnerTask.TheVariants as inner_task
+use Rattle.bson_run.specs.declared.task.Output.{Output}
+use Rattle.bson_run.specs.declared.task.Output.TheVariants.{Text, Bytes, Nothing}
 use Rattle.bson_program.specs.declared.invocation.Invocation.{Invocation}
 
 -- ---- what a text gives
@@ -49,26 +48,26 @@ IsCheckFailure options Valid fault text = IsRejectedIn options fault text
 IsCheckFailure options criterion.Canonical fault text = IsUncanonicalIn options fault (without_newline text)
 
 -- what is written of a text that was preprocessed
-abbrev pub WritesPreprocessed : Invocation → InnerTask → (text output : List ℕ) → Type 0
-WritesPreprocessed invocation (inner_task.Write mode) text output =
+abbrev pub WritesPreprocessed : Invocation → Output → (text output : List ℕ) → Type 0
+WritesPreprocessed invocation (Text mode) text output =
     WritesIndented invocation.options invocation.indent mode text output
-WritesPreprocessed invocation inner_task.Check text output = ChecksText invocation.options Valid text output
+WritesPreprocessed invocation Bytes text output = Encodes invocation.options.key_order invocation.options text output
+WritesPreprocessed invocation (Nothing criterion) text output = ChecksText invocation.options criterion text output
 
--- what is written of a text
-abbrev pub WritesOutput : Invocation → Task → (text output : List ℕ) → Type 0
-WritesOutput invocation (Write mode) text output = WritesIndented invocation.options invocation.indent mode text output
-WritesOutput invocation (Check criterion) text output = ChecksText invocation.options criterion text output
-WritesOutput invocation Encode text output = Encodes invocation.options.key_order invocation.options text output
-WritesOutput invocation (Preprocessed preprocessing inner_task) text output =
-    (preprocessed : List ℕ) × IsPreprocessedAs preprocessing text preprocessed
-    × WritesPreprocessed invocation inner_task preprocessed output
+-- what is written of a text, which is preprocessed first
+abbrev pub IsOutputOfText : Invocation → (text output : List ℕ) → Type 0
+IsOutputOfText invocation text output = (preprocessed : List ℕ)
+    × IsPreprocessedAs invocation.task.preprocessing text preprocessed
+    × WritesPreprocessed invocation invocation.task.output preprocessed output
 
--- why nothing is: the text is refused, or what is read in its place
+-- why nothing is written of a text that was preprocessed
+abbrev pub IsPreprocessedRejected : Options → Output → Error → (text : List ℕ) → Type 0
+IsPreprocessedRejected options (Text mode) fault text = IsRejectedIn options fault text
+IsPreprocessedRejected options Bytes fault text = IsEncodeErrorBy options.key_order options fault text
+IsPreprocessedRejected options (Nothing criterion) fault text = IsCheckFailure options criterion fault text
+
+-- why nothing is written of a text: it is rejected, or the text that is read in its place
 abbrev pub IsTextRejected : Options → Task → Error → (text : List ℕ) → Type 0
-IsTextRejected options (Check criterion) fault text = IsCheckFailure options criterion fault text
-IsTextRejected options Encode fault text = IsEncodeErrorBy options.key_order options fault text
-IsTextRejected options (Preprocessed preprocessing inner_task) fault text =
-    IsPreprocessingError preprocessing fault text
-    ⊎ ((preprocessed : List ℕ) × IsPreprocessedAs preprocessing text preprocessed
-    × IsRejectedIn options fault preprocessed)
-IsTextRejected options task fault text = IsRejectedIn options fault text
+IsTextRejected options task fault text = IsPreprocessingError task.preprocessing fault text
+    ⊎ ((preprocessed : List ℕ) × IsPreprocessedAs task.preprocessing text preprocessed
+    × IsPreprocessedRejected options task.output fault preprocessed)

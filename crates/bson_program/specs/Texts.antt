@@ -14,10 +14,10 @@ use Rattle.bson_run.specs.Lines.{WritesText}
 use Rattle.bson_run.specs.ErrorMessages.{IsPositionMessage}
 use Rattle.bson_run.specs.declared.accepted.Accepted.{Accepted}
 use Rattle.bson_run.specs.declared.task.Criterion.TheVariants as criterion
-use Rattle.bson_run.specs.declared.task.Task.{Task}
-use Rattle.bson_run.specs.declared.task.Task.TheVariants.{Check}
+use Rattle.bson_run.specs.declared.task.Output as task
+use Rattle.bson_run.specs.declared.task.Output.TheVariants.{Nothing}
 use Rattle.bson_program.specs.Messages.{is_standard_stream}
-use Rattle.bson_program.specs.SingleText.{IsTextRejected, WritesOutput}
+use Rattle.bson_program.specs.SingleText.{IsOutputOfText, IsTextRejected}
 use Rattle.bson_program.specs.declared.invocation.Invocation.{Invocation}
 use Rattle.bson_program.specs.declared.run.RunFailure.{RunFailure}
 use Rattle.bson_program.specs.declared.run.RunFailure.TheVariants.{Input, Output, Text}
@@ -25,13 +25,13 @@ use Rattle.bson_program.specs.declared.run.RunFailure.TheVariants.{Input, Output
 -- ---- the bytes of an input
 
 -- a named file may begin with a byte order mark, unless its text has to be canonical
-abbrev pub byte_order_mark_for : Task → List ℕ
-byte_order_mark_for (Check criterion.Canonical) = []
-byte_order_mark_for task = 239 ∷ 187 ∷ 191 ∷ []
+abbrev pub byte_order_mark_for : task.Output → List ℕ
+byte_order_mark_for (Nothing criterion.Canonical) = []
+byte_order_mark_for output = 239 ∷ 187 ∷ 191 ∷ []
 
 abbrev pub byte_order_mark_of : Invocation → (file_name : List ℕ) → List ℕ
 byte_order_mark_of invocation file_name =
-    if is_standard_stream file_name then [] else byte_order_mark_for invocation.task
+    if is_standard_stream file_name then [] else byte_order_mark_for invocation.task.output
 
 abbrev pub after_byte_order_mark : (byte_order_mark bytes : List ℕ) → List ℕ
 after_byte_order_mark byte_order_mark bytes =
@@ -44,15 +44,15 @@ content_of invocation file_name bytes = after_byte_order_mark (byte_order_mark_o
 -- ---- what they give
 
 -- several texts are read, unless the run is strict or the text has to be canonical
-abbrev pub reads_several : Doubles → Task → Bool
-reads_several Special task = false
-reads_several Finite (Check criterion.Canonical) = false
-reads_several Finite task = true
+abbrev pub reads_several : Doubles → task.Output → Bool
+reads_several Special output = false
+reads_several Finite (Nothing criterion.Canonical) = false
+reads_several Finite output = true
 
 -- they are two texts or more, and several are read
 abbrev pub is_sequence : Invocation → (content : List ℕ) → Bool
 is_sequence invocation content =
-    if reads_several invocation.options.doubles invocation.task then nat_lt 1 (length (texts_in content)) else false
+    if reads_several invocation.options.doubles invocation.task.output then nat_lt 1 (length (texts_in content)) else false
 
 -- they are read as a sequence: they are not one JSON text
 pub record IsSequence (invocation : Invocation) (content : List ℕ) : Type 0 where
@@ -64,13 +64,13 @@ pub data AreTextOutputs (invocation : Invocation) : (texts : List (List ℕ)) �
   no_texts : AreTextOutputs invocation [] []
   one_more_text : {texts : List (List ℕ)} {written : List ℕ} (text output : List ℕ)
       → AreTextOutputs invocation texts written
-      → WritesOutput invocation invocation.task text output
+      → IsOutputOfText invocation text output
       → AreTextOutputs invocation (texts ++ text ∷ []) (written ++ output)
 
 -- the output of the one text, or those of the sequence
 abbrev pub HasOutputOfTexts : Invocation → (content output : List ℕ) → Type 0
 HasOutputOfTexts invocation content output =
-    WritesOutput invocation invocation.task content output
+    IsOutputOfText invocation content output
     ⊎ (IsSequence invocation content × AreTextOutputs invocation (texts_in content) output)
 
 -- ---- a run
@@ -85,13 +85,13 @@ pub record ConvertsTexts (invocation : Invocation) (file_name : List ℕ)
   pub output : List ℕ
   pub reads_all : ReadsAll before after bytes
   pub writes_output : HasOutputOfTexts invocation (content_of invocation file_name bytes) output
-  pub utf8 : WritesText invocation.task → IsUtf8 output
+  pub utf8 : WritesText invocation.task.output → IsUtf8 output
   pub written : Appends output_before output_after output
 
 -- the text has this output
 pub record HasTextOutput (invocation : Invocation) (text output : List ℕ) : Type 0 where
-  pub writes_output : WritesOutput invocation invocation.task text output
-  pub utf8 : WritesText invocation.task → IsUtf8 output
+  pub writes_output : IsOutputOfText invocation text output
+  pub utf8 : WritesText invocation.task.output → IsUtf8 output
 
 -- the line on which a text of a sequence begins, and none for a text that is all bytes
 abbrev pub text_start_line : (content : List ℕ) → (start : ℕ) → (text : List ℕ) → ℕ
@@ -208,7 +208,7 @@ pub record WritesAllTexts (invocation : Invocation) (content : List ℕ)
     (output_before output_after : Option (List ℕ)) : Type 0 where
   pub output : List ℕ
   pub outputs : AreTextOutputs invocation (texts_in content) output
-  pub utf8 : WritesText invocation.task → IsUtf8 output
+  pub utf8 : WritesText invocation.task.output → IsUtf8 output
   pub written : Appends output_before output_after output
 
 -- the output of a text was written

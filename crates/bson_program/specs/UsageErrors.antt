@@ -1,8 +1,8 @@
 -- The messages about arguments that the program does not accept.
 use Rattle.std.specs.Prelude.{ℕ, List, ◌++◌, codes}
 use Rattle.bson_run.specs.declared.task.Criterion.TheVariants.{Canonical}
-use Rattle.bson_run.specs.declared.task.Task.{Task}
-use Rattle.bson_run.specs.declared.task.Task.TheVariants.{Check}
+use Rattle.bson_run.specs.declared.task.Output.{Output}
+use Rattle.bson_run.specs.declared.task.Output.TheVariants.{Nothing}
 use Rattle.bson_program.specs.Flags.{flag_name}
 use Rattle.bson_program.specs.Messages.{escaped_name}
 use Rattle.bson_program.specs.Invocation.{mode_arg}
@@ -23,10 +23,10 @@ command_name command.Decode = codes "bson decode"
 command_name command.Encode = codes "bson encode"
 
 -- the mode that does not have an option, and after it the option because of which it does not
-abbrev pub mode_without_option : Flag → Purpose → Task → List ℕ
-mode_without_option flag.Canonical purpose task = mode_arg purpose task
-mode_without_option option purpose (Check Canonical) = codes "check --canonical"
-mode_without_option option purpose task = mode_arg purpose task
+abbrev pub mode_without_option : Flag → Purpose → Output → List ℕ
+mode_without_option flag.Canonical purpose output = mode_arg purpose output
+mode_without_option option purpose (Nothing Canonical) = codes "check --canonical"
+mode_without_option option purpose output = mode_arg purpose output
 
 -- a mode with its command
 abbrev pub mode_with_command : Command → (mode : List ℕ) → List ℕ
@@ -58,8 +58,8 @@ usage_error_message given_command (usage_error.BadOptionValue flag.Jobs) arg =
     codes "bson: --jobs needs a number from 1 to 9999"
 usage_error_message given_command (usage_error.BadOptionValue flag) arg =
     codes "bson: " ++ flag_name flag ++ codes " needs a file"
-usage_error_message given_command (usage_error.UnsupportedOption flag purpose task) arg =
-    codes "bson: " ++ mode_with_command given_command (mode_without_option flag purpose task)
+usage_error_message given_command (usage_error.UnsupportedOption flag purpose output) arg =
+    codes "bson: " ++ mode_with_command given_command (mode_without_option flag purpose output)
     ++ codes " does not accept " ++ flag_name flag
 usage_error_message given_command usage_error.NoMode arg =
     codes "bson: no " ++ expected_arg_kind given_command ++ codes " is given"

@@ -4,7 +4,6 @@ ghost use Rattle.bson_run.specs.ErrorMessages.{IsSubslice};
 ghost use Rattle.bson_program.specs.Hints.{IsAdvice, IsAdviceFor, IsSyntaxAdvice, IsReadUpgraded, IsReadWithLegacy, IsSplit};
 ghost use Rattle.bson_program.specs.Hints.{advice_for_trailing_data, advice_for_bytes, advice_for_rule};
 ghost use Rattle.bson_program.specs.Hints.{is_canonical, is_comment, is_python_or_js_literal, is_not_finite, is_shell_call, is_shell_value};
-ghost use Rattle.bson_program.specs.Hints.{legacy_advice, legacy_preprocessing};
 
 use crate::hints::{has_non_whitespace, split_first_line, starts_json_text};
 use crate::invocation::{Input, Invocation};
@@ -22,7 +21,7 @@ use bson_run::lines::Counts;
 use bson_run::preprocessed::preprocess_text;
 use bson_run::rule::Rule;
 use bson_run::syntax_error;
-use bson_run::task::{Criterion, Preprocessing, Task};
+use bson_run::task::{Criterion, Output, Preprocessing};
 use bson_scalar::doubles::NUMBER_MESSAGE;
 use bson_tree::place::{Place, Reason};
 use std::alloc::Global;
@@ -50,8 +49,6 @@ pub enum Advice {
     NotUtf8,
     /// Extended JSON v1, which `--legacy` reads.
     Legacy,
-    /// Extended JSON v1, where `--legacy` is not an option.
-    LegacyToEncode,
     /// A value that is not a document, where bytes are made.
     NotADocument,
 }
@@ -153,7 +150,7 @@ fn next_text<'a>(invocation: &Invocation, remaining_bytes: &'a [u8]) -> (&'a [u8
     if invocation.input == Input::Lines {
         return split_first_line(remaining_bytes);
     }
-    if reads_several(invocation.options.doubles, invocation.task) {
+    if reads_several(invocation.options.doubles, invocation.task.output) {
         return split_text(remaining_bytes);
     }
     (remaining_bytes, b"")
@@ -183,7 +180,7 @@ fn advice_for_syntax_error(alloc: Global, invocation: &Invocation, text: &[u8]) 
     let Ok(json_error) = syntax_error::SyntaxError::of(alloc, text) else {
         return None;
     };
-    if json_error.rule == Rule::TrailingData && is_canonical(invocation.task) {
+    if json_error.rule == Rule::TrailingData && is_canonical(invocation.task.output) {
         return None;
     }
     let remaining_bytes = &text[json_error.offset.min(text.len())..];
@@ -196,10 +193,10 @@ fn advice_for_syntax_error(alloc: Global, invocation: &Invocation, text: &[u8]) 
 }
 
 // Returns whether a text has to be canonical, which no sequence of texts is.
-fn is_canonical(task: Task) -> bool
-    ensures { result ≡ is_canonical task }
+fn is_canonical(output: Output) -> bool
+    ensures { result ≡ is_canonical output }
 {
-    matches!(task, Task::Check(Criterion::Canonical))
+    matches!(output, Output::Nothing(Criterion::Canonical))
 }
 
 // Returns what helps by the rule that a text breaks, and the bytes from where it does.
@@ -305,34 +302,20 @@ fn is_python_or_js_literal(remaining_bytes: &[u8]) -> bool
 
 // Returns what helps with a text that is not Extended JSON: `--legacy`, if it reads the text.
 fn advice_for_value_error(alloc: Global, invocation: &Invocation, text: &[u8]) -> Option<Advice>
-    ensures { IfSome result (λ advice. (legacy_advice invocation.now.task ≡ advice)
-        × IsReadWithLegacy invocation.now text.now) }
+    ensures { IfSome result (λ advice. (advice ≡ Advice.Legacy) × IsReadWithLegacy invocation.now text.now) }
 {
-    let preprocessing = legacy_preprocessing(invocation.task)?;
-    if reads_upgraded(alloc, invocation.options, preprocessing, text) {
-        Some(legacy_advice(invocation.task))
+    let preprocessing = invocation.task.preprocessing;
+    if preprocessing.v1 || is_canonical(invocation.task.output) {
+        return None;
+    }
+    let with_v1 = Preprocessing {
+        v1: true,
+        ..preprocessing
+    };
+    if reads_upgraded(alloc, invocation.options, with_v1, text) {
+        Some(Advice::Legacy)
     } else {
         None
-    }
-}
-
-// Returns what `--legacy` does before a text is read, if that is not done already.
-fn legacy_preprocessing(task: Task) -> Option<Preprocessing>
-    ensures { result ≡ legacy_preprocessing task }
-{
-    match task {
-        Task::Preprocessed(Preprocessing::Distinct, _) => Some(Preprocessing::DistinctLegacy),
-        Task::Preprocessed(_, _) | Task::Check(Criterion::Canonical) => None,
-        _ => Some(Preprocessing::Legacy),
-    }
-}
-
-fn legacy_advice(task: Task) -> Advice
-    ensures { result ≡ legacy_advice task }
-{
-    match task {
-        Task::Encode => Advice::LegacyToEncode,
-        _ => Advice::Legacy,
     }
 }
 

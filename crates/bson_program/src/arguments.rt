@@ -3,7 +3,7 @@ ghost use Rattle.std.specs.Prelude.{◌≡◌, ◌⊎◌, None, OnOk, IfOk, IfSo
 ghost use Rattle.bson_program.specs.Flags.{has_flag};
 ghost use Rattle.bson_program.specs.Invocation.{command_of, input_after_arg, is_text, NamesMode};
 ghost use Rattle.bson_program.specs.Invocation.{IsRequestOf, IsInvalidUsageRequest, IsInitialState, IsValueInArg, IsParsedCount, IsParsedOutputFile, IsParsed, SetsOption, AcceptsArg};
-ghost use Rattle.bson_run.specs.TaskNames.{task_name};
+ghost use Rattle.bson_run.specs.TaskNames.{output_name};
 
 use crate::allowed_options::find_option_error;
 use crate::invocation::{
@@ -11,12 +11,12 @@ use crate::invocation::{
 };
 use crate::option_effects::{
     accepted_doubles, option_without_value, requested_key_order, requested_preprocessing, set_flag,
-    with_criterion, with_preprocessing,
+    with_criterion,
 };
 use crate::option_values::{input_files, output_file_in, parse_count, starts_as_option};
 use bson::extjson::Options;
 use bson_convert::mode::Mode;
-use bson_run::task::{OnRefusal, Task};
+use bson_run::task::{OnRefusal, Output, Task};
 use std::alloc::{AllocError, Global};
 
 /// The greatest number of spaces.
@@ -29,7 +29,7 @@ const MAX_JOBS: usize = 9999;
 #[derive(Drop)]
 pub struct ArgsSoFar {
     alloc: Global,
-    pub task: Option<Task>,
+    pub output_kind: Option<Output>,
     pub purpose: Purpose,
     pub input: Input,
     pub keeps_going: bool,
@@ -79,7 +79,7 @@ impl ArgsSoFar {
     {
         ArgsSoFar {
             alloc,
-            task: None,
+            output_kind: None,
             purpose: Purpose::Output,
             input: Input::Text,
             keeps_going: false,
@@ -99,13 +99,13 @@ impl ArgsSoFar {
 
     /// Returns the command that the arguments so far name.
     pub fn command(&self) -> Command
-        ensures { result ≡ command_of self.now.input self.now.task }
+        ensures { result ≡ command_of self.now.input self.now.output_kind }
     {
         match self.input {
-            Input::Text if self.task.is_none() => Command::AllCommands,
+            Input::Text if self.output_kind.is_none() => Command::AllCommands,
             Input::Text => Command::Text,
             Input::Documents => Command::Decode,
-            Input::Lines if self.task == Some(Task::Encode) => Command::Encode,
+            Input::Lines if self.output_kind == Some(Output::Bytes) => Command::Encode,
             Input::Lines => Command::Lines,
         }
     }
@@ -131,7 +131,7 @@ impl ArgsSoFar {
     /// Accepts the next argument, or says why not.
     pub fn parse_arg(&mut self, arg: &str) -> Result<ParsedArg, AllocError>
         ensures args_so_far { AcceptsArg arg.now self.old self.new }
-        ensures named_task { IfSome self.new.task (λ named_task. ((self.old.task ≡ Some named_task) × (self.new.purpose ≡ self.old.purpose)) ⊎ NamesMode arg.now self.new.purpose named_task) }
+        ensures named_kind { IfSome self.new.output_kind (λ named_kind. ((self.old.output_kind ≡ Some named_kind) × (self.new.purpose ≡ self.old.purpose)) ⊎ NamesMode arg.now self.new.purpose named_kind) }
         ensures parsed { IfOk result (IsParsed self.old arg.now) }
     {
         match self.expected_arg {
@@ -155,7 +155,7 @@ impl ArgsSoFar {
     // Accepts an argument that is not the value of an option.
     fn parse_any_arg(&mut self, arg: &str) -> Result<ParsedArg, AllocError>
         ensures args_so_far { SetsOption arg.now self.old self.new }
-        ensures named_task { IfSome self.new.task (λ named_task. ((self.old.task ≡ Some named_task) × (self.new.purpose ≡ self.old.purpose)) ⊎ NamesMode arg.now self.new.purpose named_task) }
+        ensures named_kind { IfSome self.new.output_kind (λ named_kind. ((self.old.output_kind ≡ Some named_kind) × (self.new.purpose ≡ self.old.purpose)) ⊎ NamesMode arg.now self.new.purpose named_kind) }
         ensures parsed { IfOk result (IsParsed self.old arg.now) }
     {
         match arg {
@@ -188,9 +188,9 @@ impl ArgsSoFar {
     // Accepts `help`, which is a file after a mode.
     fn parse_help_arg(&mut self, arg: &str) -> Result<ParsedArg, AllocError>
         ensures args_so_far { self.new ≡ record self.old { inputs = self.new.inputs } }
-        ensures parsed { IfOk result (λ parsed. (parsed ≡ ParsedArg.AcceptedArg) ⊎ ((parsed ≡ ParsedArg.Help) × (self.old.task ≡ None))) }
+        ensures parsed { IfOk result (λ parsed. (parsed ≡ ParsedArg.AcceptedArg) ⊎ ((parsed ≡ ParsedArg.Help) × (self.old.output_kind ≡ None))) }
     {
-        if self.task.is_none() {
+        if self.output_kind.is_none() {
             return Ok(ParsedArg::Help);
         }
         self.inputs.push(String::from_str(self.alloc, arg)?)?;
@@ -270,18 +270,18 @@ impl ArgsSoFar {
 
     // Accepts a command or a mode, and after them files.
     fn parse_operand(&mut self, arg: &str) -> Result<ParsedArg, AllocError>
-        ensures args_so_far { self.new ≡ record self.old { task = self.new.task; purpose = self.new.purpose; input = input_after_arg arg.now self.old; inputs = self.new.inputs } }
-        ensures named_task { IfSome self.new.task (λ named_task. ((self.old.task ≡ Some named_task) × (self.new.purpose ≡ self.old.purpose)) ⊎ NamesMode arg.now self.new.purpose named_task) }
+        ensures args_so_far { self.new ≡ record self.old { output_kind = self.new.output_kind; purpose = self.new.purpose; input = input_after_arg arg.now self.old; inputs = self.new.inputs } }
+        ensures named_kind { IfSome self.new.output_kind (λ named_kind. ((self.old.output_kind ≡ Some named_kind) × (self.new.purpose ≡ self.old.purpose)) ⊎ NamesMode arg.now self.new.purpose named_kind) }
         ensures parsed { IfOk result (IsParsed self.old arg.now) }
     {
-        if self.task.is_some() {
+        if self.output_kind.is_some() {
             self.inputs.push(String::from_str(self.alloc, arg)?)?;
             return Ok(ParsedArg::AcceptedArg);
         }
         match arg {
             "lines" => Ok(self.parse_command_arg(Input::Lines, None)),
             "decode" => Ok(self.parse_command_arg(Input::Documents, None)),
-            "encode" => Ok(self.parse_command_arg(Input::Lines, Some(Task::Encode))),
+            "encode" => Ok(self.parse_command_arg(Input::Lines, Some(Output::Bytes))),
             "hash" => Ok(self.parse_purpose_arg(Purpose::Digests)),
             "same" => Ok(self.parse_purpose_arg(Purpose::Comparison)),
             _ => Ok(self.parse_mode_arg(arg)),
@@ -289,14 +289,14 @@ impl ArgsSoFar {
     }
 
     // Accepts the name of a command, which comes first.
-    fn parse_command_arg(&mut self, input: Input, task: Option<Task>) -> ParsedArg
-        ensures args_so_far { self.new ≡ record self.old { input = input; purpose = Purpose.Output; task = task } }
+    fn parse_command_arg(&mut self, input: Input, output_kind: Option<Output>) -> ParsedArg
+        ensures args_so_far { self.new ≡ record self.old { input = input; purpose = Purpose.Output; output_kind = output_kind } }
         ensures parsed { result ≡ (if is_text self.old.input then ParsedArg.AcceptedArg else ParsedArg.InvalidUsage UsageError.UnknownMode) }
     {
         let is_first_command = self.input == Input::Text;
         self.input = input;
         self.purpose = Purpose::Output;
-        self.task = task;
+        self.output_kind = output_kind;
         if is_first_command {
             ParsedArg::AcceptedArg
         } else {
@@ -306,24 +306,24 @@ impl ArgsSoFar {
 
     // Accepts a mode in which the sorted canonical text of each value is read.
     fn parse_purpose_arg(&mut self, purpose: Purpose) -> ParsedArg
-        ensures args_so_far { self.new ≡ record self.old { task = Some (Task.Write Mode.Canonical); purpose = purpose } }
+        ensures args_so_far { self.new ≡ record self.old { output_kind = Some (Output.Text Mode.Canonical); purpose = purpose } }
         ensures parsed { result ≡ ParsedArg.AcceptedArg }
     {
         self.purpose = purpose;
-        self.task = Some(Task::Write(Mode::Canonical));
+        self.output_kind = Some(Output::Text(Mode::Canonical));
         ParsedArg::AcceptedArg
     }
 
     // Accepts a mode.
     fn parse_mode_arg(&mut self, arg: &str) -> ParsedArg
-        ensures args_so_far { self.new ≡ record self.old { task = self.new.task; purpose = Purpose.Output } }
-        ensures named_task { IfSome self.new.task (λ named_task. arg.now ≡ task_name named_task) }
+        ensures args_so_far { self.new ≡ record self.old { output_kind = self.new.output_kind; purpose = Purpose.Output } }
+        ensures named_kind { IfSome self.new.output_kind (λ named_kind. arg.now ≡ output_name named_kind) }
         ensures parsed { (result ≡ ParsedArg.AcceptedArg) ⊎ ((result ≡ ParsedArg.InvalidUsage UsageError.UnknownMode)
-            × ((task : Task) → arg.now ≡ task_name task → ⊥)) }
+            × ((output : Output) → arg.now ≡ output_name output → ⊥)) }
     {
         self.purpose = Purpose::Output;
-        self.task = Task::from_name(arg);
-        if self.task.is_some() {
+        self.output_kind = Output::from_name(arg);
+        if self.output_kind.is_some() {
             ParsedArg::AcceptedArg
         } else {
             ParsedArg::InvalidUsage(UsageError::UnknownMode)
@@ -338,11 +338,11 @@ impl ArgsSoFar {
         if let Some(flag) = option_without_value(self.expected_arg) {
             return Ok(invalid_usage_request(self.alloc, UsageError::BadOptionValue(flag), command));
         }
-        let Some(named_task) = self.task else {
+        let Some(named_kind) = self.output_kind else {
             return Ok(invalid_usage_request(self.alloc, UsageError::NoMode, command));
         };
-        let task = with_criterion(self.is_canonical, named_task);
-        if let Some(usage_error) = find_option_error(&self, task) {
+        let output_kind = with_criterion(self.is_canonical, named_kind);
+        if let Some(usage_error) = find_option_error(&self, output_kind) {
             return Ok(invalid_usage_request(self.alloc, usage_error, command));
         }
         let ArgsSoFar {
@@ -365,9 +365,9 @@ impl ArgsSoFar {
             None => String::from_str(alloc, STDIO)?,
         };
         Ok(Request::Run(Invocation {
-            task: match requested_preprocessing(rejects_duplicates, is_legacy) {
-                Some(preprocessing) => with_preprocessing(preprocessing, task),
-                None => task,
+            task: Task {
+                preprocessing: requested_preprocessing(rejects_duplicates, is_legacy),
+                output: output_kind,
             },
             options: Options {
                 doubles: accepted_doubles(is_strict),

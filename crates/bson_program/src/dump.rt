@@ -17,7 +17,7 @@ use bson_codec::documents::{DocumentCounts, Line, Run, run_documents};
 use bson_codec::run_end::{RunEnd, RunFault};
 use bson_convert::mode::Mode;
 use bson_run::lines::Counts;
-use bson_run::task::{OnRefusal, Task};
+use bson_run::task::{OnRefusal, Output};
 use std::alloc::Global;
 use std::io::{BufReader, BufWriter, Read, Write};
 use std::rt::Stderr;
@@ -58,27 +58,27 @@ pub fn run_dump<'a>(
 fn run_settings(invocation: &Invocation) -> Run
     ensures depth { result.depth ≡ DEPTH }
     ensures options { result.options ≡ invocation.now.options }
-    ensures line { result.line ≡ document_line invocation.now.task }
+    ensures line { result.line ≡ document_line invocation.now.task.output }
     ensures keeps_going { IsTrue result.keep_going ↔ (invocation.now.on_refusal ≡ OnRefusal.KeepGoing) }
 {
     Run {
         depth: DEPTH,
         options: invocation.options,
-        line: document_line(invocation.task),
+        line: document_line(invocation.task.output),
         keep_going: invocation.on_refusal == OnRefusal::KeepGoing,
     }
 }
 
 // Returns what is written for each document.
-fn document_line(task: Task) -> Line
-    ensures { result ≡ document_line task }
+fn document_line(output: Output) -> Line
+    ensures { result ≡ document_line output }
 {
-    match task {
-        Task::Write(Mode::Canonical) => Line::Text(Form::Canonical),
-        Task::Write(Mode::Relaxed) => Line::Text(Form::Relaxed),
-        Task::Write(Mode::Show) => Line::Shown,
+    match output {
+        Output::Text(Mode::Canonical) => Line::Text(Form::Canonical),
+        Output::Text(Mode::Relaxed) => Line::Text(Form::Relaxed),
+        Output::Text(Mode::Show) => Line::Shown,
         // (bytes are made of texts alone)
-        Task::Check(_) | Task::Encode | Task::Preprocessed(..) => Line::Nothing,
+        Output::Bytes | Output::Nothing(_) => Line::Nothing,
     }
 }
 

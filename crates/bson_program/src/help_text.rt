@@ -118,6 +118,8 @@ than 2^31 bytes. Bytes are not written to a terminal.
 
   --sort-keys             writes keys in ascending order at every depth
   --strict                accepts of all doubles only zeros, infinities and NaNs; keys are written in ascending order
+  --legacy                also reads three objects of Extended JSON v1
+  --no-double-keys        rejects a line in which an object has a duplicate key, at any depth
   --keep-going            skips a rejected line and reports it; without it the run ends there
   --jobs N                converts N parts of named files at a time
   -o FILE, --output FILE  writes the output to FILE, as a whole at the end
@@ -165,10 +167,10 @@ a regular expression has a 0 byte. Each part must have fewer than 2^31 bytes. By
                           rejects numbers such as 1.5 and 0.0; a double zero is {\"$numberDouble\": \"0.0\"}. Keys are
                           written in ascending order at every depth. A file has one document, unless `lines` or
                           `encode` reads it
-  --legacy                (not decode, encode) also reads three objects of Extended JSON v1, as those of v2: $binary
+  --legacy                (not decode) also reads three objects of Extended JSON v1, as those of v2: $binary
                           with $type, $regex with $options, and a $date whose offset has no colon, such as +0100. The
                           keys of a scope stay as they are
-  --no-double-keys        (not decode, encode) rejects input in which an object has a duplicate key, at any depth, and
+  --no-double-keys        (not decode) rejects input in which an object has a duplicate key, at any depth, and
                           reports the path to the first one; keys are compared after their escapes are decoded
   --canonical             (check, lines check) accepts only canonical JSON with keys in ascending order, byte for byte as
                           `canonical --sort-keys` writes it, with its newline or without; not with the two options above

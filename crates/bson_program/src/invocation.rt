@@ -2,11 +2,10 @@
 ghost use Rattle.std.specs.Prelude.{◌≡◌, ◌⊎◌, ◌↔◌, IfOk, IsTrue, map, string_bytes};
 ghost use Rattle.bson_program.specs.Invocation.{IsRequestedBy};
 ghost use Rattle.bson_run.specs.declared.task.Criterion.{Criterion};
-ghost use Rattle.bson_run.specs.declared.task.Preprocessing.{Preprocessing};
 
 use crate::arguments::{ArgsSoFar, ParsedArg};
 use bson::extjson::Options;
-use bson_run::task::{InnerTask, OnRefusal, Task};
+use bson_run::task::{OnRefusal, Output, Task};
 use std::alloc::{AllocError, Global};
 
 /// The name of standard input among the files that are read, and of standard output.
@@ -65,7 +64,7 @@ pub enum UsageError {
     /// An option has no value, or not one that it can have.
     BadOptionValue(Flag),
     /// The mode does not have an option.
-    UnsupportedOption(Flag, Purpose, Task),
+    UnsupportedOption(Flag, Purpose, Output),
     /// No mode is specified.
     NoMode,
     /// A comparison needs two files.
@@ -149,23 +148,18 @@ pub struct Invocation {
 impl Invocation {
     /// Whether BSON bytes are written, and no text.
     pub fn writes_bson_bytes(&self) -> bool
-        ensures { IsTrue result ↔ (self.now.task ≡ Task.Encode) }
+        ensures { IsTrue result ↔ (self.now.task.output ≡ Output.Bytes) }
     {
-        self.task == Task::Encode
+        self.task.output == Output::Bytes
     }
 
     /// Whether the input is only checked or compared.
     pub fn writes_nothing(&self) -> bool
         ensures { IsTrue result
             ↔ ((self.now.purpose ≡ Purpose.Comparison)
-            ⊎ ((criterion : Criterion) × (self.now.task ≡ Task.Check criterion))
-            ⊎ ((preprocessing : Preprocessing) × (self.now.task ≡ Task.Preprocessed preprocessing InnerTask.Check))) }
+            ⊎ ((criterion : Criterion) × (self.now.task.output ≡ Output.Nothing criterion))) }
     {
-        self.purpose == Purpose::Comparison
-            || matches!(
-                self.task,
-                Task::Check(_) | Task::Preprocessed(_, InnerTask::Check)
-            )
+        self.purpose == Purpose::Comparison || matches!(self.task.output, Output::Nothing(_))
     }
 }
 

@@ -1,12 +1,13 @@
-//! The effects of the options: the task, which doubles have a text, the order of keys,
-//! and that an option occurs once.
+//! The effects of the options: the output, the preprocessing, which doubles have a text, the order of
+//! keys, and that an option occurs once.
 ghost use Rattle.std.specs.Prelude.{◌≡◌, true, if◌then◌else◌};
-ghost use Rattle.bson_program.specs.Invocation.{option_without_value, accepted_doubles, with_preprocessing, with_criterion, requested_key_order, requested_preprocessing};
+ghost use Rattle.bson_program.specs.Invocation.{option_without_value, accepted_doubles, with_criterion, requested_key_order, requested_preprocessing};
 
 use crate::arguments::{ExpectedArg, ParsedArg};
 use crate::invocation::{Flag, Purpose, UsageError};
 use bson::extjson::{Doubles, KeyOrder};
-use bson_run::task::{Criterion, InnerTask, Preprocessing, Task};
+use bson_model::options::DuplicateKeys;
+use bson_run::task::{Criterion, Output, Preprocessing};
 
 /// Sets what an option sets, unless it occurs twice.
 pub fn set_flag(is_set: &mut bool, flag: Flag) -> ParsedArg
@@ -55,35 +56,27 @@ pub fn requested_key_order(purpose: Purpose, sorts_keys: bool, is_strict: bool) 
     }
 }
 
-/// Returns the task whose check has the criterion that the option sets.
-pub fn with_criterion(is_canonical: bool, task: Task) -> Task
-    ensures { result ≡ with_criterion is_canonical task }
+/// Returns the output, with the criterion of a check that the option sets.
+pub fn with_criterion(is_canonical: bool, output: Output) -> Output
+    ensures { result ≡ with_criterion is_canonical output }
 {
-    match task {
-        Task::Check(_) if is_canonical => Task::Check(Criterion::Canonical),
-        other_task => other_task,
+    match output {
+        Output::Nothing(_) if is_canonical => Output::Nothing(Criterion::Canonical),
+        other_output => other_output,
     }
 }
 
 /// Returns the requested preprocessing.
-pub fn requested_preprocessing(rejects_duplicates: bool, is_legacy: bool) -> Option<Preprocessing>
+pub fn requested_preprocessing(rejects_duplicates: bool, is_legacy: bool) -> Preprocessing
     ensures { result ≡ requested_preprocessing rejects_duplicates is_legacy }
 {
-    match (rejects_duplicates, is_legacy) {
-        (true, true) => Some(Preprocessing::DistinctLegacy),
-        (true, false) => Some(Preprocessing::Distinct),
-        (false, true) => Some(Preprocessing::Legacy),
-        (false, false) => None,
-    }
-}
-
-/// Returns the task, for texts that are read after the preprocessing.
-pub fn with_preprocessing(preprocessing: Preprocessing, task: Task) -> Task
-    ensures { result ≡ with_preprocessing preprocessing task }
-{
-    match task {
-        Task::Write(mode) => Task::Preprocessed(preprocessing, InnerTask::Write(mode)),
-        Task::Check(Criterion::Valid) => Task::Preprocessed(preprocessing, InnerTask::Check),
-        other_task => other_task,
+    let duplicate_keys = if rejects_duplicates {
+        DuplicateKeys::Reject
+    } else {
+        DuplicateKeys::LastWins
+    };
+    Preprocessing {
+        duplicate_keys,
+        v1: is_legacy,
     }
 }

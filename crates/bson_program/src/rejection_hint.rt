@@ -12,8 +12,9 @@ use crate::usage_error::mode_arg;
 use bson::extjson::{Doubles, KeyOrder};
 use bson_codec::run_end::RunFault;
 use bson_convert::error::Error;
+use bson_model::options::DuplicateKeys;
 use bson_run::lines::Counts;
-use bson_run::task::{Preprocessing, Task};
+use bson_run::task::{Output, Preprocessing};
 use std::alloc::{AllocError, Global};
 
 const ARCHIVE_MESSAGE: &str =
@@ -39,9 +40,6 @@ const CONTROL_CHARACTER_MESSAGE: &str =
 
 const NOT_UTF_8_MESSAGE: &str =
     "is not UTF-8; if it is Latin-1, give it through 'iconv -f latin1 -t utf-8'";
-
-const LEGACY_TO_ENCODE_MESSAGE: &str =
-    "has Extended JSON v1; './bson lines canonical --legacy' makes lines that encode reads";
 
 const NOT_A_DOCUMENT_MESSAGE: &str =
     "has a value that is not a document, and encode makes bytes of documents alone";
@@ -109,17 +107,17 @@ fn reading_command(alloc: Global, invocation: &Invocation) -> Result<String, All
         " --sort-keys",
     );
     let strict_option = option_if(is_strict(options.doubles), " --strict");
-    let preprocessing = preprocessing_options(invocation.task);
+    let preprocessing = preprocessing_options(invocation.task.preprocessing);
     format!(in alloc; "{mode}{sorts_keys}{strict_option}{preprocessing}")
 }
 
 // The mode of a command that reads the input.
 fn mode_for(invocation: &Invocation) -> &'static str
-    ensures { result.now ≡ reading_mode invocation.now.input invocation.now.purpose invocation.now.task }
+    ensures { result.now ≡ reading_mode invocation.now.input invocation.now.purpose invocation.now.task.output }
 {
-    match (invocation.input, invocation.task) {
-        (Input::Lines, Task::Encode) => "canonical",
-        (_, task) => mode_arg(invocation.purpose, task),
+    match (invocation.input, invocation.task.output) {
+        (Input::Lines, Output::Bytes) => "canonical",
+        (_, output) => mode_arg(invocation.purpose, output),
     }
 }
 
@@ -138,14 +136,14 @@ fn option_if(is_given: bool, option: &'static str) -> &'static str
     if is_given { option } else { "" }
 }
 
-fn preprocessing_options(task: Task) -> &'static str
-    ensures { result.now ≡ preprocessing_options task }
+fn preprocessing_options(preprocessing: Preprocessing) -> &'static str
+    ensures { result.now ≡ preprocessing_options preprocessing }
 {
-    match task {
-        Task::Preprocessed(Preprocessing::Legacy, _) => " --legacy",
-        Task::Preprocessed(Preprocessing::Distinct, _) => " --no-double-keys",
-        Task::Preprocessed(Preprocessing::DistinctLegacy, _) => " --legacy --no-double-keys",
-        _ => "",
+    match (preprocessing.v1, preprocessing.duplicate_keys) {
+        (true, DuplicateKeys::LastWins) => " --legacy",
+        (false, DuplicateKeys::Reject) => " --no-double-keys",
+        (true, DuplicateKeys::Reject) => " --legacy --no-double-keys",
+        (false, DuplicateKeys::LastWins) => "",
     }
 }
 
@@ -225,7 +223,6 @@ fn advice_text(advice: Advice) -> &'static str
         Advice::ControlCharacter => CONTROL_CHARACTER_MESSAGE,
         Advice::NotUtf8 => NOT_UTF_8_MESSAGE,
         Advice::Legacy => "has Extended JSON v1, which is read with --legacy",
-        Advice::LegacyToEncode => LEGACY_TO_ENCODE_MESSAGE,
         Advice::NotADocument => NOT_A_DOCUMENT_MESSAGE,
     }
 }

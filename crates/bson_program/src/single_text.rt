@@ -4,21 +4,21 @@ ghost use Rattle.bson_convert.specs.Convert.{IsRejectedIn};
 ghost use Rattle.bson_run.specs.Accepted.{HasOutput, IsUtf8Accepted};
 ghost use Rattle.bson_run.specs.Indent.{mode_of};
 ghost use Rattle.bson_run.specs.Lines.{CriterionAccepts, WritesText};
-ghost use Rattle.bson_program.specs.SingleText.{ChecksText, WritesOutput, IsCheckFailure, IsTextRejected, WritesIndented};
-ghost use Rattle.bson_program.specs.SingleText.{WritesPreprocessed, checked_part, without_newline};
+ghost use Rattle.bson_program.specs.SingleText.{ChecksText, IsOutputOfText, IsCheckFailure, IsTextRejected, WritesIndented};
+ghost use Rattle.bson_program.specs.SingleText.{IsPreprocessedRejected, WritesPreprocessed, checked_part, without_newline};
 
 use crate::invocation::Invocation;
 use bson::extjson::{Form, Options};
 use bson_convert::canonical::check_canonical;
+use bson_convert::check::check;
 use bson_convert::conversion_attempt::refuse;
-use bson_convert::convert::convert_sorted;
 use bson_convert::error::Error;
 use bson_convert::mode::Mode;
 use bson_run::accepted::Accepted;
 use bson_run::encode::encode;
 use bson_run::indented::convert_indented;
 use bson_run::preprocessed::preprocess_text;
-use bson_run::task::{Criterion, InnerTask, Task};
+use bson_run::task::{Criterion, Output};
 use std::alloc::Global;
 
 /// From so many bytes on the memory of a text counts for more than a walk over it.
@@ -31,22 +31,13 @@ pub fn accept_single_text(
     bytes: &[u8],
 ) -> Result<Accepted, Error>
     ensures ok { IfOk result
-        (HasOutput invocation.now.options (WritesOutput invocation.now invocation.now.task bytes.now)) }
-    ensures utf8 { WritesText invocation.now.task → IfOk result IsUtf8Accepted }
+        (HasOutput invocation.now.options (IsOutputOfText invocation.now bytes.now)) }
+    ensures utf8 { WritesText invocation.now.task.output → IfOk result IsUtf8Accepted }
     ensures fault { IfErr result (λ fault. IsTextRejected invocation.now.options invocation.now.task fault bytes.now) }
 {
-    match invocation.task {
-        Task::Write(mode) => accept_text(alloc, invocation, mode, bytes),
-        Task::Check(criterion) => check_text(alloc, invocation, criterion, bytes),
-        Task::Encode => Ok(Accepted::Output(encode(alloc, invocation.options, bytes)?)),
-        Task::Preprocessed(preprocessing, inner_task) => match preprocess_text(
-            alloc,
-            preprocessing,
-            bytes,
-        )? {
-            Some(upgraded) => accept_upgraded(alloc, invocation, inner_task, upgraded),
-            None => accept_preprocessed(alloc, invocation, inner_task, bytes),
-        },
+    match preprocess_text(alloc, invocation.task.preprocessing, bytes)? {
+        Some(upgraded) => accept_upgraded(alloc, invocation, upgraded),
+        None => accept_preprocessed(alloc, invocation, bytes),
     }
 }
 
@@ -55,21 +46,26 @@ pub fn accept_single_text(
 fn accept_upgraded(
     alloc: Global,
     invocation: &Invocation,
-    inner_task: InnerTask,
     upgraded: String,
 ) -> Result<Accepted, Error>
     ensures ok { IfOk result
-        (HasOutput invocation.now.options (WritesPreprocessed invocation.now inner_task (string_bytes upgraded))) }
-    ensures utf8 { IfOk result IsUtf8Accepted }
-    ensures fault { IfErr result (λ fault. IsRejectedIn invocation.now.options fault (string_bytes upgraded)) }
+        (HasOutput invocation.now.options
+        (WritesPreprocessed invocation.now invocation.now.task.output (string_bytes upgraded))) }
+    ensures utf8 { WritesText invocation.now.task.output → IfOk result IsUtf8Accepted }
+    ensures fault { IfErr result
+        (λ fault. IsPreprocessedRejected invocation.now.options invocation.now.task.output fault (string_bytes upgraded)) }
 {
     if upgraded.len() < LARGE_TEXT_LEN || invocation.indent.is_some() {
-        return accept_preprocessed(alloc, invocation, inner_task, upgraded.as_bytes());
+        return accept_preprocessed(alloc, invocation, upgraded.as_bytes());
     }
-    refuse(alloc, invocation.options, upgraded.as_str())?;
-    match inner_task {
-        InnerTask::Write(mode) => Ok(Accepted::Normalized(mode, upgraded)),
-        InnerTask::Check => check_text(alloc, invocation, Criterion::Valid, upgraded.as_bytes()),
+    match invocation.task.output {
+        Output::Text(mode) => {
+            refuse(alloc, invocation.options, upgraded.as_str())?;
+            Ok(Accepted::Normalized(mode, upgraded))
+        }
+        Output::Bytes | Output::Nothing(_) => {
+            accept_preprocessed(alloc, invocation, upgraded.as_bytes())
+        }
     }
 }
 
@@ -77,17 +73,18 @@ fn accept_upgraded(
 fn accept_preprocessed(
     alloc: Global,
     invocation: &Invocation,
-    inner_task: InnerTask,
     bytes: &[u8],
 ) -> Result<Accepted, Error>
     ensures ok { IfOk result
-        (HasOutput invocation.now.options (WritesPreprocessed invocation.now inner_task bytes.now)) }
-    ensures utf8 { IfOk result IsUtf8Accepted }
-    ensures fault { IfErr result (λ fault. IsRejectedIn invocation.now.options fault bytes.now) }
+        (HasOutput invocation.now.options (WritesPreprocessed invocation.now invocation.now.task.output bytes.now)) }
+    ensures utf8 { WritesText invocation.now.task.output → IfOk result IsUtf8Accepted }
+    ensures fault { IfErr result
+        (λ fault. IsPreprocessedRejected invocation.now.options invocation.now.task.output fault bytes.now) }
 {
-    match inner_task {
-        InnerTask::Write(mode) => accept_text(alloc, invocation, mode, bytes),
-        InnerTask::Check => check_text(alloc, invocation, Criterion::Valid, bytes),
+    match invocation.task.output {
+        Output::Text(mode) => accept_text(alloc, invocation, mode, bytes),
+        Output::Bytes => Ok(Accepted::Output(encode(alloc, invocation.options, bytes)?)),
+        Output::Nothing(criterion) => check_text(alloc, invocation, criterion, bytes),
     }
 }
 
@@ -140,10 +137,7 @@ fn check_criterion(
     ensures fault { IfErr result (λ fault. IsCheckFailure options criterion fault bytes.now) }
 {
     match criterion {
-        Criterion::Valid => {
-            convert_sorted(alloc, options, Mode::Canonical, bytes)?;
-            Ok(())
-        }
+        Criterion::Valid => check(alloc, options, bytes),
         Criterion::Canonical => check_canonical(alloc, options, strip_newline(bytes)),
     }
 }

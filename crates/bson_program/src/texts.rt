@@ -17,7 +17,7 @@ use bson_json::sequence::split_text;
 use bson_run::accepted::Accepted;
 use bson_run::explain::explain_under;
 use bson_run::syntax_error;
-use bson_run::task::{Criterion, Task};
+use bson_run::task::{Criterion, Output, Task};
 use std::alloc::{AllocError, Global};
 use std::io::{Read, Write};
 
@@ -118,8 +118,8 @@ fn byte_order_mark_of(invocation: &Invocation, file_name: &str) -> &'static [u8]
     if file_name == STDIO {
         return b"";
     }
-    match invocation.task {
-        Task::Check(Criterion::Canonical) => b"",
+    match invocation.task.output {
+        Output::Nothing(Criterion::Canonical) => b"",
         _ => BYTE_ORDER_MARK,
     }
 }
@@ -140,7 +140,7 @@ fn is_read_as_sequence(invocation: &Invocation, fault: &Error, content: &[u8]) -
 fn is_sequence(invocation: &Invocation, content: &[u8]) -> bool
     ensures { result ≡ is_sequence invocation.now content.now }
 {
-    if reads_several(invocation.options.doubles, invocation.task) {
+    if reads_several(invocation.options.doubles, invocation.task.output) {
         has_two_texts(content)
     } else {
         false
@@ -148,12 +148,12 @@ fn is_sequence(invocation: &Invocation, content: &[u8]) -> bool
 }
 
 /// Returns whether several texts are read of an input.
-pub fn reads_several(doubles: Doubles, task: Task) -> bool
-    ensures { result ≡ reads_several doubles task }
+pub fn reads_several(doubles: Doubles, output: Output) -> bool
+    ensures { result ≡ reads_several doubles output }
 {
     match doubles {
         Doubles::Special => false,
-        Doubles::Finite => !matches!(task, Task::Check(Criterion::Canonical)),
+        Doubles::Finite => !matches!(output, Output::Nothing(Criterion::Canonical)),
     }
 }
 

@@ -5,13 +5,12 @@ ghost use Rattle.bson_program.specs.UsageErrors.{command_name, mode_with_command
 ghost use Rattle.bson_program.specs.Messages.{escaped_name};
 ghost use Rattle.bson_program.specs.Invocation.{mode_arg};
 ghost use Rattle.bson_convert.specs.Messages.{name_of_mode};
-ghost use Rattle.bson_run.specs.TaskNames.{task_name};
-ghost use Rattle.bson_run.specs.declared.task.Task.{Task};
+ghost use Rattle.bson_run.specs.TaskNames.{output_name};
 
 use crate::invocation::{Command, Flag, InvalidUsage, Purpose, UsageError};
 use crate::messages::escape_name;
 use bson_convert::mode::Mode;
-use bson_run::task::{Criterion, InnerTask, Task};
+use bson_run::task::{Criterion, Output};
 use std::alloc::{AllocError, Global};
 
 /// Returns the line that names what is wrong with the arguments.
@@ -31,8 +30,8 @@ pub fn usage_error_line(alloc: Global, invalid_usage: &InvalidUsage) -> Result<S
             format!(in alloc; "bson: {name} is given twice")
         }
         UsageError::BadOptionValue(flag) => bad_option_value(alloc, flag),
-        UsageError::UnsupportedOption(flag, purpose, task) => unsupported_option(
-            alloc, command, flag, purpose, task,
+        UsageError::UnsupportedOption(flag, purpose, output) => unsupported_option(
+            alloc, command, flag, purpose, output,
         ),
         UsageError::NoMode => {
             let expected_kind = expected_arg_kind(command);
@@ -95,13 +94,13 @@ fn unsupported_option(
     command: Command,
     flag: Flag,
     purpose: Purpose,
-    task: Task,
+    output: Output,
 ) -> Result<String, AllocError>
     ensures { (arg : List ℕ)
         → IfOk result
-        (λ line. string_bytes line ≡ usage_error_message command (UsageError.UnsupportedOption flag purpose task) arg) }
+        (λ line. string_bytes line ≡ usage_error_message command (UsageError.UnsupportedOption flag purpose output) arg) }
 {
-    let name = mode_with_command(alloc, command, mode_without_option(flag, purpose, task))?;
+    let name = mode_with_command(alloc, command, mode_without_option(flag, purpose, output))?;
     let option = flag_name(flag);
     format!(in alloc; "bson: {name} does not accept {option}")
 }
@@ -157,34 +156,34 @@ fn expected_arg_kind(command: Command) -> &'static str
 }
 
 // Returns the mode that does not have an option, and after it the option because of which it does not.
-fn mode_without_option(flag: Flag, purpose: Purpose, task: Task) -> &'static str
-    ensures { result.now ≡ mode_without_option flag purpose task }
+fn mode_without_option(flag: Flag, purpose: Purpose, output: Output) -> &'static str
+    ensures { result.now ≡ mode_without_option flag purpose output }
 {
-    match task {
-        Task::Check(Criterion::Canonical) if flag != Flag::Canonical => "check --canonical",
-        other_task => mode_arg(purpose, other_task),
+    match output {
+        Output::Nothing(Criterion::Canonical) if flag != Flag::Canonical => "check --canonical",
+        other_output => mode_arg(purpose, other_output),
     }
 }
 
 /// Returns the argument that names a mode.
-pub fn mode_arg(purpose: Purpose, task: Task) -> &'static str
-    ensures { result.now ≡ mode_arg purpose task }
+pub fn mode_arg(purpose: Purpose, output: Output) -> &'static str
+    ensures { result.now ≡ mode_arg purpose output }
 {
     match purpose {
-        Purpose::Output => task_name(task),
+        Purpose::Output => output_name(output),
         Purpose::Digests => "hash",
         Purpose::Comparison => "same",
     }
 }
 
-// Returns the name of a task.
-fn task_name(task: Task) -> &'static str
-    ensures { result.now ≡ task_name task }
+// Returns the name of an output.
+fn output_name(output: Output) -> &'static str
+    ensures { result.now ≡ output_name output }
 {
-    match task {
-        Task::Write(mode) | Task::Preprocessed(_, InnerTask::Write(mode)) => mode_name(mode),
-        Task::Check(_) | Task::Preprocessed(_, InnerTask::Check) => "check",
-        Task::Encode => "encode",
+    match output {
+        Output::Text(mode) => mode_name(mode),
+        Output::Bytes => "encode",
+        Output::Nothing(_) => "check",
     }
 }
 

@@ -77,7 +77,7 @@ fn read_nested(
 /// Returns options that reject duplicate keys.
 fn options_rejecting_duplicates() -> ReadOptions {
     ReadOptions {
-        duplicate_keys: DuplicateKeys::Refuse,
+        duplicate_keys: DuplicateKeys::Reject,
         ..ReadOptions::default()
     }
 }

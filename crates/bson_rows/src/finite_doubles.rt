@@ -9,7 +9,7 @@ use crate::value_steps;
 use bson::extjson::de::{Result as ReadResult, TextError};
 use bson::extjson::{Doubles, Form, KeyOrder, Options};
 use bson::{Bson, Document};
-use bson_convert::convert::convert_sorted;
+use bson_convert::convert::convert_text;
 use bson_convert::mode::Mode;
 use serde_json::Value;
 use std::alloc::Global;
@@ -119,7 +119,7 @@ pub(crate) fn write_text_result(
 }
 
 fn convert_to_relaxed(alloc: Global, text: &str, output_line: &mut RowOutput) -> RowResult {
-    match convert_sorted(
+    match convert_text(
         alloc,
         finite_doubles_options(),
         Mode::Relaxed,

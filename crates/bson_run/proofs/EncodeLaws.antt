@@ -6,9 +6,9 @@ use Rattle.bson.specs.View.{bson_view, document_view}
 use Rattle.bson.specs.declared.bson.Bson.{the_lemmas}
 use Rattle.bson.specs.declared.bson.Bson.TheVariants.{Document as rejected_text}
 use Rattle.bson.specs.declared.document.Document.{Document}
-use Rattle.bson.specs.declared.extjson.key_order.KeyOrder.{KeyOrder}
-use Rattle.bson.specs.declared.extjson.key_order.KeyOrder.TheVariants.{Ascending, AsGiven}
-use Rattle.bson.proofs.Offered.{tree_one}
+use Rattle.bson_model.specs.declared.options.KeyOrder.{KeyOrder}
+use Rattle.bson_model.specs.declared.options.KeyOrder.TheVariants.{Ascending, AsGiven}
+use Rattle.bson_model.proofs.Offered.{tree_one}
 use Rattle.bson_codec.specs.Canonical.{NoBytesCause, document_bytes}
 use Rattle.bson_model.specs.Means.{MeansIn}
 use Rattle.bson_model.specs.Value.{Value, Pairs, document}

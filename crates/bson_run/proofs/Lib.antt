@@ -1,5 +1,4 @@
 pub mod AcceptedTexts
-mod Checked
 pub mod EncodeLaws
 mod Explaining
 mod Indenting
@@ -10,11 +9,9 @@ mod OneOutcome
 mod OneOutput
 pub mod OneRead
 mod OneText
-mod Ordered
 mod Parts
 mod Rows
 mod Rules
 mod RunsInside
 pub mod TakenLines
-mod TwiceInOrder
 mod TwiceIndented

@@ -140,7 +140,7 @@ module _ {o : Options} {task : Task} {on_refusal : OnRefusal} where
 
   pub written_taken : (s t : LineRunState) (more : List ℕ) → t.line.items ≡ [] → t.lines ≡ s.lines + 1
       → t.output.items ≡ s.output.items ++ more → t.diagnostics.items ≡ s.diagnostics.items → t.refused ≡ s.refused
-      → WritesOutputForTask o task (line_text s.lines s.line.items) more → (WritesText task → IsUtf8 more)
+      → WritesOutputForTask o task (line_text s.lines s.line.items) more → (WritesText task.output → IsUtf8 more)
       → EndsLine o task on_refusal s t
   written_taken s t more line number grown diagnostics_before refused h utf8 = record {
     line = line;

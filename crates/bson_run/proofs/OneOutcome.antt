@@ -1,7 +1,7 @@
 -- The same lines have one outcome.
 use Rattle.std.proofs.Common.{◌≡◌, ◌≢◌, ◌⊎◌, inl, inr, ◌<◌, ◌+◌, ℕ, zero, suc, List, [], ◌∷◌, ◌++◌, length, refl, ap, sym}
 use Rattle.std.proofs.Common.{subst, ◌∙◌, append_assoc, append-nil, length-append, arith}
-use Rattle.bson.specs.declared.extjson.options.Options.{Options}
+use Rattle.bson_model.specs.declared.options.Options.{Options}
 use Rattle.bson_convert.specs.declared.error.Error.{Error}
 use Rattle.bson_run.proofs.OneText.{Decided}
 use Rattle.bson_run.specs.Lines.{line_text, IsRejectedLineIn, IsBlank, LineOutcomes, none, blank, written, skipped, IsDiagnostic, WritesOutputForTask}

@@ -3,11 +3,11 @@ use Rattle.std.proofs.Common.{◌≡◌, ◌⊎◌, inl, inr, ℕ, List, ◌++�
 use Rattle.std.proofs.lemmas.List.{append_cancel_right}
 use Rattle.std.specs.Prelude.{IsUtf8}
 use Rattle.serde_json.specs.Read.{read}
-use Rattle.bson.proofs.Offered.{tree_one}
+use Rattle.bson_model.proofs.Offered.{tree_one}
 use Rattle.bson.specs.TextMeaning.{HasTextMeaningInKeyOrder, HasTextMeaningIn, IsNotJsonText}
-use Rattle.bson.specs.declared.extjson.key_order.KeyOrder.{KeyOrder}
-use Rattle.bson.specs.declared.extjson.key_order.KeyOrder.TheVariants.{Ascending, AsGiven}
-use Rattle.bson.specs.declared.extjson.options.Options.{Options}
+use Rattle.bson_model.specs.declared.options.KeyOrder.{KeyOrder}
+use Rattle.bson_model.specs.declared.options.KeyOrder.TheVariants.{Ascending, AsGiven}
+use Rattle.bson_model.specs.declared.options.Options.{Options}
 use Rattle.bson_codec.specs.Canonical.{NoBytesCause, nul_in_key, nul_in_regex, too_long, DocumentDoesNotFit, FitsDocument}
 use Rattle.bson_model.specs.Means.{MeansIn}
 use Rattle.bson_model.specs.Sorted.{sorted}
@@ -21,52 +21,20 @@ use Rattle.bson_scalar.specs.declared.form.Form.TheVariants as form
 use Rattle.bson_convert.specs.Convert.{ConvertsIn, IsAccepted, IsOutputIn, IsRejectedIn, newline}
 use Rattle.bson_convert.proofs.Offered.{no_difference, one_difference}
 use Rattle.bson_convert.specs.Difference.{IsFirstDifferenceAt}
-use Rattle.bson_convert.specs.declared.error.Error.TheVariants.{NotExtendedJson, NoBytes}
+use Rattle.bson_convert.specs.declared.error.Error.TheVariants.{NotCanonical, NotExtendedJson, NoBytes}
 use Rattle.bson_convert.specs.declared.mode.Mode.{Mode}
 use Rattle.bson_convert.specs.declared.mode.Mode.TheVariants.{Canonical, Relaxed, Show}
 use Rattle.bson_convert.specs.declared.encode_error.NoBytes as without
 use Rattle.bson_convert.specs.declared.encode_error.NoBytes.TheVariants.{NoDocument, ZeroInKey, ZeroInRegex, TooLong}
 use Rattle.bson_run.proofs.EncodeLaws.{encoded_one, same_pairs, value_one}
-use Rattle.bson_run.proofs.OneRead.{blank_taken, blank_turned, one_taken}
 use Rattle.bson_run.specs.Encode.{IsUnencodableFor, HasNoBsonBytes, IsBytesOf, IsNoDocument}
-use Rattle.bson_run.specs.InOrder.{ConvertsBy, ConvertsInOrder, IsOutputInOrder}
-use Rattle.bson_run.specs.Lines.{CriterionAccepts, IsBlank, IsUncanonicalFor, LineHasNoBsonBytes, WritesOutputForInnerTask, WritesOutputForTask}
-use Rattle.bson_run.specs.Preprocessed.{IsPreprocessedAs, IsRejectedByPreprocessing}
+use Rattle.bson_convert.specs.InOrder.{ConvertsBy, ConvertsInOrder, IsOutputInOrder}
+use Rattle.bson_run.specs.Lines.{CriterionAccepts, HasNoOutputFor, WritesOutput}
 use Rattle.bson_run.specs.declared.task.Criterion.{Criterion}
 use Rattle.bson_run.specs.declared.task.Criterion.TheVariants as criterion
 use Rattle.bson_run.specs.declared.task.Criterion.TheVariants.{Valid}
-use Rattle.bson_run.specs.declared.task.Task.{Task}
-use Rattle.bson_run.specs.declared.task.Task.TheVariants.{Write, Check, Encode, Preprocessed}
-use Rattle.bson_run.specs.declared.task.InnerTask.{InnerTask}
-use Rattle.bson_run.specs.declared.task.InnerTask.TheVariants as inner_task
-
--- ---- what is read in the place of a text
-
-abbrev pub Reads : Task → (text read : List ℕ) → Type 0
-Reads (Preprocessed preprocessing inner_task) text read = IsPreprocessedAs preprocessing text read
-Reads task text read = read ≡ text
-
-abbrev pub Turned : Task → Place → List ℕ → Type 0
-Turned (Preprocessed preprocessing inner_task) place text = IsRejectedByPreprocessing preprocessing place text
-Turned task place text = ⊥
-
-pub one_read : (task : Task) (text a b : List ℕ) → Reads task text a → Reads task text b → a ≡ b
-one_read (Write mode) text a b x y = x ∙ sym y
-one_read (Check criterion) text a b x y = x ∙ sym y
-one_read Encode text a b x y = x ∙ sym y
-one_read (Preprocessed preprocessing inner_task) text a b x y = one_taken preprocessing text a b x y
-
-pub blank_read : (task : Task) (text a : List ℕ) → IsBlank text → Reads task text a → a ≡ text
-blank_read (Write mode) text a h x = x
-blank_read (Check criterion) text a h x = x
-blank_read Encode text a h x = x
-blank_read (Preprocessed preprocessing inner_task) text a h x = blank_taken preprocessing text a h x
-
-pub turned_blank : (task : Task) (place : Place) (text : List ℕ) → IsBlank text → Turned task place text → ⊥
-turned_blank (Write mode) place text h x = x
-turned_blank (Check criterion) place text h x = x
-turned_blank Encode place text h x = x
-turned_blank (Preprocessed preprocessing inner_task) place text h x = blank_turned preprocessing place text h x
+use Rattle.bson_run.specs.declared.task.Output.{Output}
+use Rattle.bson_run.specs.declared.task.Output.TheVariants.{Text, Bytes, Nothing}
 
 -- ---- causes
 
@@ -127,12 +95,14 @@ module _ (o : Options) where
   converts_by AsGiven mode text out x = by_default text x.value x.utf8 x.meaning
 
   checks : (it : Criterion) (text : List ℕ) → CriterionAccepts o it text → IsAccepted o text
-  checks Valid text x = converts Canonical text x.0 x.1
+  checks Valid text x = x
   checks criterion.Canonical text x = converts Canonical text (text ++ newline) x
 
-  works : (it : InnerTask) (text out : List ℕ) → WritesOutputForInnerTask o it text out → IsAccepted o text
-  works (inner_task.Write mode) text out x = converts_by o.key_order mode text out x
-  works inner_task.Check text out x = checks Valid text x.0
+  -- what is written of a text means something
+  pub written_accepted : (it : Output) (text out : List ℕ) → WritesOutput o it text out → IsAccepted o text
+  written_accepted (Text mode) text out x = converts_by o.key_order mode text out x
+  written_accepted Bytes text out x = meant o.key_order text (document x.pairs) x.meaning
+  written_accepted (Nothing criterion) text out x = checks criterion text x.0
 
   pub no_text : (text : List ℕ) → IsAccepted o text → IsNotJsonText text → ⊥
   no_text text (t, v, is, m) h =
@@ -199,25 +169,10 @@ module _ (o : Options) where
   one_by Ascending mode text a b x y = one_converted mode text a b x y
   one_by AsGiven mode text a b x y = one_in_order mode text a b x y
 
-  one_work : (it : InnerTask) (text a b : List ℕ) → WritesOutputForInnerTask o it text a → WritesOutputForInnerTask o it text b → a ≡ b
-  one_work (inner_task.Write mode) text a b x y = one_by o.key_order mode text a b x y
-  one_work inner_task.Check text a b x y = x.1 ∙ sym y.1
-
-  pub one_written : (task : Task) (text a b : List ℕ) → WritesOutputForTask o task text a → WritesOutputForTask o task text b → a ≡ b
-  one_written (Write mode) text a b x y = one_by o.key_order mode text a b x y
-  one_written (Check criterion) text a b x y = x.1 ∙ sym y.1
-  one_written Encode text a b x y = encoded_one o.key_order o text b a y x
-  one_written (Preprocessed preprocessing it) text a b x y =
-      one_work it x.0 a b x.2
-      (subst (λ t. WritesOutputForInnerTask o it t b) (one_taken preprocessing text y.0 x.0 y.1 x.1) y.2)
-
-  -- what is written of a text means something
-  pub written_read : (task : Task) (text a : List ℕ) → WritesOutputForTask o task text a
-      → (read : List ℕ) × Reads task text read × IsAccepted o read
-  written_read (Write mode) text a x = (text, refl, converts_by o.key_order mode text a x)
-  written_read (Check criterion) text a x = (text, refl, checks criterion text x.0)
-  written_read Encode text a x = (text, refl, meant o.key_order text (document x.pairs) x.meaning)
-  written_read (Preprocessed preprocessing it) text a x = (x.0, x.1, works it x.0 a x.2)
+  pub one_written : (it : Output) (text a b : List ℕ) → WritesOutput o it text a → WritesOutput o it text b → a ≡ b
+  one_written (Text mode) text a b x y = one_by o.key_order mode text a b x y
+  one_written Bytes text a b x y = encoded_one o.key_order o text b a y x
+  one_written (Nothing criterion) text a b x y = x.1 ∙ sym y.1
 
   -- ---- what has no bytes
 
@@ -226,48 +181,43 @@ module _ (o : Options) where
   fails_meant k text why (inl (e, n)) = meant k text n.value n.meaning
   fails_meant k text why (inr (c, e, f)) = meant k text (document f.pairs) f.meaning
 
-  pub without_read : (task : Task) (why : without.NoBytes) (text : List ℕ) → LineHasNoBsonBytes o task why text
-      → Reads task text text × IsAccepted o text
-  without_read (Write mode) why text h = absurd h
-  without_read (Check criterion) why text h = absurd h
-  without_read Encode why text h =
-      (refl, fails_meant o.key_order text why (fails_of (HasTextMeaningInKeyOrder o.key_order o.doubles text) why h))
-  without_read (Preprocessed preprocessing it) why text h = absurd h
+  pub bare_accepted : (it : Output) (why : without.NoBytes) (text : List ℕ) → HasNoOutputFor o (NoBytes why) it text
+      → IsAccepted o text
+  bare_accepted (Text mode) why text h = absurd h
+  bare_accepted Bytes why text h =
+      fails_meant o.key_order text why (fails_of (HasTextMeaningInKeyOrder o.key_order o.doubles text) why h)
+  bare_accepted (Nothing criterion) why text h = absurd h
 
   -- ---- what is not canonical
 
-  pub uncanonical_read : (task : Task) (column : ℕ) (text : List ℕ) → IsUncanonicalFor o task column text
-      → Reads task text text × IsAccepted o text
-  uncanonical_read (Write mode) column text h = absurd h
-  uncanonical_read (Check Valid) column text h = absurd h
-  uncanonical_read (Check criterion.Canonical) column text h = (refl, converts Canonical text (h.text ++ newline) h.converts)
-  uncanonical_read Encode column text h = absurd h
-  uncanonical_read (Preprocessed preprocessing it) column text h = absurd h
+  pub uncanonical_accepted : (it : Output) (column : ℕ) (text : List ℕ) → HasNoOutputFor o (NotCanonical column) it text
+      → IsAccepted o text
+  uncanonical_accepted (Text mode) column text h = absurd h
+  uncanonical_accepted Bytes column text h = absurd h
+  uncanonical_accepted (Nothing Valid) column text h = absurd h
+  uncanonical_accepted (Nothing criterion.Canonical) column text h = converts Canonical text (h.text ++ newline) h.converts
 
-  pub uncanonical_bytes : (task : Task) (column : ℕ) (why : without.NoBytes) (text : List ℕ) → IsUncanonicalFor o task column text
-      → LineHasNoBsonBytes o task why text → ⊥
-  uncanonical_bytes (Write mode) column why text h x = h
-  uncanonical_bytes (Check criterion) column why text h x = x
-  uncanonical_bytes Encode column why text h x = h
-  uncanonical_bytes (Preprocessed preprocessing it) column why text h x = h
+  pub uncanonical_bare : (it : Output) (column : ℕ) (why : without.NoBytes) (text : List ℕ)
+      → HasNoOutputFor o (NotCanonical column) it text → HasNoOutputFor o (NoBytes why) it text → ⊥
+  uncanonical_bare (Text mode) column why text h x = h
+  uncanonical_bare Bytes column why text h x = h
+  uncanonical_bare (Nothing criterion) column why text h x = x
 
-  pub uncanonical_written : (task : Task) (column : ℕ) (text a : List ℕ) → IsUncanonicalFor o task column text
-      → WritesOutputForTask o task text a → ⊥
-  uncanonical_written (Write mode) column text a h x = h
-  uncanonical_written (Check Valid) column text a h x = h
-  uncanonical_written (Check criterion.Canonical) column text a h x =
+  pub uncanonical_written : (it : Output) (column : ℕ) (text a : List ℕ) → HasNoOutputFor o (NotCanonical column) it text
+      → WritesOutput o it text a → ⊥
+  uncanonical_written (Text mode) column text a h x = h
+  uncanonical_written Bytes column text a h x = h
+  uncanonical_written (Nothing Valid) column text a h x = h
+  uncanonical_written (Nothing criterion.Canonical) column text a h x =
       let ended = one_converted Canonical text (h.text ++ newline) (text ++ newline) h.converts x.0 in
       no_difference column text h.text h.differ (sym (append_cancel_right h.text text newline ended))
-  uncanonical_written Encode column text a h x = h
-  uncanonical_written (Preprocessed preprocessing it) column text a h x = h
 
-  pub one_column : (task : Task) (column other : ℕ) (text : List ℕ) → IsUncanonicalFor o task column text
-      → IsUncanonicalFor o task other text → column ≡ other
-  one_column (Write mode) column other text x y = absurd x
-  one_column (Check Valid) column other text x y = absurd x
-  one_column (Check criterion.Canonical) column other text x y =
+  pub one_column : (it : Output) (column other : ℕ) (text : List ℕ) → HasNoOutputFor o (NotCanonical column) it text
+      → HasNoOutputFor o (NotCanonical other) it text → column ≡ other
+  one_column (Text mode) column other text x y = absurd x
+  one_column Bytes column other text x y = absurd x
+  one_column (Nothing Valid) column other text x y = absurd x
+  one_column (Nothing criterion.Canonical) column other text x y =
       let ended = one_converted Canonical text (y.text ++ newline) (x.text ++ newline) y.converts x.converts in
       let same : y.text ≡ x.text = append_cancel_right y.text x.text newline ended in
       one_difference column other text x.text x.differ (subst (IsFirstDifferenceAt other text) same y.differ)
-  one_column Encode column other text x y = absurd x
-  one_column (Preprocessed preprocessing it) column other text x y = absurd x

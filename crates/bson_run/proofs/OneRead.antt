@@ -1,5 +1,5 @@
 -- One text is read in the place of a text, and a blank text is none.
-use Rattle.std.proofs.Common.{◌≡◌, ◌⊎◌, inl, inr, ℕ, List, [], ◌∷◌, Some, None, option_map, option_and_then, refl, ap, sym, ◌∙◌, subst}
+use Rattle.std.proofs.Common.{◌≡◌, ◌⊎◌, inl, inr, ℕ, List, [], ◌∷◌, Bool, true, false, Some, None, option_map, option_and_then, refl, ap, sym, ◌∙◌, subst}
 use Rattle.std.proofs.lemmas.List.Elements.{All-head, All-tail}
 use Rattle.std.specs.Prelude.{IsUtf8}
 use Rattle.json.specs.Json as json
@@ -13,15 +13,17 @@ use Rattle.serde_json.specs.Read.{max_depth, of_json, of_items, of_members, read
 use Rattle.bson.specs.TextMeaning.{IsTextOf}
 use Rattle.bson_tokens.specs.Normalized.{normalized, HasNumbersInRange, ItemsHaveNumbersInRange, MembersHaveNumbersInRange, IsNormalizedText}
 use Rattle.bson_tokens.specs.DuplicateKeys.{DuplicateAt, json_of}
-use Rattle.bson_tokens.specs.declared.arrangement.Arrangement.TheVariants.{FirstPositions}
+use Rattle.bson_model.specs.declared.options.DuplicateKeys.{DuplicateKeys}
+use Rattle.bson_model.specs.declared.options.DuplicateKeys.TheVariants.{LastWins, Reject}
+use Rattle.bson_model.specs.declared.options.KeyOrder.TheVariants.{AsGiven}
 use Rattle.bson_v1.specs.Upgraded.{upgraded}
 use Rattle.bson_v1.specs.Text.{IsUpgradedText}
 use Rattle.bson_tree.specs.Place.{PathSegment, path_of}
 use Rattle.bson_tree.specs.declared.place.Place.{Place}
 use Rattle.bson_run.specs.Lines.{IsBlank}
-use Rattle.bson_run.specs.Preprocessed.{HasDuplicateKeyAt, LacksDuplicateKey, IsInvalidJson, IsPreprocessedAs, IsRejectedByPreprocessing, UpgradesTo}
+use Rattle.bson_run.specs.Preprocessed.{HasAllowedKeys, HasDuplicateKeyAt, HasRejectedKeyAt, LacksDuplicateKey, IsInvalidJson}
+use Rattle.bson_run.specs.Preprocessed.{IsPreprocessedAs, IsRejectedByPreprocessing, IsRewrittenAs, UpgradesTo}
 use Rattle.bson_run.specs.declared.task.Preprocessing.{Preprocessing}
-use Rattle.bson_run.specs.declared.task.Preprocessing.TheVariants.{Distinct, Legacy, DistinctLegacy}
 
 -- ---- a JSON text each of whose numbers is in range is read
 
@@ -55,7 +57,7 @@ mutual
       let ds = members_read ms (put k d.0 found) h.1 in
       (ds.0, ap (option_and_then (λ x. of_members ms (put k x found))) d.1 ∙ ds.1)
 
-pub is_read : (text written : List ℕ) → IsNormalizedText FirstPositions text written → (d : Data) × (read text ≡ Some d)
+pub is_read : (text written : List ℕ) → IsNormalizedText AsGiven text written → (d : Data) × (read text ≡ Some d)
 is_read text written is =
     let d = tree_read is.tree is.numbers in
     (d.0, ap (option_and_then of_json) is.is_tree ∙ d.1)
@@ -67,7 +69,7 @@ one_upgraded text a b x y =
     let i : json_of text ≡ Some x.text_is_normalized.tree = x.text_is_normalized.is_tree in
     let j : json_of text ≡ Some y.text_is_normalized.tree = y.text_is_normalized.is_tree in
     let trees : x.text_is_normalized.tree ≡ y.text_is_normalized.tree = cc in
-    x.compact ∙ (ap (λ t. print (json_tokens (upgraded (normalized FirstPositions t)))) trees ∙ sym y.compact)
+    x.compact ∙ (ap (λ t. print (json_tokens (upgraded (normalized AsGiven t)))) trees ∙ sym y.compact)
 
 not_json : (text a : List ℕ) → IsUtf8 text → IsUpgradedText text a → IsInvalidJson text → ⊥
 not_json text a utf8 x none =
@@ -80,10 +82,12 @@ one_newer text a b (inl x) (inr y) = absurd (not_json text a x.0 x.1 y.0)
 one_newer text a b (inr x) (inl y) = absurd (not_json text b y.0 y.1 x.0)
 one_newer text a b (inr x) (inr y) = x.1 ∙ sym y.1
 
+one_rewritten : (v1 : Bool) (text a b : List ℕ) → IsRewrittenAs v1 text a → IsRewrittenAs v1 text b → a ≡ b
+one_rewritten true text a b x y = one_newer text a b x y
+one_rewritten false text a b x y = x ∙ sym y
+
 pub one_taken : (preprocessing : Preprocessing) (text a b : List ℕ) → IsPreprocessedAs preprocessing text a → IsPreprocessedAs preprocessing text b → a ≡ b
-one_taken Distinct text a b x y = x.1 ∙ sym y.1
-one_taken Legacy text a b x y = one_newer text a b x y
-one_taken DistinctLegacy text a b x y = one_newer text a b x.1 y.1
+one_taken preprocessing text a b x y = one_rewritten preprocessing.v1 text a b x.1 y.1
 
 -- ---- a blank text
 
@@ -121,11 +125,13 @@ stays text a h (inl x) =
     absurd cc
 stays text a h (inr x) = x.1
 
+blank_rewritten : (v1 : Bool) (text a : List ℕ) → IsBlank text → IsRewrittenAs v1 text a → a ≡ text
+blank_rewritten true text a h x = stays text a h x
+blank_rewritten false text a h x = x
+
 -- it is read itself
 pub blank_taken : (preprocessing : Preprocessing) (text a : List ℕ) → IsBlank text → IsPreprocessedAs preprocessing text a → a ≡ text
-blank_taken Distinct text a h x = x.1
-blank_taken Legacy text a h x = stays text a h x
-blank_taken DistinctLegacy text a h x = stays text a h x.1
+blank_taken preprocessing text a h x = blank_rewritten preprocessing.v1 text a h x.1
 
 blank_double : (place : Place) (text : List ℕ) → IsBlank text → HasDuplicateKeyAt place text → ⊥
 blank_double place text h x =
@@ -133,11 +139,13 @@ blank_double place text h x =
     let some : json_of text ≡ Some x.1.0 = x.1.1 in
     cc
 
+blank_key : (keys : DuplicateKeys) (place : Place) (text : List ℕ) → IsBlank text → HasRejectedKeyAt keys place text → ⊥
+blank_key LastWins place text h x = x
+blank_key Reject place text h x = blank_double place text h x
+
 -- and not turned away
 pub blank_turned : (preprocessing : Preprocessing) (place : Place) (text : List ℕ) → IsBlank text → IsRejectedByPreprocessing preprocessing place text → ⊥
-blank_turned Distinct place text h x = blank_double place text h x
-blank_turned Legacy place text h x = x
-blank_turned DistinctLegacy place text h x = blank_double place text h x
+blank_turned preprocessing place text h x = blank_key preprocessing.duplicate_keys place text h x
 
 -- ---- a text that is turned away
 
@@ -145,11 +153,14 @@ module _ (twice : (j : json.Json) (path : List PathSegment) → DuplicateAt j pa
   not_both : (place : Place) (text : List ℕ) → HasDuplicateKeyAt place text → LacksDuplicateKey text → ⊥
   not_both place text h none = twice h.1.0 (path_of place) h.1.2 (none h.1.0 h.0 h.1.1)
 
+  not_allowed : (keys : DuplicateKeys) (place : Place) (text : List ℕ) → HasRejectedKeyAt keys place text
+      → HasAllowedKeys keys text → ⊥
+  not_allowed LastWins place text h is = h
+  not_allowed Reject place text h is = not_both place text h is
+
   pub not_taken : (preprocessing : Preprocessing) (place : Place) (text a : List ℕ) → IsRejectedByPreprocessing preprocessing place text
       → IsPreprocessedAs preprocessing text a → ⊥
-  not_taken Distinct place text a h is = not_both place text h is.0
-  not_taken Legacy place text a h is = h
-  not_taken DistinctLegacy place text a h is = not_both place text h is.0
+  not_taken preprocessing place text a h is = not_allowed preprocessing.duplicate_keys place text h is.0
 
 module _ (one_path : (j : json.Json) (path other : List PathSegment) → DuplicateAt j path → DuplicateAt j other → path ≡ other) where
   one_duplicate_path : (place other : Place) (text : List ℕ) → HasDuplicateKeyAt place text → HasDuplicateKeyAt other text
@@ -160,8 +171,11 @@ module _ (one_path : (j : json.Json) (path other : List PathSegment) → Duplica
       let same : y.1.0 ≡ x.1.0 = cc in
       one_path x.1.0 (path_of place) (path_of other) x.1.2 (subst (λ j. DuplicateAt j (path_of other)) same y.1.2)
 
+  one_key : (keys : DuplicateKeys) (place other : Place) (text : List ℕ) → HasRejectedKeyAt keys place text
+      → HasRejectedKeyAt keys other text → path_of place ≡ path_of other
+  one_key LastWins place other text x y = absurd x
+  one_key Reject place other text x y = one_duplicate_path place other text x y
+
   pub one_turned : (preprocessing : Preprocessing) (place other : Place) (text : List ℕ) → IsRejectedByPreprocessing preprocessing place text
       → IsRejectedByPreprocessing preprocessing other text → path_of place ≡ path_of other
-  one_turned Distinct place other text x y = one_duplicate_path place other text x y
-  one_turned Legacy place other text x y = absurd x
-  one_turned DistinctLegacy place other text x y = one_duplicate_path place other text x y
+  one_turned preprocessing place other text x y = one_key preprocessing.duplicate_keys place other text x y

@@ -5,15 +5,25 @@ use Rattle.std.specs.Char.{encode_utf8}
 use Rattle.std.specs.Prelude.{codes}
 use Rattle.bson_run.specs.Lines.{lines, line_text, IsBlank}
 use Rattle.bson_run.specs.ErrorMessages.{escaped_char}
-use Rattle.bson_run.specs.TaskNames.{task_name, rule_message}
-use Rattle.bson_run.specs.declared.task.Task.TheVariants.{Check, Encode}
+use Rattle.bson_run.specs.Preprocessed.{default_preprocessing, IsPreprocessedAs, IsRejectedByPreprocessing}
+use Rattle.bson_run.specs.TaskNames.{output_name, rule_message}
+use Rattle.bson_run.specs.declared.task.Output.TheVariants.{Bytes, Nothing}
 use Rattle.bson_run.specs.declared.rule.Rule.TheVariants as rule
 
--- ---- names of tasks
+-- ---- names of outputs
 
-tasks_named : ((criterion : _) → task_name (Check criterion) ≡ codes "check")
-    × (task_name Encode ≡ codes "encode")
-tasks_named = (λ criterion. refl, refl)
+outputs_named : ((criterion : _) → output_name (Nothing criterion) ≡ codes "check")
+    × (output_name Bytes ≡ codes "encode")
+outputs_named = (λ criterion. refl, refl)
+
+-- ---- what is preprocessed by default
+
+-- any text is accepted, and read itself
+preprocessed_by_default : (text preprocessed : _)
+    → (IsPreprocessedAs default_preprocessing text text)
+    × (IsPreprocessedAs default_preprocessing text preprocessed → preprocessed ≡ text)
+    × ((place : _) → ¬ IsRejectedByPreprocessing default_preprocessing place text)
+preprocessed_by_default = λ text preprocessed. ((tt, refl), (λ is. is.1), λ place h. h)
 
 -- ---- messages of rules of JSON
 

@@ -2,7 +2,7 @@
 use Rattle.std.proofs.Common.{◌≡◌, ℕ, List, [], ◌∷◌, ◌++◌, length, Option, None, Some, refl, ap, subst, sym, ◌∙◌, append-nil}
 use Rattle.std.specs.Prelude.{IsUtf8}
 use Rattle.std.specs.Io.KnownBytes.{Appends, Consumes, IsAtEnd}
-use Rattle.bson.specs.declared.extjson.options.Options.{Options}
+use Rattle.bson_model.specs.declared.options.Options.{Options}
 use Rattle.bson_convert.specs.declared.error.Error.{Error}
 use Rattle.bson_convert.specs.declared.error.Error.TheVariants.{CannotRead, NotJson, NotExtendedJson, NoBytes, OutOfMemory}
 use Rattle.bson_convert.specs.declared.error.Error.TheVariants.{CannotWrite, NotCanonical}
@@ -88,7 +88,7 @@ module _ (o : Options) (task : Task) (on_refusal : OnRefusal) where
   abbrev Inside : List ℕ → (output_before output_after diagnostics_before diagnostics_after : Option (List ℕ)) → Error → ℕ → Type 0
   Inside all output_before output_after diagnostics_before diagnostics_after fault number = (output : List ℕ) × (diagnostics : List ℕ)
       × StopsInsideInput o task on_refusal (lines all) output diagnostics fault number
-      × (WritesText task → IsUtf8 output) × IsUtf8 diagnostics × Appends output_before output_after output × Appends diagnostics_before diagnostics_after diagnostics
+      × (WritesText task.output → IsUtf8 output) × IsUtf8 diagnostics × Appends output_before output_after output × Appends diagnostics_before diagnostics_after diagnostics
 
   inside : (all : List ℕ) (after output_before output_after diagnostics_before diagnostics_after : Option (List ℕ)) (fault : Error) (number : ℕ) (rejected_text : List ℕ)
       → IsErrorOfText fault

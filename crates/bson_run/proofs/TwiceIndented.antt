@@ -10,17 +10,14 @@ use Rattle.bson_scalar.specs.TreeText.{tree_text}
 use Rattle.bson_scalar.specs.declared.form.Form.{Form}
 use Rattle.bson_scalar.specs.declared.form.Form.TheVariants.{Canonical, Relaxed}
 use Rattle.bson_model.specs.Value.{Value}
-use Rattle.bson.specs.declared.extjson.key_order.KeyOrder.{KeyOrder}
-use Rattle.bson.specs.declared.extjson.key_order.KeyOrder.TheVariants.{Ascending, AsGiven}
-use Rattle.bson.specs.declared.extjson.options.Options.{Options}
+use Rattle.bson_model.specs.declared.options.KeyOrder.{KeyOrder}
+use Rattle.bson_model.specs.declared.options.KeyOrder.TheVariants.{Ascending, AsGiven}
+use Rattle.bson_model.specs.declared.options.Options.{Options}
 use Rattle.bson_convert.specs.Convert.{IsOutputIn, IsWrittenIn, newline}
 use Rattle.bson_convert.specs.declared.error.Error.{Error}
-use Rattle.bson_convert.proofs.Offered.{again, parsed_whole, read_then, text_converts, tokens_then, whole}
-use Rattle.bson_convert.specs.declared.mode.Mode.{Mode}
-use Rattle.bson_run.specs.InOrder.{ConvertsBy, IsConvertedTextBy, IsLineInOrder, IsOutputInOrder}
+use Rattle.bson_convert.proofs.Offered.{again, again_in_order, line_read, parsed_whole, read_then, text_converts_by, tokens_then, whole}
+use Rattle.bson_convert.specs.InOrder.{IsConvertedTextBy, IsLineInOrder, IsOutputInOrder}
 use Rattle.bson_run.specs.Indent.{mode_of, ConvertsIndented, IsIndentedOutput, IsFixedPointIndented}
-use Rattle.bson_run.proofs.Ordered.{text_converts as converts_in_order}
-use Rattle.bson_run.proofs.TwiceInOrder.{again_in_order, line_read}
 
 module _ (n : ℕ) (text output : List ℕ) (is : IsIndentedOutput n text output) where
   -- where the text is read, the layout has its tokens
@@ -97,15 +94,10 @@ laid_kept AsGiven o Canonical n bytes output x utf8 =
 laid_kept AsGiven o Relaxed n bytes output x utf8 =
     laid_again_in_order o Relaxed n bytes output utf8 x x.converts.is_output (λ v line. line)
 
-converts_by : (k : KeyOrder) (o : Options) (mode : Mode) (bytes text : List ℕ) → IsConvertedTextBy k o mode bytes text
-    → ConvertsBy k o mode bytes (text ++ newline)
-converts_by Ascending o mode bytes text is = text_converts o mode bytes text (text ++ newline) is refl
-converts_by AsGiven o mode bytes text is = converts_in_order o mode bytes text (text ++ newline) is refl
-
 module _ (k : KeyOrder) (o : Options) (f : Form) (n : ℕ) (bytes text : List ℕ)
     (is : IsConvertedTextBy k o (mode_of f) bytes text) where
   pub indented : (output : List ℕ) → IsIndentedOutput n text output → ConvertsIndented k o f n bytes output
-  indented output indented_text = record { text = text; converts = converts_by k o (mode_of f) bytes text is; is_output = indented_text }
+  indented output indented_text = record { text = text; converts = text_converts_by k o (mode_of f) bytes text (text ++ newline) is refl; is_output = indented_text }
 
   pub indented_kept : (r : Result (Vec ℕ Global) Error) → IfOk r (λ output. IsIndentedOutput n text output.items)
       → IfOk r (λ output. IsUtf8 output.items) → IfOk r (λ output. IsFixedPointIndented k o f n output.items)

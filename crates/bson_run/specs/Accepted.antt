@@ -1,8 +1,8 @@
 -- The output of an accepted text.
 use Rattle.std.specs.Prelude.{◌≡◌, ℕ, List, IsUtf8, string_bytes}
-use Rattle.bson.specs.declared.extjson.options.Options.{Options}
+use Rattle.bson_model.specs.declared.options.Options.{Options}
 use Rattle.bson_convert.specs.Convert.{IsAccepted}
-use Rattle.bson_run.specs.InOrder.{ConvertsBy}
+use Rattle.bson_convert.specs.InOrder.{ConvertsBy}
 use Rattle.bson_run.specs.declared.accepted.Accepted.{Accepted}
 use Rattle.bson_run.specs.declared.accepted.Accepted.TheVariants.{Output, Normalized}
 

@@ -2,8 +2,8 @@
 -- are none.
 use Rattle.std.specs.Prelude.{◌≡◌, ℕ, suc, List}
 use Rattle.bson.specs.TextMeaning.{HasTextMeaningInKeyOrder}
-use Rattle.bson.specs.declared.extjson.key_order.KeyOrder.{KeyOrder}
-use Rattle.bson.specs.declared.extjson.options.Options.{Options}
+use Rattle.bson_model.specs.declared.options.KeyOrder.{KeyOrder}
+use Rattle.bson_model.specs.declared.options.Options.{Options}
 use Rattle.bson_codec.specs.Canonical.{NoBytesCause, nul_in_key, nul_in_regex, too_long}
 use Rattle.bson_codec.specs.Canonical.{DocumentDoesNotFit, FitsDocument, PairsNestUpTo, pairs_read_back, document_bytes}
 use Rattle.bson_codec.specs.ReadDocuments.{IsReadAsDocument}

@@ -1,6 +1,5 @@
 pub mod Accepted
 pub mod Encode
-pub mod InOrder
 pub mod Indent
 pub mod Lines
 pub mod LinesSteps

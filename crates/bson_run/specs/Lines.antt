@@ -4,10 +4,10 @@ use Rattle.std.specs.Prelude.{codes, All, IsUtf8, if◌then◌else◌, min, ◌-
 use Rattle.std.specs.Fmt.{decimal}
 use Rattle.std.specs.List.{starts_with}
 use Rattle.std.specs.Io.KnownBytes.{Appends, Consumes}
-use Rattle.bson.specs.declared.extjson.options.Options.{Options}
-use Rattle.bson_convert.specs.Convert.{ConvertsIn, IsCanonicalText, IsRejectedIn, IsUncanonicalAt, newline}
+use Rattle.bson_model.specs.declared.options.Options.{Options}
+use Rattle.bson_convert.specs.Convert.{IsAccepted, IsCanonicalText, IsRejectedIn, IsUncanonicalAt, newline}
 use Rattle.bson_run.specs.Encode.{Encodes, TextHasNoBsonBytes}
-use Rattle.bson_run.specs.InOrder.{ConvertsBy}
+use Rattle.bson_convert.specs.InOrder.{ConvertsBy}
 use Rattle.bson_run.specs.ErrorMessages.{IsPositionMessage}
 use Rattle.bson_convert.specs.Run.{WritesBeginning, WritesPart}
 use Rattle.bson_convert.specs.Run.{ReadsAll}
@@ -15,8 +15,6 @@ use Rattle.bson_convert.specs.Messages.{error_message}
 use Rattle.bson_convert.specs.declared.error.Error.{Error}
 use Rattle.bson_convert.specs.declared.error.Error.TheVariants.{CannotRead, NotJson, NotExtendedJson, NoBytes, OutOfMemory}
 use Rattle.bson_convert.specs.declared.error.Error.TheVariants.{CannotWrite, NotCanonical}
-use Rattle.bson_convert.specs.declared.mode.Mode.TheVariants.{Canonical}
-use Rattle.bson_convert.specs.declared.encode_error.NoBytes as no_bytes
 use Rattle.bson_run.specs.declared.line_run_state.LineRunState.{LineRunState}
 use Rattle.bson_run.specs.declared.lines.LineRun.{LineRun}
 use Rattle.bson_run.specs.declared.task.Criterion.{Criterion}
@@ -25,10 +23,8 @@ use Rattle.bson_run.specs.declared.task.Criterion.TheVariants.{Valid}
 use Rattle.bson_run.specs.declared.task.OnRefusal.{OnRefusal}
 use Rattle.bson_run.specs.declared.task.OnRefusal.TheVariants.{Stop}
 use Rattle.bson_run.specs.declared.task.Task.{Task}
-use Rattle.bson_run.specs.declared.task.Task.TheVariants.{Write, Check, Encode, Preprocessed}
-use Rattle.bson_run.specs.declared.task.InnerTask.{InnerTask}
-use Rattle.bson_run.specs.declared.task.InnerTask.TheVariants as inner_task
-use Rattle.bson_tree.specs.declared.place.Place.{Place}
+use Rattle.bson_run.specs.declared.task.Output.{Output}
+use Rattle.bson_run.specs.declared.task.Output.TheVariants.{Text, Bytes, Nothing}
 use Rattle.bson_run.specs.Preprocessed.{IsPreprocessedAs, IsRejectedByPreprocessing}
 
 -- ---- the lines of an input
@@ -62,67 +58,52 @@ IsBlank text = All (λ byte. (byte ≡ 32) ⊎ ((byte ≡ 9) ⊎ (byte ≡ 13)))
 
 -- the criterion accepts the text
 abbrev pub CriterionAccepts : Options → Criterion → (text : List ℕ) → Type 0
-CriterionAccepts options Valid text = (output : List ℕ) × ConvertsIn options Canonical text output
+CriterionAccepts options Valid text = IsAccepted options text
 CriterionAccepts options criterion.Canonical text = IsCanonicalText options text
-
--- what is written of a text that was preprocessed, if it is accepted
-abbrev pub WritesOutputForInnerTask : Options → InnerTask → (text output : List ℕ) → Type 0
-WritesOutputForInnerTask options (inner_task.Write mode) text output =
-    ConvertsBy options.key_order options mode text output
-WritesOutputForInnerTask options inner_task.Check text output = CriterionAccepts options Valid text × (output ≡ [])
 
 -- what is written of a text that is accepted: its output in the mode, or the bytes of its document, with keys in the order
 -- of the options; or nothing, if it is only checked
+abbrev pub WritesOutput : Options → Output → (text output : List ℕ) → Type 0
+WritesOutput options (Text mode) text output = ConvertsBy options.key_order options mode text output
+WritesOutput options Bytes text output = Encodes options.key_order options text output
+WritesOutput options (Nothing criterion) text output = CriterionAccepts options criterion text × (output ≡ [])
+
+-- what is written of a text, which is preprocessed first
 abbrev pub WritesOutputForTask : Options → Task → (text output : List ℕ) → Type 0
-WritesOutputForTask options (Write mode) text output = ConvertsBy options.key_order options mode text output
-WritesOutputForTask options (Check criterion) text output = CriterionAccepts options criterion text × (output ≡ [])
-WritesOutputForTask options Encode text output = Encodes options.key_order options text output
-WritesOutputForTask options (Preprocessed preprocessing inner_task) text output =
-    (preprocessed : List ℕ) × IsPreprocessedAs preprocessing text preprocessed
-    × WritesOutputForInnerTask options inner_task preprocessed output
+WritesOutputForTask options task text output =
+    (preprocessed : List ℕ) × IsPreprocessedAs task.preprocessing text preprocessed
+    × WritesOutput options task.output preprocessed output
 
--- the task writes texts, and no bytes of documents
-abbrev pub WritesText : Task → Type 0
-WritesText Encode = ⊥
-WritesText task = Unit {0}
+-- texts are written, and no bytes of documents
+abbrev pub WritesText : Output → Type 0
+WritesText Bytes = ⊥
+WritesText output = Unit {0}
 
--- the text has no meaning for the fault; one that is blank is not refused
-abbrev pub IsTextRejectedFor : Options → Error → (text : List ℕ) → Type 0
-IsTextRejectedFor options NotJson text = IsRejectedIn options NotJson text × (IsBlank text → ⊥)
-IsTextRejectedFor options (NotExtendedJson place) text = IsRejectedIn options (NotExtendedJson place) text
-IsTextRejectedFor options other_error text = ⊥
+-- why a text that was preprocessed has no output: it is not the text of a value; or it is, and has no bytes or is not
+-- canonical, if that is required
+abbrev pub HasNoOutputFor : Options → Error → Output → (text : List ℕ) → Type 0
+HasNoOutputFor options NotJson output text = IsRejectedIn options NotJson text
+HasNoOutputFor options (NotExtendedJson place) output text = IsRejectedIn options (NotExtendedJson place) text
+HasNoOutputFor options (NoBytes no_bytes_cause) Bytes text =
+    TextHasNoBsonBytes options.key_order options no_bytes_cause text
+HasNoOutputFor options (NotCanonical column) (Nothing criterion.Canonical) text = IsUncanonicalAt options column text
+HasNoOutputFor options other_error output text = ⊥
 
--- the text has a meaning, and no bytes, where those are written
-abbrev pub LineHasNoBsonBytes : Options → Task → no_bytes.NoBytes → (text : List ℕ) → Type 0
-LineHasNoBsonBytes options Encode no_bytes_cause text = TextHasNoBsonBytes options.key_order options no_bytes_cause text
-LineHasNoBsonBytes options task no_bytes_cause text = ⊥
+-- the same of a text, which is preprocessed first
+abbrev pub HasNoOutputForTask : Options → Error → Task → (text : List ℕ) → Type 0
+HasNoOutputForTask options fault task text =
+    (preprocessed : List ℕ) × IsPreprocessedAs task.preprocessing text preprocessed
+    × HasNoOutputFor options fault task.output preprocessed
 
--- the text has a meaning, and is not canonical, where it is to be
-abbrev pub IsUncanonicalFor : Options → Task → (column : ℕ) → (text : List ℕ) → Type 0
-IsUncanonicalFor options (Check criterion.Canonical) column text = IsUncanonicalAt options column text
-IsUncanonicalFor options task column text = ⊥
-
--- the text is none, or what is read in its place
-abbrev pub IsNotJsonFor : Options → Task → (text : List ℕ) → Type 0
-IsNotJsonFor options (Preprocessed preprocessing inner_task) text =
-    ((preprocessed : List ℕ) × IsPreprocessedAs preprocessing text preprocessed
-    × IsRejectedIn options NotJson preprocessed) × (IsBlank text → ⊥)
-IsNotJsonFor options task text = IsTextRejectedFor options NotJson text
-
--- the text, or the text that it is rewritten as, has no meaning; or it is rejected before it is read
-abbrev pub IsNotExtendedJsonFor : Options → Task → Place → (text : List ℕ) → Type 0
-IsNotExtendedJsonFor options (Preprocessed preprocessing inner_task) place text =
-    ((preprocessed : List ℕ) × IsPreprocessedAs preprocessing text preprocessed
-    × IsRejectedIn options (NotExtendedJson place) preprocessed)
-    ⊎ IsRejectedByPreprocessing preprocessing place text
-IsNotExtendedJsonFor options task place text = IsTextRejectedFor options (NotExtendedJson place) text
-
--- nothing is written of the text, for the fault
+-- nothing is written of the text, for the fault; one that is blank is not rejected
 abbrev pub IsRejectedLineIn : Options → Task → Error → (text : List ℕ) → Type 0
-IsRejectedLineIn options task NotJson text = IsNotJsonFor options task text
-IsRejectedLineIn options task (NotExtendedJson place) text = IsNotExtendedJsonFor options task place text
-IsRejectedLineIn options task (NoBytes no_bytes_cause) text = LineHasNoBsonBytes options task no_bytes_cause text
-IsRejectedLineIn options task (NotCanonical column) text = IsUncanonicalFor options task column text
+IsRejectedLineIn options task NotJson text = HasNoOutputForTask options NotJson task text × (IsBlank text → ⊥)
+IsRejectedLineIn options task (NotExtendedJson place) text =
+    HasNoOutputForTask options (NotExtendedJson place) task text
+    ⊎ IsRejectedByPreprocessing task.preprocessing place text
+IsRejectedLineIn options task (NoBytes no_bytes_cause) text =
+    HasNoOutputForTask options (NoBytes no_bytes_cause) task text
+IsRejectedLineIn options task (NotCanonical column) text = HasNoOutputForTask options (NotCanonical column) task text
 IsRejectedLineIn options task other_error text = ⊥
 
 -- the diagnostic for a rejected line: its number, the error and its path
@@ -164,7 +145,7 @@ pub record HaveLineOutcomes (options : Options) (task : Task) (on_refusal : OnRe
     (output all_diagnostics : List ℕ)
     (refused : ℕ) : Type 0 where
   pub outcomes : LineOutcomes options task on_refusal all output all_diagnostics refused
-  pub utf8 : WritesText task → IsUtf8 output
+  pub utf8 : WritesText task.output → IsUtf8 output
   pub diagnostic_utf8 : IsUtf8 all_diagnostics
 
 -- ---- a run
@@ -250,15 +231,9 @@ RunIsCutShortAtLine options task on_refusal input_before input_after output_befo
 -- why a run stops at a text: it is rejected, and rejections stop the run; or for a reason that the bytes do not show
 abbrev pub IsStoppedAtText : Options → Task → OnRefusal → Error → (text : List ℕ) → Type 0
 IsStoppedAtText options task on_refusal CannotRead text = Unit {0}
-IsStoppedAtText options task on_refusal NotJson text = (on_refusal ≡ Stop) × IsNotJsonFor options task text
-IsStoppedAtText options task on_refusal (NotExtendedJson place) text =
-    (on_refusal ≡ Stop) × IsNotExtendedJsonFor options task place text
-IsStoppedAtText options task on_refusal (NoBytes why) text = (on_refusal ≡ Stop)
-    × LineHasNoBsonBytes options task why text
-IsStoppedAtText options task on_refusal (NotCanonical column) text = (on_refusal ≡ Stop)
-    × IsUncanonicalFor options task column text
 IsStoppedAtText options task on_refusal OutOfMemory text = Unit {0}
 IsStoppedAtText options task on_refusal CannotWrite text = ⊥
+IsStoppedAtText options task on_refusal fault text = (on_refusal ≡ Stop) × IsRejectedLineIn options task fault text
 
 -- the same for the first of the lines after this number of lines; if it is rejected, this is its text
 abbrev pub IsStoppedAtNextLine : Options → Task → OnRefusal → Error → (rejected_text : List ℕ) → (lines_before : ℕ)

@@ -1,15 +1,16 @@
 -- For private clauses: how far a run over lines has come.
 use Rattle.std.specs.Prelude.{◌≡◌, ◌≢◌, ◌⊎◌, ◌<◌, ◌≤◌, ◌+◌, ◌-◌, ◌^◌, ℕ, List, [], ◌∷◌, ◌++◌, Option, length, All, IsUtf8}
 use Rattle.std.specs.Io.KnownBytes.{Appends, Consumes, Keeps}
-use Rattle.bson_run.specs.Lines.{lines, buffered_text, HaveLineOutcomes, IsRejectedLineIn, IsStoppedAtNextLine, IsDiagnostic}
+use Rattle.bson_run.specs.Lines.{lines, buffered_text, HasNoOutputFor, HaveLineOutcomes, IsRejectedLineIn, IsStoppedAtNextLine, IsDiagnostic}
 use Rattle.bson_convert.specs.Run.{WritesPart}
 -- the types that the steps speak of, for the proofs too
-pub use Rattle.bson.specs.declared.extjson.options.Options.{Options}
+pub use Rattle.bson_model.specs.declared.options.Options.{Options}
 pub use Rattle.bson_convert.specs.declared.error.Error.{Error}
 pub use Rattle.bson_convert.specs.declared.error.Error.TheVariants.{CannotRead, NotJson, NotExtendedJson, NoBytes, OutOfMemory}
 pub use Rattle.bson_convert.specs.declared.error.Error.TheVariants.{CannotWrite, NotCanonical}
 pub use Rattle.bson_run.specs.declared.line_run_state.LineRunState.{LineRunState}
 pub use Rattle.bson_run.specs.declared.task.OnRefusal.{OnRefusal}
+pub use Rattle.bson_run.specs.declared.task.Output.{Output}
 pub use Rattle.bson_run.specs.declared.task.Task.{Task}
 
 -- no newline is in it
@@ -29,6 +30,11 @@ IsLineCountOverflow fault line_count = fault ≡ CannotRead → 2 ^ 64 - 2 ≤ l
 abbrev pub IsConversionFailure : Options → Task → Error → (text : List ℕ) → Type 0
 IsConversionFailure options task OutOfMemory text = Unit {0}
 IsConversionFailure options task fault text = IsRejectedLineIn options task fault text
+
+-- why a text that was preprocessed is not written
+abbrev pub IsOutputFailure : Options → Error → Output → (text : List ℕ) → Type 0
+IsOutputFailure options OutOfMemory output text = Unit {0}
+IsOutputFailure options fault output text = HasNoOutputFor options fault output text
 
 -- the diagnostic on a text was appended to those before
 abbrev pub IsDiagnosticAppended : Options → Task → (line_number : ℕ) → Error

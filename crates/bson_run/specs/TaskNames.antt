@@ -1,22 +1,15 @@
--- The names of tasks, and the messages of broken rules.
+-- The names of outputs, and the messages of broken rules.
 use Rattle.std.specs.Prelude.{ℕ, List, codes}
 use Rattle.bson_convert.specs.Messages.{name_of_mode}
-use Rattle.bson_run.specs.declared.task.Task.{Task}
-use Rattle.bson_run.specs.declared.task.Task.TheVariants.{Write, Check, Encode, Preprocessed}
-use Rattle.bson_run.specs.declared.task.InnerTask.{InnerTask}
-use Rattle.bson_run.specs.declared.task.InnerTask.TheVariants as inner_task
+use Rattle.bson_run.specs.declared.task.Output.{Output}
+use Rattle.bson_run.specs.declared.task.Output.TheVariants.{Text, Bytes, Nothing}
 use Rattle.bson_run.specs.declared.rule.Rule.{Rule}
 use Rattle.bson_run.specs.declared.rule.Rule.TheVariants as rule
 
-abbrev pub inner_task_name : InnerTask → List ℕ
-inner_task_name (inner_task.Write mode) = name_of_mode mode
-inner_task_name inner_task.Check = codes "check"
-
-abbrev pub task_name : Task → List ℕ
-task_name (Write mode) = name_of_mode mode
-task_name (Check criterion) = codes "check"
-task_name Encode = codes "encode"
-task_name (Preprocessed preprocessing inner_task) = inner_task_name inner_task
+abbrev pub output_name : Output → List ℕ
+output_name (Text mode) = name_of_mode mode
+output_name Bytes = codes "encode"
+output_name (Nothing criterion) = codes "check"
 
 abbrev pub rule_message : Rule → List ℕ
 rule_message rule.Utf8 = codes "invalid UTF-8"

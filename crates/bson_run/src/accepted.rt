@@ -1,18 +1,14 @@
 //! A text that is freed once it was accepted, before its output is written.
 ghost use Rattle.std.specs.Prelude.{◌≡◌, IfOk, IfErr, IsUtf8};
-ghost use Rattle.bson_convert.specs.Convert.{ConvertsIn, IsRejectedIn};
+ghost use Rattle.bson_convert.specs.Convert.{IsRejectedIn};
+ghost use Rattle.bson_convert.specs.InOrder.{ConvertsBy};
 ghost use Rattle.bson_run.specs.Accepted.{HasOutput, IsAcceptedText, IsUtf8Accepted, Outputs};
-ghost use Rattle.bson_run.specs.InOrder.{ConvertsBy, ConvertsInOrder};
-ghost use Rattle.bson.specs.declared.extjson.key_order.KeyOrder.TheVariants.{Ascending, AsGiven};
 
-use crate::convert::{convert_owned_text, filter_once};
-use bson::extjson::{KeyOrder, Options};
-use bson_convert::conversion_attempt::{Attempt, normalize, refuse, try_text};
-use bson_convert::convert::end_line;
+use bson_convert::conversion_attempt::{Attempt, try_text};
+use bson_convert::convert::{convert_whole, end_line};
 use bson_convert::error::Error;
 use bson_convert::mode::Mode;
-use bson_tokens::arrangement::Arrangement;
-use json::Scratch;
+use bson_model::options::Options;
 use std::alloc::Global;
 
 /// The output of an accepted text, or a normalized text to write: the text itself is no longer needed.
@@ -36,7 +32,7 @@ pub enum Accepted {
 }
 
 impl Accepted {
-    /// Reads bytes in the mode, as [`convert_text`](crate::convert::convert_text) does. A caller who
+    /// Reads bytes in the mode, as [`convert_text`](bson_convert::convert::convert_text) does. A caller who
     /// needs rejected bytes need not keep them in memory next to the output.
     ///
     /// Bytes that cannot be written as they are read are checked for a fault at once. The check
@@ -52,9 +48,9 @@ impl Accepted {
         ensures utf8 { IfOk result IsUtf8Accepted }
         ensures fault { IfErr result (λ fault. IsRejectedIn options fault bytes.now) }
     {
-        match options.key_order {
-            KeyOrder::Ascending => accept_sorted(alloc, options, mode, bytes),
-            KeyOrder::AsGiven => accept_in_order(alloc, options, mode, bytes),
+        match try_text(alloc, options, mode, bytes)? {
+            Attempt::Written(text) => Ok(Accepted::Output(end_line(text)?)),
+            Attempt::Normalized(text) => Ok(Accepted::Normalized(mode, text)),
         }
     }
 
@@ -72,50 +68,8 @@ impl Accepted {
         match self {
             Accepted::Output(output) => Ok(output),
             Accepted::Normalized(mode, text) => {
-                convert_owned_text(alloc, options.key_order, options, mode, text)
+                convert_whole(alloc, options, mode, text.into_bytes())
             }
-        }
-    }
-}
-
-fn accept_sorted(
-    alloc: Global,
-    options: Options,
-    mode: Mode,
-    bytes: &[u8],
-) -> Result<Accepted, Error>
-    requires { options.key_order ≡ Ascending }
-    ensures ok { IfOk result (HasOutput options (ConvertsIn options mode bytes.now)) }
-    ensures utf8 { IfOk result IsUtf8Accepted }
-    ensures fault { IfErr result (λ fault. IsRejectedIn options fault bytes.now) }
-{
-    match try_text(alloc, options, mode, bytes)? {
-        Attempt::Written(text) => Ok(Accepted::Output(end_line(text)?)),
-        Attempt::Normalized(text) => Ok(Accepted::Normalized(mode, text)),
-    }
-}
-
-fn accept_in_order(
-    alloc: Global,
-    options: Options,
-    mode: Mode,
-    bytes: &[u8],
-) -> Result<Accepted, Error>
-    requires { options.key_order ≡ AsGiven }
-    ensures ok { IfOk result (HasOutput options (ConvertsInOrder options mode bytes.now)) }
-    ensures utf8 { IfOk result IsUtf8Accepted }
-    ensures fault { IfErr result (λ fault. IsRejectedIn options fault bytes.now) }
-{
-    let Ok(text) = simdutf8::compat::from_utf8(bytes) else {
-        return Err(Error::NotJson);
-    };
-    let filtered_output = filter_once(alloc, options, mode, text, &mut Scratch::new(alloc))?;
-    match filtered_output {
-        Some(converted_text) => Ok(Accepted::Output(end_line(converted_text)?)),
-        None => {
-            refuse(alloc, options, text)?;
-            let normalized = normalize(alloc, Arrangement::FirstPositions, text)?;
-            Ok(Accepted::Normalized(mode, normalized))
         }
     }
 }

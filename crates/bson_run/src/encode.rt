@@ -2,17 +2,20 @@
 ghost use Rattle.std.specs.Prelude.{◌≡◌, IfOk, IfErr, IfSome, ℕ, List};
 ghost use Rattle.bson_model.specs.Value.{Pairs, document};
 ghost use Rattle.bson.specs.View.{bson_view};
-ghost use Rattle.bson.specs.TextMeaning.{TextMeansInKeyOrder};
+ghost use Rattle.bson.specs.TextMeaning.{IsTextFaultIn, TextMeansInKeyOrder};
+ghost use Rattle.bson.specs.declared.extjson.text_error.TextError.{TextError};
+ghost use Rattle.bson_convert.specs.Convert.{IsRejectedIn};
+ghost use Rattle.bson_model.specs.declared.options.Options.{Options};
 ghost use Rattle.bson_codec.specs.Canonical.{FitsDocument};
 ghost use Rattle.bson_codec.specs.WriteErrors.{IsWriteErrorFor};
 ghost use Rattle.bson_codec.specs.Unwritten.TheVariants as errors;
 ghost use Rattle.bson_run.specs.Encode.{Encodes, IsWriteErrorOf, IsBytesOf, IsEncodeErrorBy, IsEncodeErrorFor};
 
 use bson::Bson;
+use bson::extjson::de::TextError;
 use bson::extjson::{KeyOrder, Options};
 use bson_codec::pack::pack_text;
 use bson_codec::{ser, to_vec};
-use bson_convert::convert::error_of;
 use bson_convert::encode_error::NoBytes;
 use bson_convert::error::Error;
 use bson_text::traversal_error::TraversalError;
@@ -138,5 +141,18 @@ fn error_of_write_error(error: ser::Error) -> Error
         ser::Error::Regex => Error::NoBytes(NoBytes::ZeroInRegex),
         ser::Error::Size => Error::NoBytes(NoBytes::TooLong),
         ser::Error::OutOfMemory => Error::OutOfMemory,
+    }
+}
+
+/// Returns the error of a conversion whose text was not read.
+pub fn error_of(error: TextError) -> Error
+    ensures cause { (options : Options) (bytes : List ℕ) → IsTextFaultIn options.doubles bytes error
+        → IsRejectedIn options result bytes }
+    ensures memory { error ≡ TextError.OutOfMemory → result ≡ Error.OutOfMemory }
+{
+    match error {
+        TextError::NotJson => Error::NotJson,
+        TextError::NotExtendedJson(place) => Error::NotExtendedJson(place),
+        TextError::OutOfMemory => Error::OutOfMemory,
     }
 }

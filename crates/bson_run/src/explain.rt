@@ -4,11 +4,11 @@ ghost use Rattle.bson_tree.specs.Place.{path_text, path_of};
 ghost use Rattle.bson_run.specs.ErrorMessages.{IsExplanation, IsQuotedValue, IsReasonMessage, IsPositionMessage, column_message, path_message, escaped_message};
 ghost use Rattle.bson_run.specs.ErrorMessages.{explanation_message};
 
-use crate::preprocessed::{DUPLICATE_KEY, preprocess_text};
+use crate::preprocessed::{DUPLICATE_KEY, upgrade};
 use crate::quoted_value::quote_value_at;
 use crate::shorten::shorten;
 use crate::syntax_error::SyntaxError;
-use crate::task::{Preprocessing, Task};
+use crate::task::Task;
 use bson_convert::error::Error;
 use bson_tree::place::{Place, Reason, Segment};
 use std::alloc::{AllocError, Global};
@@ -122,14 +122,12 @@ pub fn explain_under(
 
 // The text that a task read in the place of this one, if it read another.
 fn upgraded_text(alloc: Global, task: Task, text: &[u8]) -> Result<Option<String>, AllocError> {
-    match task {
-        Task::Preprocessed(Preprocessing::Legacy | Preprocessing::DistinctLegacy, _) => {
-            match preprocess_text(alloc, Preprocessing::Legacy, text) {
-                Ok(upgraded) => Ok(upgraded),
-                Err(_) => Err(AllocError),
-            }
-        }
-        _ => Ok(None),
+    if !task.preprocessing.v1 {
+        return Ok(None);
+    }
+    match upgrade(alloc, text) {
+        Ok(upgraded) => Ok(upgraded),
+        Err(_) => Err(AllocError),
     }
 }
 

@@ -5,19 +5,17 @@ ghost use Rattle.bson_model.specs.Means.{MeansIn};
 ghost use Rattle.bson_model.specs.Value as model;
 ghost use Rattle.bson.specs.TextMeaning.{IsTextOf};
 ghost use Rattle.bson_convert.specs.Convert.{IsRejectedIn};
-ghost use Rattle.bson_run.specs.InOrder.{IsConvertedTextBy};
+ghost use Rattle.bson_convert.specs.InOrder.{IsConvertedTextBy};
 ghost use Rattle.bson_run.specs.Indent.{mode_of, ConvertsIndented, IsFixedPointIndented, IsIndentedOutput};
 
-use crate::convert::text_in_order;
 use crate::indent::indent_text;
-use bson::extjson::{Form, KeyOrder, Options};
+use bson::extjson::{Form, Options};
 use bson_convert::convert::{converted_text, end_line};
 use bson_convert::error::Error;
 use bson_convert::mode::Mode;
-use json::Scratch;
 use std::alloc::Global;
 
-/// Returns the text of [`convert_text`](crate::convert::convert_text) in a form, over several lines.
+/// Returns the text of [`convert_text`](bson_convert::convert::convert_text) in a form, over several lines.
 /// [`indent_text`](crate::indent::indent_text) makes its layout with `spaces` for each bracket. The
 /// text and its layout are in memory together.
 ///
@@ -50,7 +48,7 @@ pub fn convert_indented(
         → MeansIn options.doubles tree value → IfErr result (λ fault. fault ≡ Error.OutOfMemory) }
     ensures fault { IfErr result (λ fault. IsRejectedIn options fault bytes.now) }
 {
-    let text = text_in_key_order(alloc, options.key_order, options, mode_of(form), bytes)?;
+    let text = text_in_mode(alloc, options, mode_of(form), bytes)?;
     indented_output(alloc, spaces, &text)
 }
 
@@ -64,26 +62,14 @@ fn mode_of(form: Form) -> Mode
     }
 }
 
-// The text in the mode of the value that the bytes mean, its keys in the order.
-fn text_in_key_order(
-    alloc: Global,
-    key_order: KeyOrder,
-    options: Options,
-    mode: Mode,
-    bytes: &[u8],
-) -> Result<String, Error>
-    ensures ok { IfOk result (λ text. IsConvertedTextBy key_order options mode bytes.now (string_bytes text)) }
+// The text in the mode of the value that the bytes mean.
+fn text_in_mode(alloc: Global, options: Options, mode: Mode, bytes: &[u8]) -> Result<String, Error>
+    ensures ok { IfOk result (λ text. IsConvertedTextBy options.key_order options mode bytes.now (string_bytes text)) }
     ensures accepts { (tree : Data) (value : model.Value) → IsTextOf bytes.now tree
         → MeansIn options.doubles tree value → IfErr result (λ fault. fault ≡ Error.OutOfMemory) }
     ensures fault { IfErr result (λ fault. IsRejectedIn options fault bytes.now) }
 {
-    match key_order {
-        KeyOrder::Ascending => Ok(into_string(converted_text(alloc, options, mode, bytes)?)),
-        KeyOrder::AsGiven => {
-            let mut scratch = Scratch::new(alloc);
-            Ok(into_string(text_in_order(alloc, options, mode, bytes, &mut scratch)?))
-        }
-    }
+    Ok(into_string(converted_text(alloc, options, mode, bytes)?))
 }
 
 // The text as a string.

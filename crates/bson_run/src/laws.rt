@@ -1,12 +1,12 @@
 //! Laws of the definitions.
 ghost use Rattle.std.specs.Prelude.{◌≡◌, ℕ, List, Option, Some, IsUtf8, length};
 ghost use Rattle.std.specs.Io.KnownBytes.{Appends};
-ghost use Rattle.bson.specs.declared.extjson.key_order.KeyOrder.{KeyOrder};
-ghost use Rattle.bson.specs.declared.extjson.options.Options.{Options};
+ghost use Rattle.bson_model.specs.declared.options.KeyOrder.{KeyOrder};
+ghost use Rattle.bson_model.specs.declared.options.Options.{Options};
 ghost use Rattle.bson_scalar.specs.declared.form.Form.{Form};
 ghost use Rattle.bson_convert.specs.declared.error.Error.{Error};
 ghost use Rattle.bson_convert.specs.declared.mode.Mode.{Mode};
-ghost use Rattle.bson_run.specs.InOrder.{ConvertsBy, IsFixedPointBy};
+ghost use Rattle.bson_convert.specs.InOrder.{ConvertsBy, IsFixedPointBy};
 ghost use Rattle.bson_run.specs.Indent.{ConvertsIndented, IsFixedPointIndented};
 ghost use Rattle.bson_run.specs.Lines.{lines, RunHasDoneAllLines, RunFailsAtLine, HaveLineOutcomes, LineOutcomes, WritesText};
 ghost use Rattle.bson_run.specs.Outcomes.{AreSameDiagnostics, IsErrorOfText, IsSameFault, StopsInsideInput};
@@ -81,6 +81,6 @@ pub fn runs_are_inside()
         → IsErrorOfText fault
         → (output : List ℕ) × (diagnostics : List ℕ)
         × StopsInsideInput options task on_refusal (lines input) output diagnostics fault line_number
-        × (WritesText task → IsUtf8 output) × IsUtf8 diagnostics
+        × (WritesText task.output → IsUtf8 output) × IsUtf8 diagnostics
         × Appends output_before output_after output × Appends diagnostics_before diagnostics_after diagnostics }
 {}

@@ -1,9 +1,7 @@
-//! Conversions in addition to those of `bson_convert`: with keys in input order, to BSON bytes, over
-//! several lines, and of many texts with one per line. Programs and libraries for other languages use
-//! this crate.
+//! Conversions in addition to those of `bson_convert`: to BSON bytes, over several lines, and of many
+//! texts with one per line. Programs and libraries for other languages use this crate.
 //!
-//! In reading order: `convert` (bytes to bytes in either order of keys), `encode` (bytes to the
-//! bytes of their document), `indent` (a text over several lines) and `indented` (bytes to bytes
+//! In reading order: `encode` (bytes to the bytes of their document), `indent` (a text over several lines) and `indented` (bytes to bytes
 //! over several lines), `preprocessed` (what is checked or rewritten before a text is read),
 //! `accepted` (bytes that are freed before their output is written). Over lines:
 //! `task` (what is requested), `line_run_state` (the line that is read, and the output of those before it) and
@@ -14,7 +12,6 @@
 
 pub mod accepted;
 mod broken_rule;
-pub mod convert;
 pub mod encode;
 pub mod explain;
 pub mod indent;

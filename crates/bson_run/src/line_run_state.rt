@@ -3,27 +3,26 @@ ghost use Rattle.std.specs.Prelude.{◌≡◌, ◌⊎◌, ◌++◌, ◌+◌, [],
 ghost use Rattle.std.specs.Prelude.{OnOk, OnErr, None, Ok, IsTrue, ◌↔◌, string_bytes};
 ghost use Rattle.std.specs.Prelude.{MatchOption, IfSome, IsUtf8, ◌≢◌, slice_index};
 ghost use Rattle.bson_run.specs.Lines.{IsBlank, IsRejectedLineIn, IsStoppedAtText, IsDiagnostic, WritesOutputForTask};
-ghost use Rattle.bson_convert.specs.Convert.{IsRejectedIn};
-ghost use Rattle.bson_run.specs.Lines.{diagnostic_at, buffered_text, line_text, CriterionAccepts, WritesOutputForInnerTask, WritesText};
+ghost use Rattle.bson_run.specs.Lines.{diagnostic_at, buffered_text, line_text, CriterionAccepts, WritesOutput, WritesText};
 ghost use Rattle.bson_run.specs.LinesSteps.{EndsLastLine, LineCountFits, HaveSameResults, IsLineCountOverflow};
-ghost use Rattle.bson_run.specs.LinesSteps.{IsConversionFailure, HasNoNewline, IsBeforeFirstLine, IsDiagnosticAppended, StopsAtLastLine, StopsInBytes};
+ghost use Rattle.bson_run.specs.LinesSteps.{IsConversionFailure, IsOutputFailure, HasNoNewline, IsBeforeFirstLine, IsDiagnosticAppended, StopsAtLastLine, StopsInBytes};
 ghost use Rattle.bson_run.specs.LinesSteps.{ReadsBytes, EndsLine};
 ghost use Rattle.bson_run.specs.declared.task.OnRefusal.TheVariants.{Stop};
 ghost use Rattle.bson_run.specs.ErrorMessages.{IsPositionMessage};
 ghost use Rattle.bson_run.specs.declared.task.Task.{Task};
-ghost use Rattle.bson_run.specs.declared.task.Task.TheVariants.{Check, Preprocessed};
-ghost use Rattle.bson.specs.declared.extjson.options.Options.{Options};
+ghost use Rattle.bson_run.specs.declared.task.Output.TheVariants.{Nothing};
+ghost use Rattle.bson_run.specs.Preprocessed.{preprocessed_of};
+ghost use Rattle.bson_model.specs.declared.options.Options.{Options};
 
-use crate::convert::convert_in_key_order;
 use crate::encode::encode_line;
 use crate::explain::explain_under;
 use crate::preprocessed::preprocess_text;
-use crate::task::{Criterion, InnerTask, OnRefusal, Preprocessing, Task};
+use crate::task::{Criterion, OnRefusal, Output, Task};
 use bson::extjson::Options;
 use bson_convert::canonical::check_canonical_line;
+use bson_convert::check::check_line;
 use bson_convert::convert::convert_line;
 use bson_convert::error::Error;
-use bson_convert::mode::Mode;
 use json::Scratch;
 use memchr::memchr;
 use std::alloc::{AllocError, Global};
@@ -94,30 +93,52 @@ fn convert_or_check(
 ) -> Result<Option<Vec<u8>>, Error>
     ensures blank { result ≡ Ok None → IsBlank text.now }
     ensures ok { IfOk result (λ optional_output. IfSome optional_output (λ output. WritesOutputForTask settings.options settings.task text.now output.items)) }
-    ensures utf8 { WritesText settings.task
+    ensures utf8 { WritesText settings.task.output
         → IfOk result (λ optional_output. IfSome optional_output (λ output. IsUtf8 output.items)) }
     ensures fault { IfErr result (λ fault. IsConversionFailure settings.options settings.task fault text.now) }
 {
     if is_blank(text) {
         return Ok(None);
     }
-    let options = settings.options;
-    match settings.task {
-        Task::Write(mode) => {
-            Ok(Some(convert_in_key_order(alloc, options.key_order, options, mode, text, scratch)?))
-        }
-        Task::Check(criterion) => {
+    let upgraded = preprocess_text(alloc, settings.task.preprocessing, text)?;
+    let preprocessed = preprocessed_text(&upgraded, text);
+    let output = settings.task.output;
+    Ok(Some(write_output(alloc, settings.options, output, preprocessed, scratch)?))
+}
+
+// Returns the text that is read: the upgraded text, or the text itself if it was not upgraded.
+fn preprocessed_text<'a>(upgraded: &'a Option<String>, text: &'a [u8]) -> &'a [u8]
+    ensures { result.now ≡ preprocessed_of text.now upgraded.now }
+{
+    match upgraded {
+        Some(upgraded) => upgraded.as_bytes(),
+        None => text,
+    }
+}
+
+// Returns the output for a text that was preprocessed.
+fn write_output(
+    alloc: Global,
+    options: Options,
+    output: Output,
+    text: &[u8],
+    scratch: &mut Scratch,
+) -> Result<Vec<u8>, Error>
+    ensures ok { IfOk result (λ bytes. WritesOutput options output text.now bytes.items) }
+    ensures utf8 { WritesText output → IfOk result (λ bytes. IsUtf8 bytes.items) }
+    ensures fault { IfErr result (λ fault. IsOutputFailure options fault output text.now) }
+{
+    match output {
+        Output::Text(mode) => convert_line(alloc, options, mode, text, scratch),
+        Output::Bytes => encode_line(alloc, options, text, scratch),
+        Output::Nothing(criterion) => {
             check_by_criterion(alloc, options, criterion, text, scratch)?;
-            Ok(Some(Vec::new(alloc)))
-        }
-        Task::Encode => Ok(Some(encode_line(alloc, options, text, scratch)?)),
-        Task::Preprocessed(preprocessing, inner_task) => {
-            Ok(Some(run_preprocessed(alloc, options, preprocessing, inner_task, text, scratch)?))
+            Ok(Vec::new(alloc))
         }
     }
 }
 
-// Checks a text that is not blank by a criterion.
+// Checks a text by a criterion.
 fn check_by_criterion(
     alloc: Global,
     options: Options,
@@ -125,63 +146,12 @@ fn check_by_criterion(
     text: &[u8],
     scratch: &mut Scratch,
 ) -> Result<(), Error>
-    requires { ¬ IsBlank text.now }
     ensures ok { OnOk result (CriterionAccepts options criterion text.now) }
-    ensures fault { IfErr result (λ fault. IsConversionFailure options (Check criterion) fault text.now) }
+    ensures fault { IfErr result (λ fault. IsOutputFailure options fault (Nothing criterion) text.now) }
 {
     match criterion {
-        Criterion::Valid => {
-            convert_line(alloc, options, Mode::Canonical, text, scratch)?;
-            Ok(())
-        }
+        Criterion::Valid => check_line(alloc, options, text, scratch),
         Criterion::Canonical => check_canonical_line(alloc, options, text, scratch),
-    }
-}
-
-// Returns the output for a text that is not blank, after preprocessing.
-fn run_preprocessed(
-    alloc: Global,
-    options: Options,
-    preprocessing: Preprocessing,
-    inner_task: InnerTask,
-    text: &[u8],
-    scratch: &mut Scratch,
-) -> Result<Vec<u8>, Error>
-    requires { ¬ IsBlank text.now }
-    ensures ok { IfOk result (λ output. WritesOutputForTask options (Preprocessed preprocessing inner_task) text.now output.items) }
-    ensures utf8 { IfOk result (λ output. IsUtf8 output.items) }
-    ensures fault { IfErr result (λ fault. IsConversionFailure options (Preprocessed preprocessing inner_task) fault text.now) }
-{
-    match preprocess_text(alloc, preprocessing, text)? {
-        Some(upgraded) => run_inner_task(alloc, options, inner_task, upgraded.as_bytes(), scratch),
-        None => run_inner_task(alloc, options, inner_task, text, scratch),
-    }
-}
-
-fn run_inner_task(
-    alloc: Global,
-    options: Options,
-    inner_task: InnerTask,
-    text: &[u8],
-    scratch: &mut Scratch,
-) -> Result<Vec<u8>, Error>
-    ensures ok { IfOk result (λ output. WritesOutputForInnerTask options inner_task text.now output.items) }
-    ensures utf8 { IfOk result (λ output. IsUtf8 output.items) }
-    ensures fault { IfErr result (λ fault. IsRejectedIn options fault text.now) }
-{
-    match inner_task {
-        InnerTask::Write(mode) => convert_in_key_order(
-            alloc,
-            options.key_order,
-            options,
-            mode,
-            text,
-            scratch,
-        ),
-        InnerTask::Check => {
-            convert_line(alloc, options, Mode::Canonical, text, scratch)?;
-            Ok(Vec::new(alloc))
-        }
     }
 }
 

@@ -2,7 +2,7 @@
 ghost use Rattle.std.specs.Prelude.{◌≡◌, ◌+◌, ℕ, List, Option, IfOk, IfErr, OnOk, OnErr};
 ghost use Rattle.std.specs.Prelude.{string_bytes};
 ghost use Rattle.std.specs.Io.KnownBytes.{Appends, Consumes, IsAtEnd};
-ghost use Rattle.bson.specs.Options.{default_options};
+ghost use Rattle.bson_model.specs.NamedOptions.{default_options};
 ghost use Rattle.bson_run.specs.Lines.{RunHasDoneAllLines, RunFailsAtLine, line_number_of, buffered_text};
 ghost use Rattle.bson_run.specs.LinesSteps.{CannotWriteBoth, LineCountFits, HasFlushed, IsLineCountOverflow};
 ghost use Rattle.bson_run.specs.LinesSteps.{IsBeforeFirstLine, RunProgress};
@@ -24,7 +24,7 @@ const BLOCK_SIZE: usize = 65536;
 /// ```
 /// let mut lines: &[u8] = b"1\n[\n";
 /// let (mut output, mut diagnostics) = (Vec::new(alloc), Vec::new(alloc));
-/// let task = Task::Check(Criterion::Valid);
+/// let task = Task::new(Output::Nothing(Criterion::Valid));
 /// let mut run = LineRun::new(alloc, task, OnRefusal::KeepGoing);
 /// let counts = run.run(alloc, &mut lines, &mut output, &mut diagnostics);
 /// println!(rt; "{counts:?}")?; // Ok(Counts { lines: 2, refused: 1 })
@@ -42,7 +42,8 @@ pub struct Counts {
 /// ```
 /// let mut lines: &[u8] = br#"{"n": 1.5}"#;
 /// let (mut output, mut diagnostics) = (Vec::new(alloc), Vec::new(alloc));
-/// let mut run = LineRun::new(alloc, Task::Check(Criterion::Valid), OnRefusal::Stop);
+/// let task = Task::new(Output::Nothing(Criterion::Valid));
+/// let mut run = LineRun::new(alloc, task, OnRefusal::Stop);
 /// if let Err(fault) = run.run(alloc, &mut lines, &mut output, &mut diagnostics) {
 ///     let place = run.place(alloc, &fault)?;
 ///     println!(rt; "line {}: {}{place}", run.number(), fault.message())?;

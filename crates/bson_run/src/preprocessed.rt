@@ -1,10 +1,12 @@
 //! Texts that are checked or rewritten before they are read.
 ghost use Rattle.std.specs.Prelude.{◌≡◌, IfErr, IfOk, OnOk};
-ghost use Rattle.bson_run.specs.Preprocessed.{LacksDuplicateKey, IsPreprocessedAs, IsPreprocessingError, UpgradesTo, preprocessed_of};
-ghost use Rattle.bson_run.specs.declared.task.Preprocessing.TheVariants.{Distinct};
+ghost use Rattle.bson_model.specs.declared.options.DuplicateKeys.TheVariants.{Reject};
+ghost use Rattle.bson_run.specs.Preprocessed.{LacksDuplicateKey, HasAllowedKeys, IsDuplicateKeyError, IsPreprocessedAs};
+ghost use Rattle.bson_run.specs.Preprocessed.{IsPreprocessingError, UpgradesTo, preprocessed_of};
 
 use crate::task::Preprocessing;
 use bson_convert::error::Error;
+use bson_model::options::DuplicateKeys;
 use bson_tokens::find_duplicate::first_duplicate_key;
 use bson_tree::place::{Place, Reason};
 use bson_v1::upgraded::upgraded_text;
@@ -15,9 +17,9 @@ pub(crate) const DUPLICATE_KEY: &str = "duplicate key";
 
 /// Returns the text that is read instead of the bytes, or `None` if the bytes themselves are read.
 ///
-/// With `Distinct` and `DistinctLegacy` a JSON text may have no duplicate key, at any depth and in
-/// wrappers too. Keys are compared after their escapes are read. With `Legacy` and `DistinctLegacy`
-/// the text is that of [`upgraded_text`]. Bytes that are not a JSON text are left to the reader.
+/// If duplicate keys are rejected, a JSON text may have none, at any depth and in wrappers too. Keys
+/// are compared after their escapes are read. If `v1` is true, the text is that of [`upgraded_text`].
+/// Bytes that are not a JSON text are left to the reader.
 ///
 /// # Errors
 ///
@@ -27,7 +29,11 @@ pub(crate) const DUPLICATE_KEY: &str = "duplicate key";
 ///
 /// ```
 /// let text = br#"{"$regex": "^a", "$options": "i"}"#;
-/// if let Ok(Some(newer)) = preprocess_text(alloc, Preprocessing::Legacy, text) {
+/// let preprocessing = Preprocessing {
+///     v1: true,
+///     ..Preprocessing::default()
+/// };
+/// if let Ok(Some(newer)) = preprocess_text(alloc, preprocessing, text) {
 ///     println!(rt; "{newer}")?; // {"$regularExpression":{"pattern":"^a","options":"i"}}
 /// }
 /// ```
@@ -39,23 +45,33 @@ pub fn preprocess_text(
     ensures ok { IfOk result (λ text. IsPreprocessedAs preprocessing bytes.now (preprocessed_of bytes.now text)) }
     ensures fault { IfErr result (λ fault. IsPreprocessingError preprocessing fault bytes.now) }
 {
-    match preprocessing {
-        Preprocessing::Distinct => {
-            reject_duplicate_keys(alloc, bytes)?;
-            Ok(None)
-        }
-        Preprocessing::Legacy => upgrade(alloc, bytes),
-        Preprocessing::DistinctLegacy => {
-            reject_duplicate_keys(alloc, bytes)?;
-            upgrade(alloc, bytes)
-        }
+    check_duplicate_keys(alloc, preprocessing.duplicate_keys, bytes)?;
+    if preprocessing.v1 {
+        upgrade(alloc, bytes)
+    } else {
+        Ok(None)
+    }
+}
+
+// Rejects a text with a duplicate key, unless the last value wins.
+fn check_duplicate_keys(
+    alloc: Global,
+    duplicate_keys: DuplicateKeys,
+    bytes: &[u8],
+) -> Result<(), Error>
+    ensures ok { OnOk result (HasAllowedKeys duplicate_keys bytes.now) }
+    ensures fault { IfErr result (λ fault. IsDuplicateKeyError duplicate_keys fault bytes.now) }
+{
+    match duplicate_keys {
+        DuplicateKeys::LastWins => Ok(()),
+        DuplicateKeys::Reject => reject_duplicate_keys(alloc, bytes),
     }
 }
 
 // Rejects a text with a duplicate key.
 fn reject_duplicate_keys(alloc: Global, bytes: &[u8]) -> Result<(), Error>
     ensures ok { OnOk result (LacksDuplicateKey bytes.now) }
-    ensures fault { IfErr result (λ fault. IsPreprocessingError Distinct fault bytes.now) }
+    ensures fault { IfErr result (λ fault. IsDuplicateKeyError Reject fault bytes.now) }
 {
     let Ok(text) = simdutf8::compat::from_utf8(bytes) else {
         return Ok(());
@@ -70,8 +86,8 @@ fn reject_duplicate_keys(alloc: Global, bytes: &[u8]) -> Result<(), Error>
     }
 }
 
-// Returns the text of v2 for one of v1, or `None` if the bytes are not a JSON text.
-fn upgrade(alloc: Global, bytes: &[u8]) -> Result<Option<String>, Error>
+/// Returns the text of v2 for one of v1, or `None` if the bytes are not a JSON text.
+pub(crate) fn upgrade(alloc: Global, bytes: &[u8]) -> Result<Option<String>, Error>
     ensures ok { IfOk result (λ text. UpgradesTo bytes.now (preprocessed_of bytes.now text)) }
     ensures fault { IfErr result (λ fault. fault ≡ Error.OutOfMemory) }
 {

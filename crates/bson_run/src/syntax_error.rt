@@ -5,8 +5,8 @@ ghost use Rattle.bson_run.specs.ErrorMessages.{BreaksRule, IsWellFormedJson, IsT
 
 use crate::broken_rule::find_broken_rule;
 use crate::rule::Rule;
+use bson_model::options::KeyOrder;
 use bson_tokens::MAX_DEPTH;
-use bson_tokens::arrangement::Arrangement;
 use bson_tokens::normalize::normalize_text;
 use bson_tokens::number::number;
 use json::{Reader, Scratch, Token};
@@ -141,7 +141,7 @@ fn has_tree(alloc: Global, text: &str) -> Result<bool, AllocError>
     ensures yes { IfOk result (λ is_tree_text. IsTrue is_tree_text → IsTextOfTree text.now) }
     ensures no { IfOk result (λ is_tree_text. is_tree_text ≡ false → IsNotJsonText text.now) }
 {
-    match normalize_text(alloc, Arrangement::FirstPositions, text) {
+    match normalize_text(alloc, KeyOrder::AsGiven, text) {
         Ok(_) => Ok(true),
         Err(json::Error::Invalid) => Ok(false),
         Err(_) => Err(AllocError),

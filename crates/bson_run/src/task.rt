@@ -1,32 +1,83 @@
 //! The task of a run over lines, for each line.
 ghost use Rattle.std.specs.Prelude.{◌≡◌, IfSome, None};
-ghost use Rattle.bson_run.specs.TaskNames.{task_name};
-ghost use Rattle.bson_run.specs.declared.task.Task.{Task};
+ghost use Rattle.bson_run.specs.Preprocessed.{default_preprocessing};
+ghost use Rattle.bson_run.specs.TaskNames.{output_name};
+ghost use Rattle.bson_run.specs.declared.task.Output.{Output};
 
 use bson_convert::mode::Mode;
+use bson_model::options::DuplicateKeys;
 
-/// The task of a run, for each line.
+/// What a run does with each line.
 ///
 /// ```
 /// let mut lines: &[u8] = b"1\n2";
 /// let (mut output, mut diagnostics) = (Vec::new(alloc), Vec::new(alloc));
-/// let mut run = LineRun::new(alloc, Task::Write(Mode::Canonical), OnRefusal::Stop);
+/// let task = Task::new(Output::Text(Mode::Canonical));
+/// let mut run = LineRun::new(alloc, task, OnRefusal::Stop);
 /// drop(run.run(alloc, &mut lines, &mut output, &mut diagnostics));
 /// rt.print(str::from_utf8(&output)?)?;
 /// // {"$numberInt":"1"}
 /// // {"$numberInt":"2"}
 /// ```
 #[derive(Clone, Copy, PartialEq, Eq, Debug)]
-pub enum Task {
-    /// Its output in the mode is written, with keys in the order of the options.
-    Write(Mode),
-    /// It is only checked, by this criterion, and nothing is written.
-    Check(Criterion),
-    /// The bytes of its document are written, with keys in the order of the options and without a
-    /// newline.
-    Encode,
-    /// The line is preprocessed first. If it is accepted, this is done with what is read in its place.
-    Preprocessed(Preprocessing, InnerTask),
+pub struct Task {
+    /// What is checked or rewritten before a line is read.
+    pub preprocessing: Preprocessing,
+    /// What is written for a line that is accepted.
+    pub output: Output,
+}
+
+/// What is checked or rewritten before a text is read. The default is nothing.
+///
+/// ```
+/// let mut lines: &[u8] = br#"{"a": 1, "a": 2}"#;
+/// let (mut output, mut diagnostics) = (Vec::new(alloc), Vec::new(alloc));
+/// let preprocessing = Preprocessing {
+///     duplicate_keys: DuplicateKeys::Reject,
+///     ..Preprocessing::default()
+/// };
+/// let task = Task {
+///     preprocessing,
+///     output: Output::Nothing(Criterion::Valid),
+/// };
+/// let mut run = LineRun::new(alloc, task, OnRefusal::KeepGoing);
+/// drop(run.run(alloc, &mut lines, &mut output, &mut diagnostics));
+/// rt.print(str::from_utf8(&diagnostics)?)?;
+/// // bson: line 1: not Extended JSON at a (duplicate key)
+/// ```
+#[derive(Clone, Copy, PartialEq, Eq, Debug)]
+pub struct Preprocessing {
+    /// What happens to a text with a duplicate key.
+    pub duplicate_keys: DuplicateKeys,
+    /// Whether a text of Extended JSON v1 is rewritten as v2.
+    pub v1: bool,
+}
+
+/// What is written for a line that is accepted.
+///
+/// ```
+/// let mut lines: &[u8] = br#"{"$type": "00", "$binary": "AQI="}"#;
+/// let (mut output, mut diagnostics) = (Vec::new(alloc), Vec::new(alloc));
+/// let preprocessing = Preprocessing {
+///     v1: true,
+///     ..Preprocessing::default()
+/// };
+/// let task = Task {
+///     preprocessing,
+///     output: Output::Text(Mode::Relaxed),
+/// };
+/// let mut run = LineRun::new(alloc, task, OnRefusal::Stop);
+/// drop(run.run(alloc, &mut lines, &mut output, &mut diagnostics));
+/// rt.print(str::from_utf8(&output)?)?; // {"$binary":{"base64":"AQI=","subType":"00"}}
+/// ```
+#[derive(Clone, Copy, PartialEq, Eq, Debug)]
+pub enum Output {
+    /// Its text in the mode, with keys in the order of the options, and a newline.
+    Text(Mode),
+    /// The bytes of its document, with keys in the order of the options and without a newline.
+    Bytes,
+    /// Nothing: the line is only checked, by this criterion.
+    Nothing(Criterion),
 }
 
 /// Which texts a check accepts.
@@ -34,7 +85,7 @@ pub enum Task {
 /// ```
 /// let mut lines: &[u8] = br#"{"n": 5}"#;
 /// let (mut output, mut diagnostics) = (Vec::new(alloc), Vec::new(alloc));
-/// let task = Task::Check(Criterion::Canonical);
+/// let task = Task::new(Output::Nothing(Criterion::Canonical));
 /// let mut run = LineRun::new(alloc, task, OnRefusal::KeepGoing);
 /// drop(run.run(alloc, &mut lines, &mut output, &mut diagnostics));
 /// rt.print(str::from_utf8(&diagnostics)?)?;
@@ -48,58 +99,43 @@ pub enum Criterion {
     Canonical,
 }
 
-/// The checks or rewrites before a text is read.
-///
-/// ```
-/// let mut lines: &[u8] = br#"{"a": 1, "a": 2}"#;
-/// let (mut output, mut diagnostics) = (Vec::new(alloc), Vec::new(alloc));
-/// let task = Task::Preprocessed(Preprocessing::Distinct, InnerTask::Check);
-/// let mut run = LineRun::new(alloc, task, OnRefusal::KeepGoing);
-/// drop(run.run(alloc, &mut lines, &mut output, &mut diagnostics));
-/// rt.print(str::from_utf8(&diagnostics)?)?;
-/// // bson: line 1: not Extended JSON at a (duplicate key)
-/// ```
-#[derive(Clone, Copy, PartialEq, Eq, Debug)]
-pub enum Preprocessing {
-    /// A text with a duplicate key is rejected.
-    Distinct,
-    /// A text of Extended JSON v1 is rewritten as v2.
-    Legacy,
-    /// A text with a duplicate key is rejected, and one of Extended JSON v1 is rewritten as v2.
-    DistinctLegacy,
-}
-
-/// The task for a text that was preprocessed.
-///
-/// ```
-/// let mut lines: &[u8] = br#"{"$type": "00", "$binary": "AQI="}"#;
-/// let (mut output, mut diagnostics) = (Vec::new(alloc), Vec::new(alloc));
-/// let task = Task::Preprocessed(Preprocessing::Legacy, InnerTask::Write(Mode::Relaxed));
-/// let mut run = LineRun::new(alloc, task, OnRefusal::Stop);
-/// drop(run.run(alloc, &mut lines, &mut output, &mut diagnostics));
-/// rt.print(str::from_utf8(&output)?)?; // {"$binary":{"base64":"AQI=","subType":"00"}}
-/// ```
-#[derive(Clone, Copy, PartialEq, Eq, Debug)]
-pub enum InnerTask {
-    /// Its output in the mode is written, with keys in the order of the options.
-    Write(Mode),
-    /// It is only checked, and nothing is written.
-    Check,
-}
-
 impl Task {
-    /// Returns the task of this name: that of a mode, whose output is written, `check` or `encode`.
-    pub fn from_name(name: &str) -> Option<Task>
-        ensures named { IfSome result (λ task. name.now ≡ task_name task) }
-        ensures unknown_name { result ≡ None → (task : Task) → name.now ≡ task_name task → ⊥ }
+    /// Makes the task with this output, and without preprocessing.
+    pub fn new(output: Output) -> Task
+        ensures preprocessing { result.preprocessing ≡ default_preprocessing }
+        ensures output { result.output ≡ output }
+    {
+        Task {
+            preprocessing: Preprocessing::default(),
+            output,
+        }
+    }
+}
+
+impl Default for Preprocessing {
+    fn default() -> Preprocessing
+        ensures { result ≡ default_preprocessing }
+    {
+        Preprocessing {
+            duplicate_keys: DuplicateKeys::LastWins,
+            v1: false,
+        }
+    }
+}
+
+impl Output {
+    /// Returns the output of this name: the name of a mode, `check` or `encode`.
+    pub fn from_name(name: &str) -> Option<Output>
+        ensures named { IfSome result (λ output. name.now ≡ output_name output) }
+        ensures unknown_name { result ≡ None → (output : Output) → name.now ≡ output_name output → ⊥ }
     {
         if name == "check" {
-            return Some(Task::Check(Criterion::Valid));
+            return Some(Output::Nothing(Criterion::Valid));
         }
         if name == "encode" {
-            return Some(Task::Encode);
+            return Some(Output::Bytes);
         }
-        Some(Task::Write(Mode::from_name(name)?))
+        Some(Output::Text(Mode::from_name(name)?))
     }
 }
 
@@ -108,7 +144,8 @@ impl Task {
 /// ```
 /// let mut lines: &[u8] = b"[\n2";
 /// let (mut output, mut diagnostics) = (Vec::new(alloc), Vec::new(alloc));
-/// let mut run = LineRun::new(alloc, Task::Write(Mode::Relaxed), OnRefusal::KeepGoing);
+/// let task = Task::new(Output::Text(Mode::Relaxed));
+/// let mut run = LineRun::new(alloc, task, OnRefusal::KeepGoing);
 /// drop(run.run(alloc, &mut lines, &mut output, &mut diagnostics));
 /// rt.print(str::from_utf8(&diagnostics)?)?; // bson: line 1: not JSON at column 1 (unexpected end of input)
 /// rt.print(str::from_utf8(&output)?)?; // 2

@@ -3,7 +3,7 @@ use crate::failing_streams::StreamEnd;
 use bson::extjson::{Form, KeyOrder};
 use bson_codec::documents::Line;
 use bson_convert::mode::Mode;
-use bson_run::task::{OnRefusal, Task};
+use bson_run::task::{OnRefusal, Output, Task};
 use std::io::ErrorKind;
 use std::str;
 
@@ -48,7 +48,7 @@ pub(crate) fn parse_request(line: &[u8]) -> Option<RunRequest> {
     })
 }
 
-/// `MODE`, `convert:MODE`, `in_order:MODE`, `lines:TASK:stop` or `lines:TASK:keep-going`; of BSON
+/// `MODE`, `convert:MODE`, `in_order:MODE`, `lines:OUTPUT:stop` or `lines:OUTPUT:keep-going`; of BSON
 /// bytes `from_reader`, `to_writer`, `documents:LINE:stop` or `documents:LINE:keep-going`.
 fn call_of(word: &str) -> Option<Call> {
     let Some((call_name, call_argument)) = word.split_once(':') else {
@@ -62,8 +62,9 @@ fn call_of(word: &str) -> Option<Call> {
         "convert" => Some(Call::Convert(Mode::from_name(call_argument)?)),
         "in_order" => Some(Call::ConvertInOrder(Mode::from_name(call_argument)?)),
         "lines" => {
-            let (task, on_refusal) = call_argument.split_once(':')?;
-            Some(Call::RunLines(Task::from_name(task)?, on_refusal_of(on_refusal)?))
+            let (output, on_refusal) = call_argument.split_once(':')?;
+            let task = Task::new(Output::from_name(output)?);
+            Some(Call::RunLines(task, on_refusal_of(on_refusal)?))
         }
         "documents" => {
             let (line, on_refusal) = call_argument.split_once(':')?;

@@ -17,7 +17,7 @@ use Rattle.bson_model.specs.OrderedTexts.{HasMeaningInOrder}
 use Rattle.bson_tree.specs.declared.place.Place.{Place}
 use Rattle.bson_tokens.proofs.Offered.{text_read}
 use Rattle.bson_tokens.specs.Normalized.{normalized, HasNumbersInRange, ItemsHaveNumbersInRange, MembersHaveNumbersInRange, IsNormalizedText}
-use Rattle.bson_tokens.specs.declared.arrangement.Arrangement.TheVariants.{Ascending}
+use Rattle.bson_model.specs.declared.options.KeyOrder.TheVariants.{Ascending}
 use Rattle.bson_tokens.specs.TextErrors.{IsTextPlaceIn}
 use Rattle.bson_text.proofs.Normalized.{normalized_rises}
 use Rattle.bson_text.specs.ErrorPaths.{LocatesTextError}

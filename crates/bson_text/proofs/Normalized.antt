@@ -8,7 +8,7 @@ use Rattle.json.specs.Json.{Json, null, boolean, number, string, array, object, 
 use Rattle.json.specs.Json.{no_members, member}
 use Rattle.bson_model.proofs.Offered.{flipped}
 use Rattle.bson_tokens.specs.Normalized.{normalized, normalized_items, normalized_members, put_ascending}
-use Rattle.bson_tokens.specs.declared.arrangement.Arrangement.TheVariants.{Ascending}
+use Rattle.bson_model.specs.declared.options.KeyOrder.TheVariants.{Ascending}
 use Rattle.bson_text.specs.ErrorPaths.{IsLessThanKeys, HasSortedKeys, ItemsHaveAscendingKeys, MembersHaveAscendingKeys}
 
 abbrev cmp : List ℕ → List ℕ → Ordering

@@ -4,8 +4,8 @@ use Rattle.std.proofs.Common.{append_assoc, append-nil}
 use Rattle.std.specs.List.{flat_map}
 use Rattle.json.specs.Strict.{AreDistinct}
 use Rattle.serde_json.specs.Written.{comma_if}
-use Rattle.bson_tokens.specs.declared.arrangement.Arrangement.{Arrangement}
-use Rattle.bson_tokens.specs.declared.arrangement.Arrangement.TheVariants.{FirstPositions}
+use Rattle.bson_model.specs.declared.options.KeyOrder.{KeyOrder}
+use Rattle.bson_model.specs.declared.options.KeyOrder.TheVariants.{AsGiven}
 use Rattle.bson_model.specs.Displayed.{display_text, displayed_entry, entry_texts}
 use Rattle.bson_model.specs.Value.{Pairs, no_pairs, pair, document}
 use Rattle.bson_text.specs.DisplayOutput.{display_with_comma, separator_if, closing_brace, arranged_pairs, arranged_value}
@@ -48,7 +48,7 @@ record Behind (ps : Pairs) (old new : DisplayWriter) : Type 0 where
   pub text : new.text.items ≡ old.text.items ++ members old.needs_comma ps
   pub needs_comma : new.needs_comma ≡ needs_comma_after old.needs_comma ps
 
-all_written : (ps : Pairs) (old new : DisplayWriter) → old.arrangement ≡ FirstPositions
+all_written : (ps : Pairs) (old new : DisplayWriter) → old.key_order ≡ AsGiven
     → PairsWritten (λ a k v b. HasDisplayOfValue a v b) HasDisplayOfKey ps old new → Behind ps old new
 all_written no_pairs old new in_order is = record {
   member_starts = [];
@@ -83,19 +83,19 @@ whole before front mid now new ps mark written ended =
     ∙ append_assoc before (front ++ codes "{") end
     ∙ ap (λ l. before ++ l) (append_assoc front (codes "{") end ∙ ap (λ l. front ++ l) (document_shown ps))
 
-as_they_came : (a : Arrangement) (ps : Pairs) → a ≡ FirstPositions → AreDistinct (keys_of ps)
+as_they_came : (a : KeyOrder) (ps : Pairs) → a ≡ AsGiven → AreDistinct (keys_of ps)
     → ps ≡ arranged_pairs a (each_key_once ps)
 as_they_came a ps is apart = sym (ap (λ o. arranged_pairs o (each_key_once ps)) is ∙ once_is ps apart)
 
 -- the document's members, and the brace after them
-pub document_added : (start mid now kept new : DisplayWriter) (mark : ContainerStart) (ps : Pairs) → now.arrangement ≡ FirstPositions
+pub document_added : (start mid now kept new : DisplayWriter) (mark : ContainerStart) (ps : Pairs) → now.key_order ≡ AsGiven
     → HasBegunDisplay start mark mid → PairsWritten (λ a k v b. HasDisplayOfValue a v b) HasDisplayOfKey ps mid now
-    → AreDistinct (keys_of ps) → kept.text.items ≡ now.text.items → kept.arrangement ≡ now.arrangement
+    → AreDistinct (keys_of ps) → kept.text.items ≡ now.text.items → kept.key_order ≡ now.key_order
     → kept.member_starts.items ≡ take mark.outer_member_count now.member_starts.items → HasDisplayAdded kept (closing_brace now.needs_comma) true new
     → HasDisplayOfPairs start (each_key_once ps) new
 document_added start mid now kept new mark ps in_order (here, outer_member_count, (off, order, member_starts, text)) written apart same
     also cut (needs_comma, ordered, left, ended) =
-    let first : mid.arrangement ≡ FirstPositions = sym (same_order ps mid now written) ∙ in_order in
+    let first : mid.key_order ≡ AsGiven = sym (same_order ps mid now written) ∙ in_order in
     let all = all_written ps mid now first written in
     let brace : closing_brace now.needs_comma ≡ closing_brace (needs_comma_after false ps) =
     ap closing_brace (all.needs_comma ∙ ap (λ b. needs_comma_after b ps) off) in (
@@ -108,5 +108,5 @@ document_added start mid now kept new mark ps in_order (here, outer_member_count
           (all.text ∙ ap (λ b. mid.text.items ++ members b ps) off)
           (ended ∙ ap (λ l. l ++ closing_brace now.needs_comma) same ∙ ap (λ l. now.text.items ++ l) brace)
           ∙ ap (λ qs. start.text.items ++ (separator_if start.needs_comma ++ display_text (document qs)))
-          (as_they_came start.arrangement ps (sym order ∙ first) apart),
+          (as_they_came start.key_order ps (sym order ∙ first) apart),
     )

@@ -7,7 +7,7 @@ use Rattle.std.specs.List.{All, flat_map}
 use Rattle.std.specs.Cmp.Lexicographic.{slice_cmp}
 use Rattle.std.specs.Ordering.{match_ordering}
 use Rattle.bson_model.specs.Displayed.{display_text, displayed_entry, entry_texts}
-use Rattle.bson_tokens.specs.declared.arrangement.Arrangement.TheVariants.{Ascending}
+use Rattle.bson_model.specs.declared.options.KeyOrder.TheVariants.{Ascending}
 use Rattle.bson_model.specs.Sorted.{insert_sorted_pair, sorted, sorted_pairs}
 use Rattle.bson_model.specs.StableOrder.{pairs_of}
 use Rattle.bson_model.specs.Value.{Value, Pairs, no_pairs, pair, document}
@@ -32,15 +32,15 @@ seen w = record { text = w.text.items; member_starts = w.member_starts.items; ne
 
 -- the key and the value after it are the member's text
 pub member_text : (k : List ℕ) (v : Value) (old named new : DisplayWriter) → HasDisplayOfKey old k named → HasDisplayOfValue named v new
-    → new.text.items ≡ display_with_comma old ++ (codes " " ++ displayed_entry k (display_text (arranged_value old.arrangement v)))
+    → new.text.items ≡ display_with_comma old ++ (codes " " ++ displayed_entry k (display_text (arranged_value old.key_order v)))
 member_text k v old named new (off, order, begins, key) (after, same, kept, text) =
-    let t = display_text (arranged_value old.arrangement v) in
+    let t = display_text (arranged_value old.key_order v) in
     text ∙ ap (λ a. named.text.items ++ (separator_if named.needs_comma ++ display_text (arranged_value a v))) order
     ∙ ap (λ b. named.text.items ++ (separator_if b ++ t)) off ∙ ap (λ l. l ++ t) key
     ∙ append_assoc (display_with_comma old) (codes " \"" ++ (k ++ codes "\": ")) t
     ∙ ap (λ l. display_with_comma old ++ (codes " \"" ++ l)) (append_assoc k (codes "\": ") t)
 
-one_added : (k : List ℕ) (v : Value) (old named new : DisplayWriter) → old.arrangement ≡ Ascending
+one_added : (k : List ℕ) (v : Value) (old named new : DisplayWriter) → old.key_order ≡ Ascending
     → HasDisplayOfKey old k named → HasDisplayOfValue named v new → MemberAdded IsShownMember k v (seen old) (seen new)
 one_added k v old named new ascending wrote_key wrote_value =
     record {
@@ -54,7 +54,7 @@ one_added k v old named new ascending wrote_key wrote_value =
       needs_comma = wrote_value.0;
     }
 
-members_added : (ps : Pairs) (old new : DisplayWriter) → old.arrangement ≡ Ascending
+members_added : (ps : Pairs) (old new : DisplayWriter) → old.key_order ≡ Ascending
     → PairsWritten (λ a k v b. HasDisplayOfValue a v b) HasDisplayOfKey ps old new → MembersAdded IsShownMember ps (seen old) (seen new)
 members_added no_pairs old new ascending is = ap seen is
 members_added (pair k v ps) old new ascending (named, mid, wrote_key, wrote_value, more) = (
@@ -65,14 +65,14 @@ members_added (pair k v ps) old new ascending (named, mid, wrote_key, wrote_valu
 
 -- the keys of all go where those of the first go
 pub same_order : (ps : Pairs) (old new : DisplayWriter) → PairsWritten (λ a k v b. HasDisplayOfValue a v b) HasDisplayOfKey ps old new
-    → new.arrangement ≡ old.arrangement
-same_order no_pairs old new is = ap (λ w. w.arrangement) (sym is)
+    → new.key_order ≡ old.key_order
+same_order no_pairs old new is = ap (λ w. w.key_order) (sym is)
 same_order (pair k v ps) old new (named, mid, wrote_key, wrote_value, more) = same_order ps mid new more ∙ wrote_value.1 ∙ wrote_key.1
 
 -- the document that is open
 pub document_stands : (start mid now : DisplayWriter) (mark : ContainerStart) (ps : Pairs) (ks : List (Bor (List ℕ)))
     → HasBegunDisplay start mark mid → PairsWritten (λ a k v b. HasDisplayOfValue a v b) HasDisplayOfKey ps mid now
-    → keys_of ps ≡ map (λ k. k.now) ks → now.arrangement ≡ Ascending
+    → keys_of ps ≡ map (λ k. k.now) ks → now.key_order ≡ Ascending
     → DocumentStands IsShownMember (display_with_separator start) start.member_starts.items (seen now) mark ks ps
 document_stands start mid now mark ps ks (here, outer_member_count, (off, order, kept, text)) written named ascending =
     opened_document IsShownMember (display_with_separator start) start.member_starts.items (seen mid) (seen now) mark ps ks here outer_member_count

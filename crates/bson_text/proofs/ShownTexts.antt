@@ -4,8 +4,8 @@ use Rattle.std.proofs.Common.{◌∙◌, subst, append_assoc}
 use Rattle.std.specs.List.{flat_map}
 use Rattle.bson_scalar.specs.declared.form.Doubles.{Doubles}
 use Rattle.bson_model.specs.Displayed.{display_text, item_texts}
-use Rattle.bson_tokens.specs.declared.arrangement.Arrangement.{Arrangement}
-use Rattle.bson_tokens.specs.declared.arrangement.Arrangement.TheVariants.{FirstPositions, Ascending}
+use Rattle.bson_model.specs.declared.options.KeyOrder.{KeyOrder}
+use Rattle.bson_model.specs.declared.options.KeyOrder.TheVariants.{AsGiven, Ascending}
 use Rattle.bson_model.specs.Sorted.{sorted, sorted_items}
 use Rattle.bson_model.specs.Value as model
 use Rattle.bson_model.specs.Value.{Value, Values, no_values, code_scope, document}
@@ -17,7 +17,7 @@ use Rattle.bson_text.specs.TraversalResults.{ItemsWritten}
 use Rattle.bson_text.specs.declared.display_writer.DisplayWriter.{DisplayWriter}
 
 -- what is shown in the order of keys, and with them ascending
-pub as_it_is : (v : Value) → arranged_value FirstPositions v ≡ v
+pub as_it_is : (v : Value) → arranged_value AsGiven v ≡ v
 as_it_is (model.scalar x) = refl
 as_it_is (code_scope s ps) = refl
 as_it_is (model.array vs) = refl
@@ -41,13 +41,13 @@ as_text a b s t needs_comma is h = subst (λ l. HasDisplayAdded a l needs_comma 
 
 -- ---- arrays
 
-no_items : (a : Arrangement) → arranged_items a no_values ≡ no_values
-no_items FirstPositions = refl
+no_items : (a : KeyOrder) → arranged_items a no_values ≡ no_values
+no_items AsGiven = refl
 no_items Ascending = refl
 
-one_item : (a : Arrangement) (v : Value) (vs : Values)
+one_item : (a : KeyOrder) (v : Value) (vs : Values)
     → arranged_items a (model.value v vs) ≡ model.value (arranged_value a v) (arranged_items a vs)
-one_item FirstPositions v vs = ap (λ w. model.value w vs) (sym (as_it_is v))
+one_item AsGiven v vs = ap (λ w. model.value w vs) (sym (as_it_is v))
 one_item Ascending v vs = ap (λ w. model.value w (sorted_items vs)) (sym (as_sorted v))
 
 -- the texts of elements, after another or at first
@@ -69,21 +69,21 @@ array_shown (model.value v vs) =
 
 items_added : (n : ℕ) (vs : Values) (old now new : DisplayWriter)
     → ItemsWritten (λ a k v b. HasDisplayOfValue a v b) (λ i. []) n vs old now → HasDisplayAdded now (codes "]") true new
-    → HasDisplayAdded old (array_end old.needs_comma (arranged_items old.arrangement vs)) true new
+    → HasDisplayAdded old (array_end old.needs_comma (arranged_items old.key_order vs)) true new
 items_added n no_values old now new is ended =
-    as_text old new (codes "]") _ true (ap (array_end old.needs_comma) (sym (no_items old.arrangement)))
+    as_text old new (codes "]") _ true (ap (array_end old.needs_comma) (sym (no_items old.key_order)))
     (subst (λ a. HasDisplayAdded a (codes "]") true new) (sym is) ended)
 items_added n (model.value v vs) old now new (mid, put, more) ended =
-    let t = display_text (arranged_value old.arrangement v) in
+    let t = display_text (arranged_value old.key_order v) in
     let front = separator_if old.needs_comma in
-    let items = arranged_items old.arrangement vs in
+    let items = arranged_items old.key_order vs in
     let rest = parts true (item_texts items) in
     as_text old new _ _ true
-    (ap (λ b. (front ++ t) ++ array_end b (arranged_items mid.arrangement vs)) put.0
+    (ap (λ b. (front ++ t) ++ array_end b (arranged_items mid.key_order vs)) put.0
     ∙ ap (λ a. (front ++ t) ++ array_end true (arranged_items a vs)) put.1
     ∙ sym (append_assoc (front ++ t) rest (codes "]")) ∙ ap (λ l. l ++ codes "]") (append_assoc front t rest)
-    ∙ ap (array_end old.needs_comma) (sym (one_item old.arrangement v vs)))
-    (joined old mid new (front ++ t) (array_end mid.needs_comma (arranged_items mid.arrangement vs)) true true put
+    ∙ ap (array_end old.needs_comma) (sym (one_item old.key_order v vs)))
+    (joined old mid new (front ++ t) (array_end mid.needs_comma (arranged_items mid.key_order vs)) true true put
     (items_added (n + 1) vs mid now new more ended))
 
 pub array_added : (vs : Values) (old mark now new : DisplayWriter) → HasDisplayAfterSeparator old (codes "[") false mark
@@ -91,30 +91,30 @@ pub array_added : (vs : Values) (old mark now new : DisplayWriter) → HasDispla
     → HasDisplayOfValue old (model.array vs) new
 array_added vs old mark now new begin written ended =
     let front = separator_if old.needs_comma in
-    let items = array_end mark.needs_comma (arranged_items mark.arrangement vs) in
+    let items = array_end mark.needs_comma (arranged_items mark.key_order vs) in
     as_text old new _ _ true
     (append_assoc front (codes "[") items
-    ∙ ap (λ b. front ++ (codes "[" ++ array_end b (arranged_items mark.arrangement vs))) begin.0
+    ∙ ap (λ b. front ++ (codes "[" ++ array_end b (arranged_items mark.key_order vs))) begin.0
     ∙ ap (λ a. front ++ (codes "[" ++ array_end false (arranged_items a vs))) begin.1
-    ∙ ap (λ l. front ++ l) (array_shown (arranged_items old.arrangement vs)))
+    ∙ ap (λ l. front ++ l) (array_shown (arranged_items old.key_order vs)))
     (joined old mark new (front ++ codes "[") items false true begin (items_added 0 vs mark now new written ended))
 
 -- ---- a whole text
 
-whole_shown : (old new : DisplayWriter) (v : Value) (a : Arrangement) → HasDisplayOfValue old v new → old.arrangement ≡ a
+whole_shown : (old new : DisplayWriter) (v : Value) (a : KeyOrder) → HasDisplayOfValue old v new → old.key_order ≡ a
     → old.needs_comma ≡ false → old.text.items ≡ [] → new.text.items ≡ display_text (arranged_value a v)
 whole_shown old new v a (after, same, member_starts, shown) order first none =
-    shown ∙ ap (λ l. l ++ (separator_if old.needs_comma ++ display_text (arranged_value old.arrangement v))) none
-    ∙ ap (λ b. separator_if b ++ display_text (arranged_value old.arrangement v)) first
+    shown ∙ ap (λ l. l ++ (separator_if old.needs_comma ++ display_text (arranged_value old.key_order v))) none
+    ∙ ap (λ b. separator_if b ++ display_text (arranged_value old.key_order v)) first
     ∙ ap (λ o. display_text (arranged_value o v)) order
 
-pub text_shown : (D : Doubles) (a : Arrangement) (text : List ℕ) (old new : DisplayWriter)
-    → (v : Value) × HasMeaningInOrder D text v × HasDisplayOfValue old v new → old.arrangement ≡ a → old.needs_comma ≡ false
+pub text_shown : (D : Doubles) (a : KeyOrder) (text : List ℕ) (old new : DisplayWriter)
+    → (v : Value) × HasMeaningInOrder D text v × HasDisplayOfValue old v new → old.key_order ≡ a → old.needs_comma ≡ false
     → old.text.items ≡ [] → IsShownTextArranged D a text new.text.items
-text_shown D FirstPositions text old new (v, meaning, added) order first none = record {
+text_shown D AsGiven text old new (v, meaning, added) order first none = record {
   value = v;
   meaning = meaning;
-  shown = whole_shown old new v FirstPositions added order first none ∙ ap display_text (as_it_is v);
+  shown = whole_shown old new v AsGiven added order first none ∙ ap display_text (as_it_is v);
 }
 text_shown D Ascending text old new (v, meaning, added) order first none = record {
   value = sorted v;

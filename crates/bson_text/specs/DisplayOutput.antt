@@ -4,21 +4,21 @@ use Rattle.serde_json.specs.Written.{comma_if}
 use Rattle.bson_model.specs.Displayed.{display_text}
 use Rattle.bson_model.specs.Sorted.{sorted_items, sorted_pairs}
 use Rattle.bson_model.specs.Value.{Value, Values, Pairs, scalar, code_scope, array, document}
-use Rattle.bson_tokens.specs.declared.arrangement.Arrangement.{Arrangement}
-use Rattle.bson_tokens.specs.declared.arrangement.Arrangement.TheVariants.{FirstPositions, Ascending}
+use Rattle.bson_model.specs.declared.options.KeyOrder.{KeyOrder}
+use Rattle.bson_model.specs.declared.options.KeyOrder.TheVariants.{AsGiven, Ascending}
 use Rattle.bson_text.specs.declared.sorted_writer.ContainerStart.{ContainerStart}
 use Rattle.bson_text.specs.declared.display_writer.DisplayWriter.{DisplayWriter}
 
 -- what is shown of a value and of parts of one: with its keys in their order, or ascending
-abbrev pub arranged_items : Arrangement → (item_values : Values) → Values
-arranged_items FirstPositions item_values = item_values
+abbrev pub arranged_items : KeyOrder → (item_values : Values) → Values
+arranged_items AsGiven item_values = item_values
 arranged_items Ascending item_values = sorted_items item_values
 
-abbrev pub arranged_pairs : Arrangement → (document_pairs : Pairs) → Pairs
-arranged_pairs FirstPositions document_pairs = document_pairs
+abbrev pub arranged_pairs : KeyOrder → (document_pairs : Pairs) → Pairs
+arranged_pairs AsGiven document_pairs = document_pairs
 arranged_pairs Ascending document_pairs = sorted_pairs document_pairs
 
-abbrev pub arranged_value : Arrangement → Value → Value
+abbrev pub arranged_value : KeyOrder → Value → Value
 arranged_value key_order (scalar scalar_value) = scalar scalar_value
 arranged_value key_order (code_scope text_bytes document_pairs) =
     code_scope text_bytes (arranged_pairs key_order document_pairs)
@@ -41,7 +41,7 @@ display_with_separator writer_state = writer_state.text.items ++ separator_if wr
 abbrev pub HasDisplayAdded : (old : DisplayWriter) → (added : List ℕ) → (needs_comma : Bool) → (new : DisplayWriter)
     → Type 0
 HasDisplayAdded old text_bytes needs_comma new =
-    (new.needs_comma ≡ needs_comma) × (new.arrangement ≡ old.arrangement)
+    (new.needs_comma ≡ needs_comma) × (new.key_order ≡ old.key_order)
     × (new.member_starts.items ≡ old.member_starts.items)
     × (new.text.items ≡ old.text.items ++ text_bytes)
 
@@ -53,11 +53,11 @@ HasDisplayAfterSeparator old text_bytes needs_comma new =
 
 abbrev pub HasDisplayOfValue : (old : DisplayWriter) → Value → (new : DisplayWriter) → Type 0
 HasDisplayOfValue old shown_value new =
-    HasDisplayAfterSeparator old (display_text (arranged_value old.arrangement shown_value)) true new
+    HasDisplayAfterSeparator old (display_text (arranged_value old.key_order shown_value)) true new
 
 abbrev pub HasDisplayOfPairs : (old : DisplayWriter) → Pairs → (new : DisplayWriter) → Type 0
 HasDisplayOfPairs old document_pairs new =
-    HasDisplayAfterSeparator old (display_text (document (arranged_pairs old.arrangement document_pairs))) true new
+    HasDisplayAfterSeparator old (display_text (document (arranged_pairs old.key_order document_pairs))) true new
 
 -- a document was begun: its text begins here, and its members' offsets come after those before it
 abbrev pub HasBegunDisplay : (old : DisplayWriter) → ContainerStart → (new : DisplayWriter) → Type 0
@@ -71,7 +71,7 @@ display_with_comma writer_state = writer_state.text.items ++ comma_if writer_sta
 
 -- a key was added: its member begins here, with the space before it
 abbrev pub HasDisplayOfKey : (old : DisplayWriter) → (key_bytes : List ℕ) → (new : DisplayWriter) → Type 0
-HasDisplayOfKey old key_bytes new = (new.needs_comma ≡ false) × (new.arrangement ≡ old.arrangement)
+HasDisplayOfKey old key_bytes new = (new.needs_comma ≡ false) × (new.key_order ≡ old.key_order)
     × (new.member_starts.items ≡ old.member_starts.items ++ length (display_with_comma old) ∷ [])
     × (new.text.items ≡ display_with_comma old ++ (codes " \"" ++ (key_bytes ++ codes "\": ")))
 

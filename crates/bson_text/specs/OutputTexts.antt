@@ -9,8 +9,8 @@ use Rattle.bson_model.specs.Laws.{IsTreeOfIn}
 use Rattle.bson_model.specs.Texts.{ReadsAgainIn}
 use Rattle.bson_model.specs.Value.{Value}
 use Rattle.bson_model.specs.OrderedTexts.{HasMeaningInOrder, IsOrderedTextOf, MeansByDefault}
-use Rattle.bson_tokens.specs.declared.arrangement.Arrangement.{Arrangement}
-use Rattle.bson_tokens.specs.declared.arrangement.Arrangement.TheVariants.{FirstPositions, Ascending}
+use Rattle.bson_model.specs.declared.options.KeyOrder.{KeyOrder}
+use Rattle.bson_model.specs.declared.options.KeyOrder.TheVariants.{AsGiven, Ascending}
 
 -- the text means a value in the order of its keys, and the other is the compact text of that value's one tree in the
 -- form, in that order
@@ -44,6 +44,6 @@ pub record IsShownText (doubles : Doubles) (text written : List ℕ) : Type 0 wh
   pub shown : written ≡ display_text value
 
 -- the same by where keys go: for private clauses
-abbrev pub IsShownTextArranged : Doubles → Arrangement → (text written : List ℕ) → Type 0
-IsShownTextArranged doubles FirstPositions = IsShownTextInOrder doubles
+abbrev pub IsShownTextArranged : Doubles → KeyOrder → (text written : List ℕ) → Type 0
+IsShownTextArranged doubles AsGiven = IsShownTextInOrder doubles
 IsShownTextArranged doubles Ascending = IsShownText doubles

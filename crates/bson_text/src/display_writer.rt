@@ -6,7 +6,7 @@ ghost use Rattle.std.specs.Str.{is_utf8};
 ghost use Rattle.bson_scalar.specs.Displayed.{scalar_text};
 ghost use Rattle.bson_scalar.specs.View.{scalar_of, scalar_view};
 ghost use Rattle.bson_model.specs.Value.{Pairs};
-ghost use Rattle.bson_tokens.specs.declared.arrangement.Arrangement.TheVariants as arrangement;
+ghost use Rattle.bson_model.specs.declared.options.KeyOrder.TheVariants as key_order;
 ghost use Rattle.bson_text.specs.MemberSpans.{EndsWithBrace};
 ghost use Rattle.bson_text.specs.TraversalErrors.{IsDocumentEndError};
 ghost use Rattle.bson_text.specs.TraversalResults.{PairsWritten, keys_of, each_key_once};
@@ -16,9 +16,9 @@ use crate::member_spans::{end_object, put_comma};
 use crate::sorted_writer::ContainerStart;
 use crate::traversal_error::TraversalError;
 use crate::value_writer::ValueWriter;
+use bson_model::options::KeyOrder;
 use bson_scalar::scalar::Scalar;
 use bson_scalar::scalar_ref::ScalarRef;
-use bson_tokens::arrangement::Arrangement;
 use itoa::Buffer;
 use std::alloc::{AllocError, Global};
 
@@ -28,7 +28,7 @@ use std::alloc::{AllocError, Global};
 pub(crate) struct DisplayWriter {
     pub(crate) alloc: Global,
     // Where the keys of a document go.
-    pub(crate) arrangement: Arrangement,
+    pub(crate) key_order: KeyOrder,
     pub(crate) text: Vec<u8>,
     // Memory for the text of a scalar.
     pub(crate) fragment: String,
@@ -100,7 +100,7 @@ impl DisplayWriter {
             (λ state_before key_name shown_value state_after.
             HasDisplayOfValue state_before shown_value state_after) HasDisplayOfKey document_pairs writer_begun self.old
             × (keys_of document_pairs ≡ map (λ key_name. key_name.now) keys.now) }
-        requires ascending { self.old.arrangement ≡ arrangement.Ascending }
+        requires ascending { self.old.key_order ≡ key_order.Ascending }
         ensures written { OnOk result
             ((writer_before : DisplayWriter) (writer_begun : DisplayWriter) (document_pairs : Pairs)
             → HasBegunDisplay writer_before open_container writer_begun
@@ -133,7 +133,7 @@ impl DisplayWriter {
         open_container: ContainerStart,
         keys: &mut [&str],
     ) -> Result<(), TraversalError>
-        requires first_occurrences { self.old.arrangement ≡ arrangement.FirstPositions }
+        requires first_occurrences { self.old.key_order ≡ key_order.AsGiven }
         ensures written { OnOk result
             ((writer_before : DisplayWriter) (writer_begun : DisplayWriter) (document_pairs : Pairs)
             → HasBegunDisplay writer_before open_container writer_begun
@@ -245,9 +245,9 @@ impl ValueWriter for DisplayWriter {
         open_container: ContainerStart,
         keys: &mut [&str],
     ) -> Result<(), TraversalError> {
-        match self.arrangement {
-            Arrangement::FirstPositions => self.end_in_order(open_container, keys),
-            Arrangement::Ascending => self.end_sorted(open_container, keys),
+        match self.key_order {
+            KeyOrder::AsGiven => self.end_in_order(open_container, keys),
+            KeyOrder::Ascending => self.end_sorted(open_container, keys),
         }
     }
 

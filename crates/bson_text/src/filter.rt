@@ -11,8 +11,8 @@ use crate::sorted_writer::SortedWriter;
 use crate::text_writer::TextWriter;
 use crate::traversal::write_text;
 use crate::traversal_error::TraversalError;
+use bson_model::options::KeyOrder;
 use bson_scalar::form::{Doubles, Form};
-use bson_tokens::arrangement::Arrangement;
 use json::{Scratch, Writer};
 use std::alloc::Global;
 
@@ -106,7 +106,7 @@ pub fn show_text(
     ensures utf8 { IfOk result (λ written. IsUtf8 written.items) }
     ensures accepts { IfErr result (IsRejectedText doubles ⊥ ⊤ text.now) }
 {
-    show_text_arranged(alloc, doubles, Arrangement::Ascending, text, scratch)
+    show_text_arranged(alloc, doubles, KeyOrder::Ascending, text, scratch)
 }
 
 /// Writes what [`show_text`] writes, with the keys of each document in the order of the text.
@@ -124,23 +124,23 @@ pub fn show_text_in_order(
     ensures utf8 { IfOk result (λ written. IsUtf8 written.items) }
     ensures accepts { IfErr result (IsRejectedText doubles ⊥ ⊤ text.now) }
 {
-    show_text_arranged(alloc, doubles, Arrangement::FirstPositions, text, scratch)
+    show_text_arranged(alloc, doubles, KeyOrder::AsGiven, text, scratch)
 }
 
 fn show_text_arranged(
     alloc: Global,
     doubles: Doubles,
-    arrangement: Arrangement,
+    key_order: KeyOrder,
     text: &str,
     scratch: &mut Scratch,
 ) -> Result<Vec<u8>, TraversalError>
-    ensures ok { IfOk result (λ written. IsShownTextArranged doubles arrangement text.now written.items) }
+    ensures ok { IfOk result (λ written. IsShownTextArranged doubles key_order text.now written.items) }
     ensures utf8 { IfOk result (λ written. IsUtf8 written.items) }
     ensures accepts { IfErr result (IsRejectedText doubles ⊥ ⊤ text.now) }
 {
     let writer = DisplayWriter {
         alloc,
-        arrangement,
+        key_order,
         text: Vec::with_capacity(alloc, output_capacity(text))?,
         fragment: String::new(alloc),
         member_starts: Vec::new(alloc),

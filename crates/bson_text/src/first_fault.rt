@@ -2,14 +2,14 @@
 ghost use Rattle.std.specs.Prelude.{IfErr, IfOk, List, ℕ};
 ghost use Rattle.serde_json.specs.Read.{read};
 ghost use Rattle.bson_tokens.specs.Normalized.{IsNormalizedText};
-ghost use Rattle.bson_tokens.specs.declared.arrangement.Arrangement.TheVariants.{Ascending};
+ghost use Rattle.bson_model.specs.declared.options.KeyOrder.TheVariants.{Ascending};
 ghost use Rattle.bson_tokens.specs.ReadOutcomes.{NothingReadIfInvalid};
 ghost use Rattle.bson_tokens.specs.TextErrors.{IsTextPlaceIn};
 
 use crate::discard_writer::check_text;
 use crate::traversal_error::TraversalError;
+use bson_model::options::KeyOrder;
 use bson_scalar::form::Doubles;
-use bson_tokens::arrangement::Arrangement;
 use bson_tokens::normalize::normalize_text;
 use bson_tree::place::Place;
 use json::{Error, Scratch};
@@ -37,7 +37,7 @@ pub fn first_fault_in(alloc: Global, doubles: Doubles, text: &str) -> Result<Opt
     ensures place { IfOk result (λ place_or_none. IsTextPlaceIn doubles text.now place_or_none) }
     ensures broken { IfErr result (NothingReadIfInvalid (read text.now)) }
 {
-    let normalized = normalize_text(alloc, Arrangement::Ascending, text)?;
+    let normalized = normalize_text(alloc, KeyOrder::Ascending, text)?;
     Ok(first_fault_of_normalized(alloc, doubles, normalized.as_str())?)
 }
 

@@ -15,7 +15,7 @@ use Rattle.json.proofs.Printed.Trees.{value-json_tokens, ArePrintable-json_token
 use Rattle.serde_json.specs.Read.{max_depth}
 use Rattle.bson_tokens.specs.Normalized.{put_member, normalized, normalized_items, normalized_members}
 use Rattle.bson_tokens.specs.DuplicateKeys.{json_of}
-use Rattle.bson_tokens.specs.declared.arrangement.Arrangement.{Arrangement}
+use Rattle.bson_model.specs.declared.options.KeyOrder.{KeyOrder}
 use Rattle.bson_tokens.proofs.Normalizing.{Each, each_put}
 
 -- ---- the depth
@@ -28,7 +28,7 @@ each_within n no_members are = omega arith
 each_within n (member k j ms) are = omega (arith, are.0, each_within n ms are.1)
 
 mutual
-  within : (a : Arrangement) (j : Json) (n : ℕ) → depth j ≤ n → depth (normalized a j) ≤ n
+  within : (a : KeyOrder) (j : Json) (n : ℕ) → depth j ≤ n → depth (normalized a j) ≤ n
   within a null n h = h
   within a (boolean b) n h = h
   within a (number s) n h = h
@@ -37,19 +37,19 @@ mutual
   within a (object ms) n h =
       omega (arith, h, members_within a ms no_members (members_depth ms) (omega arith) tt)
 
-  items_within : (a : Arrangement) (js : Items) (n : ℕ) → items_depth js ≤ n → items_depth (normalized_items a js) ≤ n
+  items_within : (a : KeyOrder) (js : Items) (n : ℕ) → items_depth js ≤ n → items_depth (normalized_items a js) ≤ n
   items_within a no_items n h = h
   items_within a (item j js) n h =
       omega (arith, within a j n (omega arith), items_within a js n (omega arith))
 
-  members_within : (a : Arrangement) (ms found : Members) (n : ℕ) → members_depth ms ≤ n → Each (IsWithin n) found
+  members_within : (a : KeyOrder) (ms found : Members) (n : ℕ) → members_depth ms ≤ n → Each (IsWithin n) found
       → members_depth (normalized_members a ms found) ≤ n
   members_within a no_members found n h are = each_within n found are
   members_within a (member k j ms) found n h are =
       members_within a ms (put_member a k (normalized a j) found) n (omega arith)
       (each_put (IsWithin n) a k (normalized a j) found (within a j n (omega arith)) are)
 
-pub no_deeper : (a : Arrangement) (j : Json) → depth (normalized a j) ≤ depth j
+pub no_deeper : (a : KeyOrder) (j : Json) → depth (normalized a j) ≤ depth j
 no_deeper a j = within a j (depth j) (omega arith)
 
 -- ---- numbers as texts
@@ -59,7 +59,7 @@ each_number no_members are = tt
 each_number (member k j ms) are = (are.0, each_number ms are.1)
 
 mutual
-  pub still_numbers : (a : Arrangement) (j : Json) → HasNumbers j → HasNumbers (normalized a j)
+  pub still_numbers : (a : KeyOrder) (j : Json) → HasNumbers j → HasNumbers (normalized a j)
   still_numbers a null has = has
   still_numbers a (boolean b) has = has
   still_numbers a (number s) has = has
@@ -67,11 +67,11 @@ mutual
   still_numbers a (array js) has = items_still a js has
   still_numbers a (object ms) has = members_still a ms no_members has tt
 
-  items_still : (a : Arrangement) (js : Items) → ItemsHaveNumbers js → ItemsHaveNumbers (normalized_items a js)
+  items_still : (a : KeyOrder) (js : Items) → ItemsHaveNumbers js → ItemsHaveNumbers (normalized_items a js)
   items_still a no_items has = has
   items_still a (item j js) has = (still_numbers a j has.0, items_still a js has.1)
 
-  members_still : (a : Arrangement) (ms found : Members) → MembersHaveNumbers ms → Each HasNumbers found
+  members_still : (a : KeyOrder) (ms found : Members) → MembersHaveNumbers ms → Each HasNumbers found
       → MembersHaveNumbers (normalized_members a ms found)
   members_still a no_members found has are = each_number found are
   members_still a (member k j ms) found has are =
@@ -102,7 +102,7 @@ printed_again j has shallow =
     ap whole (ap (value max_depth) (tokens-print (json_tokens j) (ArePrintable-json_tokens j has)
     ∙ sym (append-nil (json_tokens j))) ∙ value-json_tokens j max_depth [] shallow)
 
-pub normalized_again : (a : Arrangement) (text : List ℕ) (j : Json) → json_of text ≡ Some j
+pub normalized_again : (a : KeyOrder) (text : List ℕ) (j : Json) → json_of text ≡ Some j
     → json_of (print (json_tokens (normalized a j))) ≡ Some (normalized a j)
 normalized_again a text j h =
     printed_again (normalized a j) (still_numbers a j (text_numbers text j h))

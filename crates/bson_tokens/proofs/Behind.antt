@@ -5,7 +5,7 @@ use Rattle.std.specs.Prelude.{MatchOption}
 use Rattle.std.proofs.lemmas.List.{length-append, take-append-le}
 use Rattle.std.proofs.Math.Seq.{take-length}
 use Rattle.bson_tokens.specs.NormalizerStates.{JsonMember, SpansNormalized, SpansMatch, SpansMatchNormalized}
-use Rattle.bson_tokens.specs.declared.arrangement.Arrangement.{Arrangement}
+use Rattle.bson_model.specs.declared.options.KeyOrder.{KeyOrder}
 use Rattle.bson_tokens.specs.declared.member_order.MemberSpan.{MemberSpan}
 use Rattle.bson_tokens.proofs.Standing.{slice_between}
 
@@ -26,13 +26,13 @@ nothing_there : (o : Option (Vec ℕ Global)) → ((t : Vec ℕ Global) → o �
 nothing_there None none = refl
 nothing_there (Some t) none = absurd (none t refl)
 
-pub normalized_anew : (a : Arrangement) (body : List ℕ) (old new : List MemberSpan) (text : Option (Vec ℕ Global)) (t : Vec ℕ Global)
+pub normalized_anew : (a : KeyOrder) (body : List ℕ) (old new : List MemberSpan) (text : Option (Vec ℕ Global)) (t : Vec ℕ Global)
     → text ≡ Some t → (es : List JsonMember) → SpansMatch body old es → SpansNormalized a body old new text
     → SpansMatchNormalized a es t.items new
 normalized_anew a body old new text t is es stand h =
     subst (λ o. MatchOption o (SpansMatchNormalized a es body new) (λ u. SpansMatchNormalized a es u.items new)) is (h es stand)
 
-pub stays_normalized : (a : Arrangement) (body : List ℕ) (old new : List MemberSpan) (text : Option (Vec ℕ Global))
+pub stays_normalized : (a : KeyOrder) (body : List ℕ) (old new : List MemberSpan) (text : Option (Vec ℕ Global))
     → ((t : Vec ℕ Global) → text ≡ Some t → ⊥) → (es : List JsonMember) → SpansMatch body old es → SpansNormalized a body old new text
     → SpansMatchNormalized a es body new
 stays_normalized a body old new text none es stand h =

@@ -18,7 +18,7 @@ use Rattle.std.specs.Str.{bytes_eq}
 use Rattle.json.specs.Json.{Json, null}
 use Rattle.bson_model.specs.StableOrder.{IsStableByKey, have_equal_keys}
 use Rattle.bson_tokens.specs.PutMembers.{PositionsAscend, members_of}
-use Rattle.bson_tokens.specs.declared.arrangement.Arrangement.TheVariants.{FirstPositions}
+use Rattle.bson_model.specs.declared.options.KeyOrder.TheVariants.{AsGiven}
 use Rattle.bson_tokens.proofs.Normalizing.{cmp, AreBehind, IsNormalized}
 use Rattle.bson_tokens.proofs.MemberSpans.{same_key, own_key, turned}
 use Rattle.bson_tokens.proofs.Settled.{NoneLower, Sorted, sorted_from, all_behind, differ_permuted}
@@ -47,10 +47,10 @@ module _ {M : Type 0} (key_of : M → List ℕ) (place_of : M → ℕ) where
   nothing m = null
 
   abbrev Differ : List M → Type 0
-  Differ ms = IsNormalized FirstPositions (members_of mark nothing ms)
+  Differ ms = IsNormalized AsGiven (members_of mark nothing ms)
 
   abbrev AreApart : List ℕ → List M → Type 0
-  AreApart q ms = AreBehind FirstPositions q (members_of mark nothing ms)
+  AreApart q ms = AreBehind AsGiven q (members_of mark nothing ms)
 
   abbrev pick : List ℕ → List M → Option M
   pick q [] = None

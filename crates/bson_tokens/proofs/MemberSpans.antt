@@ -9,7 +9,7 @@ use Rattle.json.specs.Json.{Json, Members, member}
 use Rattle.bson_tokens.specs.Normalized.{put_at_first_position}
 use Rattle.bson_model.specs.StableOrder.{IsStableByKey}
 use Rattle.bson_tokens.specs.PutMembers.{PositionsAscend, members_of, put_all_members, merged, merged_from}
-use Rattle.bson_tokens.specs.declared.arrangement.Arrangement.TheVariants.{FirstPositions}
+use Rattle.bson_model.specs.declared.options.KeyOrder.TheVariants.{AsGiven}
 use Rattle.bson_tokens.proofs.Normalizing.{AreBehind, IsNormalized}
 
 pub same_key : (k l : List ℕ) → bytes_eq k l ≡ true → k ≡ l
@@ -131,14 +131,14 @@ module _ {M : Type 0} (key_of : M → List ℕ) (place_of : M → ℕ) (value_of
   -- ---- each key occurs once
 
   abbrev pub DifferByKey : List M → Type 0
-  DifferByKey ms = IsNormalized FirstPositions (members_of key_of value_of ms)
+  DifferByKey ms = IsNormalized AsGiven (members_of key_of value_of ms)
 
-  none_at : (q : List ℕ) (ms : List M) → AreBehind FirstPositions q (members_of key_of value_of ms) → seen q ms ≡ None
+  none_at : (q : List ℕ) (ms : List M) → AreBehind AsGiven q (members_of key_of value_of ms) → seen q ms ≡ None
   none_at q [] are = refl
   none_at q (m ∷ ms) are = rw (turned q (key_of m) are.0) (none_at q ms are.1)
 
   first_is_at : (b : Bool) (q : List ℕ) (m : M) (ms : List M) → bytes_eq q (key_of m) ≡ b
-      → AreBehind FirstPositions (key_of m) (members_of key_of value_of ms) → first q ms ≡ seen q ms
+      → AreBehind AsGiven (key_of m) (members_of key_of value_of ms) → first q ms ≡ seen q ms
       → first q (m ∷ ms) ≡ seen q (m ∷ ms)
   first_is_at true q m ms h are is =
       let none : seen q ms ≡ None =
@@ -199,10 +199,10 @@ module _ {M : Type 0} (key_of : M → List ℕ) (place_of : M → ℕ) (value_of
     one_member m (n ∷ ns) = one_member_at (bytes_eq (key_of m) (key_of n)) m n ns (one_member m ns)
 
     pub all_members : (ms found : List M)
-        → members (put_all ms found) ≡ put_all_members key_of value_of FirstPositions ms (members found)
+        → members (put_all ms found) ≡ put_all_members key_of value_of AsGiven ms (members found)
     all_members [] found = refl
     all_members (m ∷ ms) found =
-        all_members ms (put_one m found) ∙ ap (put_all_members key_of value_of FirstPositions ms) (one_member m found)
+        all_members ms (put_one m found) ∙ ap (put_all_members key_of value_of AsGiven ms) (one_member m found)
 
     same_at_key : (b : Bool) (q : List ℕ) (m n : M) (ns : List M) → bytes_eq q (key_of n) ≡ b → key_of m ≡ key_of n
         → first q (merge n m ∷ ns) ≡ after (first q (n ∷ ns)) (member_path q m)

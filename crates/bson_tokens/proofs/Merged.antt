@@ -12,8 +12,8 @@ use Rattle.json.specs.Json.{Json, Members, no_members, member}
 use Rattle.bson_model.specs.StableOrder.{IsStableByKey}
 use Rattle.bson_tokens.specs.Normalized.{put_ascending, put_member}
 use Rattle.bson_tokens.specs.PutMembers.{PositionsAscend, members_of, put_all_members, merged, merged_from}
-use Rattle.bson_tokens.specs.declared.arrangement.Arrangement.{Arrangement}
-use Rattle.bson_tokens.specs.declared.arrangement.Arrangement.TheVariants.{FirstPositions, Ascending}
+use Rattle.bson_model.specs.declared.options.KeyOrder.{KeyOrder}
+use Rattle.bson_model.specs.declared.options.KeyOrder.TheVariants.{AsGiven, Ascending}
 use Rattle.bson_tokens.proofs.Normalizing.{cmp, flipped, AreBehind, IsNormalized, put_stays}
 use Rattle.bson_tokens.proofs.MemberSpans.{same_key, own_key, turned, entry, after, seen, first, seen_stable}
 use Rattle.bson_tokens.proofs.MemberSpans.{seen_merged, first_is_seen, put_all, all_members, first_put_all, rising_all}
@@ -180,7 +180,7 @@ module _ {M : Type 0} (key_of : M → List ℕ) (place_of : M → ℕ) (value_of
   first_value q (m ∷ ms) =
       first_value_at (bytes_eq q (key_of m)) (entry key_of place_of value_of m) _ _ (first_value q ms)
 
-  puts_normalize : (a : Arrangement) (ms : List M) (found : Members) → IsNormalized a found
+  puts_normalize : (a : KeyOrder) (ms : List M) (found : Members) → IsNormalized a found
       → IsNormalized a (put_all_members key_of value_of a ms found)
   puts_normalize a [] found are = are
   puts_normalize a (m ∷ ms) found are =
@@ -246,7 +246,7 @@ module _ {M : Type 0} (key_of : M → List ℕ) (place_of : M → ℕ) (value_of
       pub ascends : IsNormalized Ascending (members all)
       ascends = merged_ascends ys up
 
-      differ : IsNormalized FirstPositions (members all)
+      differ : IsNormalized AsGiven (members all)
       differ = normalized_either Ascending (members all) ascends
 
       same_seen : (q : List ℕ) → first key_of place_of value_of q all ≡ place_and_value q xs
@@ -265,13 +265,13 @@ module _ {M : Type 0} (key_of : M → List ℕ) (place_of : M → ℕ) (value_of
 
       -- at the first places
       pub settled_by_place : (zs : List M) (lowest : ℕ) → PositionsAscend place_of lowest xs → IsPermutation all zs
-          → IsSortedByKey place_of nat_cmp zs → members zs ≡ put_all_members key_of value_of FirstPositions xs no_members
+          → IsSortedByKey place_of nat_cmp zs → members zs ≡ put_all_members key_of value_of AsGiven xs no_members
       settled_by_place zs lowest rise same places =
           let firsts = put_all key_of place_of value_of merge merge_key merge_place merge_value xs [] in
-          let are : members firsts ≡ put_all_members key_of value_of FirstPositions xs no_members =
+          let are : members firsts ≡ put_all_members key_of value_of AsGiven xs no_members =
           all_members key_of place_of value_of merge merge_key merge_place merge_value xs [] in
-          let apart_firsts : IsNormalized FirstPositions (members firsts) =
-          subst (IsNormalized FirstPositions) (sym are) (puts_normalize FirstPositions xs no_members tt) in
+          let apart_firsts : IsNormalized AsGiven (members firsts) =
+          subst (IsNormalized AsGiven) (sym are) (puts_normalize AsGiven xs no_members tt) in
           sym (same_lists key_of place_of value_of firsts zs
           (rising_all key_of place_of value_of merge merge_key merge_place merge_value lowest xs [] rise tt tt)
           (sorted_from by_place zs (sorted_far by_place (ranks_by nat_cmp_total place_of) zs places))

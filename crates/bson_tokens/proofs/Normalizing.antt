@@ -9,8 +9,8 @@ use Rattle.std.specs.Str.{bytes_eq}
 use Rattle.json.specs.Json.{Json, Members}
 use Rattle.json.specs.Json.{no_members, member}
 use Rattle.bson_tokens.specs.Normalized.{put_at_first_position, put_ascending, put_member, normalized, normalized_members}
-use Rattle.bson_tokens.specs.declared.arrangement.Arrangement.{Arrangement}
-use Rattle.bson_tokens.specs.declared.arrangement.Arrangement.TheVariants.{FirstPositions, Ascending}
+use Rattle.bson_model.specs.declared.options.KeyOrder.{KeyOrder}
+use Rattle.bson_model.specs.declared.options.KeyOrder.TheVariants.{AsGiven, Ascending}
 
 abbrev pub cmp : List ℕ → List ℕ → Ordering
 cmp = slice_cmp nat_cmp
@@ -18,24 +18,24 @@ cmp = slice_cmp nat_cmp
 -- ---- how keys are ordered
 
 -- a member of the key l is inserted after one of the key k
-abbrev pub IsBehind : Arrangement → List ℕ → List ℕ → Type 0
-IsBehind FirstPositions k l = bytes_eq l k ≡ false
+abbrev pub IsBehind : KeyOrder → List ℕ → List ℕ → Type 0
+IsBehind AsGiven k l = bytes_eq l k ≡ false
 IsBehind Ascending k l = cmp l k ≡ Greater
 
 -- each member follows k
-abbrev pub AreBehind : Arrangement → List ℕ → Members → Type 0
+abbrev pub AreBehind : KeyOrder → List ℕ → Members → Type 0
 AreBehind a k no_members = Unit {0}
 AreBehind a k (member l j ms) = IsBehind a k l × AreBehind a k ms
 
 -- each key occurs once, and in its place
-abbrev pub IsNormalized : Arrangement → Members → Type 0
+abbrev pub IsNormalized : KeyOrder → Members → Type 0
 IsNormalized a no_members = Unit {0}
 IsNormalized a (member k j ms) = AreBehind a k ms × IsNormalized a ms
 
 -- what is inserted after a member leaves it where it is
-pub put_behind : (a : Arrangement) (k l : List ℕ) (i j : Json) (ms : Members) → IsBehind a k l
+pub put_behind : (a : KeyOrder) (k l : List ℕ) (i j : Json) (ms : Members) → IsBehind a k l
     → put_member a l j (member k i ms) ≡ member k i (put_member a l j ms)
-put_behind FirstPositions k l i j ms h = rw h refl
+put_behind AsGiven k l i j ms h = rw h refl
 put_behind Ascending k l i j ms h = rw h refl
 
 -- ---- what is inserted stays normalized
@@ -43,14 +43,14 @@ put_behind Ascending k l i j ms h = rw h refl
 same_key : (k l : List ℕ) → bytes_eq k l ≡ true → k ≡ l
 same_key k l h = (bytes_eq-Decides k l).0 h
 
-behind_first_at : (b : Bool) (k l c : List ℕ) (j i : Json) (ms : Members) → IsBehind FirstPositions k l
-    → AreBehind FirstPositions k (member c i ms) → AreBehind FirstPositions k (put_at_first_position l j ms)
-    → AreBehind FirstPositions k (cond b (member c j ms) (member c i (put_at_first_position l j ms)))
+behind_first_at : (b : Bool) (k l c : List ℕ) (j i : Json) (ms : Members) → IsBehind AsGiven k l
+    → AreBehind AsGiven k (member c i ms) → AreBehind AsGiven k (put_at_first_position l j ms)
+    → AreBehind AsGiven k (cond b (member c j ms) (member c i (put_at_first_position l j ms)))
 behind_first_at true k l c j i ms new were is = were
 behind_first_at false k l c j i ms new were is = (were.0, is)
 
-behind_first : (k l : List ℕ) (j : Json) (ms : Members) → IsBehind FirstPositions k l → AreBehind FirstPositions k ms
-    → AreBehind FirstPositions k (put_at_first_position l j ms)
+behind_first : (k l : List ℕ) (j : Json) (ms : Members) → IsBehind AsGiven k l → AreBehind AsGiven k ms
+    → AreBehind AsGiven k (put_at_first_position l j ms)
 behind_first k l j no_members new were = (new, tt)
 behind_first k l j (member c i ms) new were =
     behind_first_at (bytes_eq l c) k l c j i ms new were (behind_first k l j ms new were.1)
@@ -70,13 +70,13 @@ behind_ascending k l j (member c i ms) new were =
     behind_ascending_at (cmp l c) k l c j i ms new were (behind_ascending k l j ms new were.1)
 
 first_at : (b : Bool) (k c : List ℕ) (j i : Json) (ms : Members) → bytes_eq k c ≡ b
-    → IsNormalized FirstPositions (member c i ms) → IsNormalized FirstPositions (put_at_first_position k j ms)
-    → IsNormalized FirstPositions (cond b (member c j ms) (member c i (put_at_first_position k j ms)))
+    → IsNormalized AsGiven (member c i ms) → IsNormalized AsGiven (put_at_first_position k j ms)
+    → IsNormalized AsGiven (cond b (member c j ms) (member c i (put_at_first_position k j ms)))
 first_at true k c j i ms h were is = were
 first_at false k c j i ms h were is = (behind_first c k j ms h were.0, is)
 
-put_first_stays : (k : List ℕ) (j : Json) (ms : Members) → IsNormalized FirstPositions ms
-    → IsNormalized FirstPositions (put_at_first_position k j ms)
+put_first_stays : (k : List ℕ) (j : Json) (ms : Members) → IsNormalized AsGiven ms
+    → IsNormalized AsGiven (put_at_first_position k j ms)
 put_first_stays k j no_members were = (tt, tt)
 put_first_stays k j (member c i ms) were =
     first_at (bytes_eq k c) k c j i ms refl were (put_first_stays k j ms were.1)
@@ -104,13 +104,13 @@ put_ascending_stays k j no_members were = (tt, tt)
 put_ascending_stays k j (member c i ms) were =
     ascending_at (cmp k c) k c j i ms refl were (put_ascending_stays k j ms were.1)
 
-pub put_stays : (a : Arrangement) (k : List ℕ) (j : Json) (ms : Members) → IsNormalized a ms
+pub put_stays : (a : KeyOrder) (k : List ℕ) (j : Json) (ms : Members) → IsNormalized a ms
     → IsNormalized a (put_member a k j ms)
-put_stays FirstPositions = put_first_stays
+put_stays AsGiven = put_first_stays
 put_stays Ascending = put_ascending_stays
 
 -- members are normalized after those that are
-pub all_normalized : (a : Arrangement) (ms found : Members) → IsNormalized a found
+pub all_normalized : (a : KeyOrder) (ms found : Members) → IsNormalized a found
     → IsNormalized a (normalized_members a ms found)
 all_normalized a no_members found were = were
 all_normalized a (member k j ms) found were =
@@ -145,6 +145,6 @@ module _ (P : Json → Type 0) where
   each_ascending k j (member c i ms) new are =
       each_ascending_at (cmp k c) k c j i ms (put_ascending k j ms) new are.0 are.1 (each_ascending k j ms new are.1)
 
-  pub each_put : (a : Arrangement) (k : List ℕ) (j : Json) (ms : Members) → P j → Each ms → Each (put_member a k j ms)
-  each_put FirstPositions = each_first
+  pub each_put : (a : KeyOrder) (k : List ℕ) (j : Json) (ms : Members) → P j → Each ms → Each (put_member a k j ms)
+  each_put AsGiven = each_first
   each_put Ascending = each_ascending

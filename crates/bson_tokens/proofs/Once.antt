@@ -8,27 +8,27 @@ use Rattle.json.specs.Json.{Json, null, boolean, number, string, array, object, 
 use Rattle.json.specs.Json.{no_members, member}
 use Rattle.json.specs.Strict.{keys, AreDistinct, HasUniqueKeys, ItemsHaveUniqueKeys, MembersHaveUniqueKeys}
 use Rattle.bson_tokens.specs.Normalized.{put_member, normalized, normalized_items, normalized_members}
-use Rattle.bson_tokens.specs.declared.arrangement.Arrangement.{Arrangement}
-use Rattle.bson_tokens.specs.declared.arrangement.Arrangement.TheVariants.{FirstPositions, Ascending}
+use Rattle.bson_model.specs.declared.options.KeyOrder.{KeyOrder}
+use Rattle.bson_model.specs.declared.options.KeyOrder.TheVariants.{AsGiven, Ascending}
 use Rattle.bson_tokens.proofs.Normalizing.{cmp, IsBehind, AreBehind, IsNormalized, put_behind, all_normalized, Each}
 use Rattle.bson_tokens.proofs.Normalizing.{each_put}
 use Rattle.bson_tokens.proofs.Keys.{apart}
 
 -- ---- each key once
 
-pub other_key : (a : Arrangement) (k l : List ℕ) → IsBehind a k l → k ≢ l
-other_key FirstPositions k l h e = apart l k h (sym e)
+pub other_key : (a : KeyOrder) (k l : List ℕ) → IsBehind a k l → k ≢ l
+other_key AsGiven k l h e = apart l k h (sym e)
 other_key Ascending k l h e =
     let s : cmp k k ≡ Equal = tied_itself nat_list_cmp_total k in
     let f : cmp k k ≡ Greater = subst (λ x. cmp x k ≡ Greater) (sym e) h in
     cc
 
-other_keys : (a : Arrangement) (k : List ℕ) (ms : Members) → AreBehind a k ms → All (λ l. k ≢ l) (keys ms)
+other_keys : (a : KeyOrder) (k : List ℕ) (ms : Members) → AreBehind a k ms → All (λ l. k ≢ l) (keys ms)
 other_keys a k no_members are = λ i d less. absurd (omega (arith, less))
 other_keys a k (member l j ms) are =
     All-cons (λ l. k ≢ l) l (keys ms) (other_key a k l are.0) (other_keys a k ms are.1)
 
-pub distinct : (a : Arrangement) (ms : Members) → IsNormalized a ms → AreDistinct (keys ms)
+pub distinct : (a : KeyOrder) (ms : Members) → IsNormalized a ms → AreDistinct (keys ms)
 distinct a no_members are = λ i j d less within. absurd (omega (arith, within))
 distinct a (member k j ms) are =
     AllPairs-cons (λ a b. a ≢ b) k (keys ms) (other_keys a k ms are.0) (distinct a ms are.1)
@@ -38,7 +38,7 @@ each_unique no_members are = tt
 each_unique (member k j ms) are = (are.0, each_unique ms are.1)
 
 mutual
-  pub unique : (a : Arrangement) (j : Json) → HasUniqueKeys (normalized a j)
+  pub unique : (a : KeyOrder) (j : Json) → HasUniqueKeys (normalized a j)
   unique a null = tt
   unique a (boolean b) = tt
   unique a (number s) = tt
@@ -49,11 +49,11 @@ mutual
     members_unique a ms no_members tt,
   )
 
-  items_unique : (a : Arrangement) (js : Items) → ItemsHaveUniqueKeys (normalized_items a js)
+  items_unique : (a : KeyOrder) (js : Items) → ItemsHaveUniqueKeys (normalized_items a js)
   items_unique a no_items = tt
   items_unique a (item j js) = (unique a j, items_unique a js)
 
-  members_unique : (a : Arrangement) (ms found : Members) → Each HasUniqueKeys found
+  members_unique : (a : KeyOrder) (ms found : Members) → Each HasUniqueKeys found
       → MembersHaveUniqueKeys (normalized_members a ms found)
   members_unique a no_members found are = each_unique found are
   members_unique a (member k j ms) found are =
@@ -62,15 +62,15 @@ mutual
 
 -- ---- again
 
-abbrev pub IsObjectNormalized : Arrangement → Json → Type 0
+abbrev pub IsObjectNormalized : KeyOrder → Json → Type 0
 IsObjectNormalized a j = normalized a j ≡ j
 
-pub put_none : (a : Arrangement) (k : List ℕ) (j : Json) → put_member a k j no_members ≡ member k j no_members
-put_none FirstPositions k j = refl
+pub put_none : (a : KeyOrder) (k : List ℕ) (j : Json) → put_member a k j no_members ≡ member k j no_members
+put_none AsGiven k j = refl
 put_none Ascending k j = refl
 
 -- members that follow k are normalized after it
-pub normalized_behind : (a : Arrangement) (k : List ℕ) (i : Json) (ms found : Members) → AreBehind a k ms
+pub normalized_behind : (a : KeyOrder) (k : List ℕ) (i : Json) (ms found : Members) → AreBehind a k ms
     → normalized_members a ms (member k i found) ≡ member k i (normalized_members a ms found)
 normalized_behind a k i no_members found are = refl
 normalized_behind a k i (member l j ms) found are =
@@ -78,7 +78,7 @@ normalized_behind a k i (member l j ms) found are =
     ∙ normalized_behind a k i ms (put_member a l (normalized a j) found) are.1
 
 -- what is normalized is normalized unchanged
-pub settled : (a : Arrangement) (ms : Members) → IsNormalized a ms → Each (IsObjectNormalized a) ms
+pub settled : (a : KeyOrder) (ms : Members) → IsNormalized a ms → Each (IsObjectNormalized a) ms
     → normalized_members a ms no_members ≡ ms
 settled a no_members are each = refl
 settled a (member k j ms) are each =
@@ -87,7 +87,7 @@ settled a (member k j ms) are each =
     ∙ ap₂ (member k) each.0 (settled a ms are.1 each.1)
 
 mutual
-  pub twice : (a : Arrangement) (j : Json) → normalized a (normalized a j) ≡ normalized a j
+  pub twice : (a : KeyOrder) (j : Json) → normalized a (normalized a j) ≡ normalized a j
   twice a null = refl
   twice a (boolean b) = refl
   twice a (number s) = refl
@@ -97,11 +97,11 @@ mutual
       ap object (settled a (normalized_members a ms no_members) (all_normalized a ms no_members tt)
       (each_settled a ms no_members tt))
 
-  items_twice : (a : Arrangement) (js : Items) → normalized_items a (normalized_items a js) ≡ normalized_items a js
+  items_twice : (a : KeyOrder) (js : Items) → normalized_items a (normalized_items a js) ≡ normalized_items a js
   items_twice a no_items = refl
   items_twice a (item j js) = ap₂ item (twice a j) (items_twice a js)
 
-  each_settled : (a : Arrangement) (ms found : Members) → Each (IsObjectNormalized a) found
+  each_settled : (a : KeyOrder) (ms found : Members) → Each (IsObjectNormalized a) found
       → Each (IsObjectNormalized a) (normalized_members a ms found)
   each_settled a no_members found are = are
   each_settled a (member k j ms) found are =

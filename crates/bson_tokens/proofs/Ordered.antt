@@ -13,8 +13,8 @@ use Rattle.bson_tokens.specs.NormalizerStates.{AreSpansOrdered, AreSpansArranged
 use Rattle.bson_tokens.specs.NormalizerStates.{json_entry_key, entry_members, json_entry_value, member_text, member_span_key, span_value}
 use Rattle.bson_tokens.specs.NormalizerStates.{has_entries}
 use Rattle.bson_tokens.specs.PutMembers.{members_of, merged, merged_from, put_all_members}
-use Rattle.bson_tokens.specs.declared.arrangement.Arrangement.{Arrangement}
-use Rattle.bson_tokens.specs.declared.arrangement.Arrangement.TheVariants.{FirstPositions, Ascending}
+use Rattle.bson_model.specs.declared.options.KeyOrder.{KeyOrder}
+use Rattle.bson_model.specs.declared.options.KeyOrder.TheVariants.{AsGiven, Ascending}
 use Rattle.bson_tokens.specs.declared.member_order.MemberSpan.{MemberSpan}
 
 module _ (P : MemberSpan → Type 0) (joins : (p q : MemberSpan) → member_span_key q ≡ member_span_key p → P q → P (merge p q)) where
@@ -36,21 +36,21 @@ module _ (P : MemberSpan → Type 0) (joins : (p q : MemberSpan) → member_span
   all_merged [] all = all
   all_merged (p ∷ ps) all = all_from p ps (All-head P p ps all) (All-tail P p ps all)
 
-  all_placed : (a : Arrangement) (ms zs : List MemberSpan) → AreSpansArranged a ms zs → All P ms → All P zs
-  all_placed FirstPositions ms zs placed all = All-permutation P ms zs placed.0 all
+  all_placed : (a : KeyOrder) (ms zs : List MemberSpan) → AreSpansArranged a ms zs → All P ms → All P zs
+  all_placed AsGiven ms zs placed all = All-permutation P ms zs placed.0 all
   all_placed Ascending ms zs placed all = subst (All P) (sym placed) all
 
   -- what holds of each and of what is merged of two holds of each in order
-  pub all_ordered : (a : Arrangement) (xs zs : List MemberSpan) → AreSpansOrdered a xs zs → All P xs → All P zs
+  pub all_ordered : (a : KeyOrder) (xs zs : List MemberSpan) → AreSpansOrdered a xs zs → All P xs → All P zs
   all_ordered a xs zs o all =
       all_placed a (merged member_span_key merge o.sorted_spans) zs o.placed
       (all_merged o.sorted_spans (All-permutation P xs o.sorted_spans o.same all))
 
-pub all_within : (body : List ℕ) (a : Arrangement) (xs zs : List MemberSpan) → AreSpansOrdered a xs zs → All (IsMemberSpanWithin body) xs
+pub all_within : (body : List ℕ) (a : KeyOrder) (xs zs : List MemberSpan) → AreSpansOrdered a xs zs → All (IsMemberSpanWithin body) xs
     → All (IsMemberSpanWithin body) zs
 all_within body a xs zs o all = all_ordered (IsMemberSpanWithin body) (λ p q same within. within) a xs zs o all
 
-pub all_spans : (body : List ℕ) (values : MemberSpanValues) (a : Arrangement) (xs zs : List MemberSpan) → AreSpansOrdered a xs zs
+pub all_spans : (body : List ℕ) (values : MemberSpanValues) (a : KeyOrder) (xs zs : List MemberSpan) → AreSpansOrdered a xs zs
     → All (IsMemberSpanOf body values) xs → All (IsMemberSpanOf body values) zs
 all_spans body values a xs zs o all =
     all_ordered (IsMemberSpanOf body values)
@@ -63,7 +63,7 @@ pub as_entries : (values : MemberSpanValues) (ps : List MemberSpan)
 as_entries values [] = refl
 as_entries values (p ∷ ps) = ap (member (member_span_key p) (values p.start)) (as_entries values ps)
 
-pub put_as_entries : (values : MemberSpanValues) (a : Arrangement) (ps : List MemberSpan) (found : Members)
+pub put_as_entries : (values : MemberSpanValues) (a : KeyOrder) (ps : List MemberSpan) (found : Members)
     → put_all_members json_entry_key json_entry_value a (map (entry_at values) ps) found
     ≡ put_all_members member_span_key (span_value values) a ps found
 put_as_entries values a [] found = refl

@@ -15,8 +15,8 @@ use Rattle.json.specs.Json.{Json, Members, no_members, member}
 use Rattle.json.specs.Strict.{keys}
 use Rattle.bson_model.specs.DuplicateKeys.{without_key, first_occurrences}
 use Rattle.bson_tokens.specs.Normalized.{put_at_first_position, put_member, normalized, normalized_members}
-use Rattle.bson_tokens.specs.declared.arrangement.Arrangement.{Arrangement}
-use Rattle.bson_tokens.specs.declared.arrangement.Arrangement.TheVariants.{FirstPositions, Ascending}
+use Rattle.bson_model.specs.declared.options.KeyOrder.{KeyOrder}
+use Rattle.bson_model.specs.declared.options.KeyOrder.TheVariants.{AsGiven, Ascending}
 use Rattle.bson_tokens.proofs.Normalizing.{cmp, flipped, AreBehind, IsNormalized, all_normalized}
 use Rattle.bson_tokens.proofs.Merged.{value_at, value_put, again, apart}
 use Rattle.bson_tokens.proofs.MemberSpans.{same_key}
@@ -41,11 +41,11 @@ keys_put : (k : List ℕ) (j : Json) (ms : Members) → keys (put_at_first_posit
 keys_put k j no_members = refl
 keys_put k j (member l i ms) = keys_put_at (bytes_eq k l) k l j i ms (keys_put k j ms)
 
-keys_normalized : (ms found : Members) → keys (normalized_members FirstPositions ms found) ≡ put_keys (keys ms) (keys found)
+keys_normalized : (ms found : Members) → keys (normalized_members AsGiven ms found) ≡ put_keys (keys ms) (keys found)
 keys_normalized no_members found = refl
 keys_normalized (member k j ms) found =
-    keys_normalized ms (put_at_first_position k (normalized FirstPositions j) found)
-    ∙ ap (put_keys (keys ms)) (keys_put k (normalized FirstPositions j) found)
+    keys_normalized ms (put_at_first_position k (normalized AsGiven j) found)
+    ∙ ap (put_keys (keys ms)) (keys_put k (normalized AsGiven j) found)
 
 abbrev stands : List ℕ → List (List ℕ) → Bool
 stands k ks = list_any (bytes_eq k) ks
@@ -129,7 +129,7 @@ all_new : (ks : List (List ℕ)) → new [] ks ≡ ks
 all_new [] = refl
 all_new (k ∷ ks) = ap (λ x. k ∷ x) (all_new ks)
 
-pub at_first_places : (ms : Members) → keys (normalized_members FirstPositions ms no_members) ≡ first_occurrences (keys ms)
+pub at_first_places : (ms : Members) → keys (normalized_members AsGiven ms no_members) ≡ first_occurrences (keys ms)
 at_first_places ms = keys_normalized ms no_members ∙ put_places (keys ms) [] ∙ all_new (first_occurrences (keys ms))
 
 -- ---- by ascending key
@@ -167,21 +167,21 @@ first_at false q k l j i ms h is =
     ap (cond (bytes_eq q l) (Some i)) is
     ∙ apart (bytes_eq q k) (bytes_eq q l) (Some j) (Some i) (value_at q ms) (differs_at (bytes_eq q k) q k l refl h)
 
-value_put_by : (a : Arrangement) (q k : List ℕ) (j : Json) (ms : Members)
+value_put_by : (a : KeyOrder) (q k : List ℕ) (j : Json) (ms : Members)
     → value_at q (put_member a k j ms) ≡ cond (bytes_eq q k) (Some j) (value_at q ms)
 value_put_by Ascending q k j ms = value_put q k j ms
-value_put_by FirstPositions q k j no_members = refl
-value_put_by FirstPositions q k j (member l i ms) =
-    first_at (bytes_eq k l) q k l j i ms refl (value_put_by FirstPositions q k j ms)
+value_put_by AsGiven q k j no_members = refl
+value_put_by AsGiven q k j (member l i ms) =
+    first_at (bytes_eq k l) q k l j i ms refl (value_put_by AsGiven q k j ms)
 
-last_at : (a : Arrangement) (o : Option Json) (b c : Bool) (j : Json) (v : Option Json) → b ≡ c
+last_at : (a : KeyOrder) (o : Option Json) (b c : Bool) (j : Json) (v : Option Json) → b ≡ c
     → later_or (option_map (normalized a) o) (cond b (Some (normalized a j)) v)
     ≡ later_or (option_map (normalized a) (later_or o (cond c (Some j) None))) v
 last_at a (Some i) b c j v h = refl
 last_at a None true c j v h = rw (← h) refl
 last_at a None false c j v h = rw (← h) refl
 
-value_normalized : (a : Arrangement) (q : List ℕ) (ms found : Members)
+value_normalized : (a : KeyOrder) (q : List ℕ) (ms found : Members)
     → value_at q (normalized_members a ms found) ≡ later_or (option_map (normalized a) (get_member q ms)) (value_at q found)
 value_normalized a q no_members found = refl
 value_normalized a q (member k j ms) found =
@@ -189,7 +189,7 @@ value_normalized a q (member k j ms) found =
     ∙ ap (later_or (option_map (normalized a) (get_member q ms))) (value_put_by a q k (normalized a j) found)
     ∙ last_at a (get_member q ms) (bytes_eq q k) (bytes_eq k q) j (value_at q found) (nat_list_eq_equiv.symm q k)
 
-none_behind : (q : List ℕ) (ms : Members) → AreBehind FirstPositions q ms → get_member q ms ≡ None
+none_behind : (q : List ℕ) (ms : Members) → AreBehind AsGiven q ms → get_member q ms ≡ None
 none_behind q no_members are = refl
 none_behind q (member k j ms) are = rw (none_behind q ms are.1, are.0) refl
 
@@ -197,7 +197,7 @@ or_none : (o : Option Json) → later_or o None ≡ o
 or_none None = refl
 or_none (Some j) = refl
 
-one_value_at : (b : Bool) (q k : List ℕ) (j : Json) (ms : Members) → bytes_eq q k ≡ b → AreBehind FirstPositions k ms
+one_value_at : (b : Bool) (q k : List ℕ) (j : Json) (ms : Members) → bytes_eq q k ≡ b → AreBehind AsGiven k ms
     → value_at q ms ≡ get_member q ms → value_at q (member k j ms) ≡ get_member q (member k j ms)
 one_value_at true q k j ms h are is =
     let none : get_member q ms ≡ None = ap (λ x. get_member x ms) (same_key q k h) ∙ none_behind k ms are in
@@ -207,11 +207,11 @@ one_value_at false q k j ms h are is =
     let turn : bytes_eq k q ≡ false = nat_list_eq_equiv.symm k q ∙ h in
     rw (h, turn) (is ∙ sym (or_none (get_member q ms)))
 
-one_value : (q : List ℕ) (ms : Members) → IsNormalized FirstPositions ms → value_at q ms ≡ get_member q ms
+one_value : (q : List ℕ) (ms : Members) → IsNormalized AsGiven ms → value_at q ms ≡ get_member q ms
 one_value q no_members are = refl
 one_value q (member k j ms) are = one_value_at (bytes_eq q k) q k j ms refl are.0 (one_value q ms are.1)
 
-pub with_last_values : (a : Arrangement) (ms : Members) (k : List ℕ)
+pub with_last_values : (a : KeyOrder) (ms : Members) (k : List ℕ)
     → get_member k (normalized_members a ms no_members) ≡ option_map (normalized a) (get_member k ms)
 with_last_values a ms k =
     let all = normalized_members a ms no_members in

@@ -4,7 +4,7 @@ use Rattle.std.specs.Prelude.{codes}
 use Rattle.json.specs.Json.{Json, null, boolean, number, array, object, no_items, item, no_members, member}
 use Rattle.serde_json.specs.Data.{unsigned}
 use Rattle.bson_tokens.specs.Normalized.{IsNormalizedText}
-use Rattle.bson_tokens.specs.declared.arrangement.Arrangement.TheVariants.{FirstPositions, Ascending}
+use Rattle.bson_model.specs.declared.options.KeyOrder.TheVariants.{AsGiven, Ascending}
 
 -- keys that occur twice, at two levels
 abbrev doubled : Json
@@ -17,7 +17,7 @@ doubled = object
 abbrev doubled_text : List ℕ
 doubled_text = codes "{\"b\":1, \"a\":{\"d\":true,\"c\":null,\"d\":false}, \"b\":[2]}"
 
-first_occurrences : IsNormalizedText FirstPositions doubled_text (codes "{\"b\":[2],\"a\":{\"d\":false,\"c\":null}}")
+first_occurrences : IsNormalizedText AsGiven doubled_text (codes "{\"b\":[2],\"a\":{\"d\":false,\"c\":null}}")
 unfolding Rattle.json.specs.Json.value
     Rattle.json.specs.Lex.punctuate Rattle.json.specs.Lex.lex Rattle.json.specs.Text.content
     Rattle.json.specs.Word.word Rattle.json.specs.Print.print_from Rattle.json.specs.Print.escape_byte
@@ -54,7 +54,7 @@ escaped = object
 abbrev escaped_text : List ℕ
 escaped_text = codes "{\"b\":null,\"aa\":false,\"\\u0061\":true,\"a\":null}"
 
-escaped_first_places : IsNormalizedText FirstPositions escaped_text (codes "{\"b\":null,\"aa\":false,\"a\":null}")
+escaped_first_places : IsNormalizedText AsGiven escaped_text (codes "{\"b\":null,\"aa\":false,\"a\":null}")
 unfolding Rattle.json.specs.Json.value
     Rattle.json.specs.Lex.punctuate Rattle.json.specs.Lex.lex Rattle.json.specs.Text.content
     Rattle.json.specs.Text.code_unit Rattle.json.specs.Word.word Rattle.json.specs.Print.print_from

@@ -15,7 +15,7 @@ use Rattle.std.specs.Ordering.{is_eq, is_lt}
 use Rattle.std.specs.Str.{bytes_eq}
 use Rattle.json.specs.Json.{Json, Members, member}
 use Rattle.bson_tokens.specs.PutMembers.{members_of}
-use Rattle.bson_tokens.specs.declared.arrangement.Arrangement.TheVariants.{FirstPositions}
+use Rattle.bson_model.specs.declared.options.KeyOrder.TheVariants.{AsGiven}
 use Rattle.bson_tokens.proofs.Normalizing.{cmp, flipped, AreBehind}
 use Rattle.bson_tokens.proofs.MemberSpans.{same_key, own_key, turned, entry, first, DifferByKey}
 use Rattle.bson_tokens.proofs.MemberSpans.{differ_by_key, AllAbove, Rising}
@@ -160,7 +160,7 @@ module _ {M : Type 0} (key_of : M → List ℕ) (place_of : M → ℕ) (value_of
   abbrev counts : List ℕ → M → ℕ
   counts q m = cond (bytes_eq q (key_of m)) 1 0
 
-  none_counted : (q : List ℕ) (ms : List M) → AreBehind FirstPositions q (members ms) → sum_by (counts q) ms ≡ 0
+  none_counted : (q : List ℕ) (ms : List M) → AreBehind AsGiven q (members ms) → sum_by (counts q) ms ≡ 0
   none_counted q [] are = refl
   none_counted q (m ∷ ms) are =
       let none : counts q m ≡ 0 = rw (turned q (key_of m) are.0) refl in
@@ -184,7 +184,7 @@ module _ {M : Type 0} (key_of : M → List ℕ) (place_of : M → ℕ) (value_of
   uncounted false h = refl
   uncounted true h = absurd (omega (arith, h))
 
-  behind_counted : (q : List ℕ) (ms : List M) → sum_by (counts q) ms ≡ 0 → AreBehind FirstPositions q (members ms)
+  behind_counted : (q : List ℕ) (ms : List M) → sum_by (counts q) ms ≡ 0 → AreBehind AsGiven q (members ms)
   behind_counted q [] h = tt
   behind_counted q (m ∷ ms) h =
       let s = sum_by-cons (counts q) m ms in (
@@ -207,7 +207,7 @@ module _ {M : Type 0} (key_of : M → List ℕ) (place_of : M → ℕ) (value_of
   abbrev IsIn : List M → M → Type 0
   IsIn ms n = found (key_of n) ms ≡ Some (value n)
 
-  pub all_behind : (k : List ℕ) (ms : List M) → AreBehind FirstPositions k (members ms)
+  pub all_behind : (k : List ℕ) (ms : List M) → AreBehind AsGiven k (members ms)
       → All (λ n. bytes_eq (key_of n) k ≡ false) ms
   all_behind k [] are = All-nil (λ n. bytes_eq (key_of n) k ≡ false)
   all_behind k (m ∷ ms) are = All-cons (λ n. bytes_eq (key_of n) k ≡ false) m ms are.0 (all_behind k ms are.1)

@@ -19,15 +19,15 @@ module _ (depth : ℕ) (all ts : List Token) where
   -- ---- a value of one token
 
   alone : (t : Token) (j : Json) (old new : Normalizer) → all ≡ t ∷ ts → value depth (t ∷ ts) ≡ Some (j, ts)
-      → all_numbers_in_range j ≡ true → ValueAppended old (normalized old.arrangement j) new
-      → ReadAndNormalized (if_valid all_numbers_in_range (value depth all)) (normalized old.arrangement) ts old new
+      → all_numbers_in_range j ≡ true → ValueAppended old (normalized old.key_order j) new
+      → ReadAndNormalized (if_valid all_numbers_in_range (value depth all)) (normalized old.key_order) ts old new
   alone t j old new is read fits added =
       (j, is_sound all_numbers_in_range (value depth all) j ts (ap (value depth) is ∙ read) fits, added)
 
   pub plain_passes : (t : found.Token) (old new : Normalizer) → all ≡ token_of t ∷ ts
       → ((s : Bor (List ℕ)) × (t ≡ String s)) ⊎ ((b : prelude.Bool) × (t ≡ Bool b)) ⊎ (t ≡ Null)
       → AppendedAfterComma old (print (token_of t ∷ [])) true new
-      → ReadAndNormalized (if_valid all_numbers_in_range (value depth all)) (normalized old.arrangement) ts old new
+      → ReadAndNormalized (if_valid all_numbers_in_range (value depth all)) (normalized old.key_order) ts old new
   plain_passes t old new is (inl (s, e)) added =
       alone (token.string s.now) (string s.now) old new (is ∙ ap (λ k. token_of k ∷ ts) e)
       (value_is depth (token.string s.now ∷ ts)) refl (subst (λ k. AppendedAfterComma old (print (token_of k ∷ [])) true new) e added)
@@ -39,7 +39,7 @@ module _ (depth : ℕ) (all ts : List Token) where
       (value_is depth (token.null ∷ ts)) refl (subst (λ k. AppendedAfterComma old (print (token_of k ∷ [])) true new) e added)
 
   pub number_passes : (s : List ℕ) (old new : Normalizer) → all ≡ token.number s ∷ ts → is_number_in_range s ≡ true
-      → ValueAppended old (number s) new → ReadAndNormalized (if_valid all_numbers_in_range (value depth all)) (normalized old.arrangement) ts old new
+      → ValueAppended old (number s) new → ReadAndNormalized (if_valid all_numbers_in_range (value depth all)) (normalized old.key_order) ts old new
   number_passes s old new is fits added =
       alone (token.number s) (number s) old new is (value_is depth (token.number s ∷ ts)) fits added
 
@@ -82,8 +82,8 @@ module _ (depth : ℕ) (all ts : List Token) where
   -- what was read of it is the value
   pub opened_passes : {A : Type 0} (wrap : A → Json) (part : Option (A × List Token)) (rest : List Token)
       (old new : Normalizer) → if_valid all_numbers_in_range (value depth all) ≡ parse_map wrap part
-      → ReadAndNormalized part (λ a. normalized old.arrangement (wrap a)) rest old new
-      → ReadAndNormalized (if_valid all_numbers_in_range (value depth all)) (normalized old.arrangement) rest old new
+      → ReadAndNormalized part (λ a. normalized old.key_order (wrap a)) rest old new
+      → ReadAndNormalized (if_valid all_numbers_in_range (value depth all)) (normalized old.key_order) rest old new
   opened_passes wrap part rest old new opened (a, read, added) =
       (wrap a, opened ∙ ap (parse_map wrap) read, added)
 

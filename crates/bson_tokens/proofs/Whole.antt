@@ -12,13 +12,13 @@ use Rattle.bson_tokens.specs.Normalized.{IsNormalizedText, normalized}
 use Rattle.bson_tokens.specs.NormalizerStates.{ReadAndNormalized, all_numbers_in_range, if_valid}
 use Rattle.bson_tokens.specs.DuplicateKeys.{json_of}
 use Rattle.bson_tokens.specs.declared.normalizer.Normalizer.{Normalizer}
-use Rattle.bson_tokens.specs.declared.arrangement.Arrangement.{Arrangement}
+use Rattle.bson_model.specs.declared.options.KeyOrder.{KeyOrder}
 use Rattle.bson_tokens.proofs.Again.{normalized_again}
 use Rattle.bson_tokens.proofs.Ranged.{has_numbers, was_sound}
 
-pub text_normalized : (a : Arrangement) (text out : List ℕ) (ts rest : List Token) (old new : Normalizer)
-    → ts ≡ tokens text → rest ≡ [] → old.arrangement ≡ a → old.needs_comma ≡ false → old.text.items ≡ []
-    → ReadAndNormalized (if_valid all_numbers_in_range (value 127 ts)) (normalized old.arrangement) rest old new → out ≡ new.text.items
+pub text_normalized : (a : KeyOrder) (text out : List ℕ) (ts rest : List Token) (old new : Normalizer)
+    → ts ≡ tokens text → rest ≡ [] → old.key_order ≡ a → old.needs_comma ≡ false → old.text.items ≡ []
+    → ReadAndNormalized (if_valid all_numbers_in_range (value 127 ts)) (normalized old.key_order) rest old new → out ≡ new.text.items
     → IsNormalizedText a text out
 text_normalized a text out ts rest old new start end mode first none (j, read, added) is =
     let was = was_sound all_numbers_in_range (value 127 ts) j rest read in
@@ -26,8 +26,8 @@ text_normalized a text out ts rest old new start end mode first none (j, read, a
     ap (λ us. option_and_then (λ p. if_last p.0 p.1) (value 127 us)) (sym start)
     ∙ ap (option_and_then (λ p. if_last p.0 p.1)) (was.0 ∙ ap (λ r. Some (j, r)) end) in
     let written : out ≡ print (json_tokens (normalized a j)) =
-    is ∙ added.text ∙ ap (λ l. l ++ (comma_if old.needs_comma ++ print (json_tokens (normalized old.arrangement j)))) none
-    ∙ ap (λ b. comma_if b ++ print (json_tokens (normalized old.arrangement j))) first
+    is ∙ added.text ∙ ap (λ l. l ++ (comma_if old.needs_comma ++ print (json_tokens (normalized old.key_order j)))) none
+    ∙ ap (λ b. comma_if b ++ print (json_tokens (normalized old.key_order j))) first
     ∙ ap (λ x. print (json_tokens (normalized x j))) mode in
     record {
       tree = j;

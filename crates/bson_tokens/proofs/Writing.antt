@@ -18,7 +18,7 @@ use Rattle.bson_tokens.specs.NormalizerStates.{json_entry_key, entry_members, js
 use Rattle.bson_tokens.specs.NormalizerStates.{all_numbers_in_range, item_numbers_in_range, member_numbers_in_range}
 use Rattle.bson_tokens.specs.PutMembers.{put_all_members}
 use Rattle.bson_tokens.specs.declared.normalizer.Normalizer.{Normalizer}
-use Rattle.bson_tokens.specs.declared.arrangement.Arrangement.{Arrangement}
+use Rattle.bson_model.specs.declared.options.KeyOrder.{KeyOrder}
 use Rattle.bson_tokens.proofs.Ranged.{is_sound, none_sound, sound_none, sound_under, was_sound}
 use Rattle.bson_tokens.proofs.Texts.{array_printed, no_more_items, object_printed, one_more_item, printed_items}
 use Rattle.bson_tokens.proofs.Rounds.{last_item, last_member, no_item, no_key, no_member, one_item, one_member}
@@ -48,17 +48,17 @@ shorter depth ts r j read = skip_value-shorter depth ts r (ap left (was_sound al
 
 -- the text with what is left, beside the tokens after it
 abbrev pub whole_at : Normalizer → Items × List Token → List ℕ × List Token
-whole_at w p = (w.text.items ++ printed_items w.needs_comma (normalized_items w.arrangement p.0), p.1)
+whole_at w p = (w.text.items ++ printed_items w.needs_comma (normalized_items w.key_order p.0), p.1)
 
 abbrev pub whole : Normalizer → Option (Items × List Token) → Option (List ℕ × List Token)
 whole w o = option_map (whole_at w) o
 
 item_behind : (j : Json) (now later : Normalizer) (o : Option (Items × List Token))
-    → AppendedAfterComma now (print (json_tokens (normalized now.arrangement j))) true later
+    → AppendedAfterComma now (print (json_tokens (normalized now.key_order j))) true later
     → whole now (parse_map (item j) o) ≡ whole later o
 item_behind j now later None added = refl
 item_behind j now later (Some (js, r)) added =
-    let a = now.arrangement in
+    let a = now.key_order in
     let s = print (json_tokens (normalized a j)) in
     let rest = normalized_items a js in
     let comma = comma_if now.needs_comma in
@@ -68,11 +68,11 @@ item_behind j now later (Some (js, r)) added =
     ∙ sym (append_assoc now.text.items (comma ++ s) (printed_items true rest))
     ∙ ap (λ l. l ++ printed_items true rest) (sym added.text)
     ∙ ap (λ b. later.text.items ++ printed_items b rest) (sym added.needs_comma)
-    ∙ ap (λ x. later.text.items ++ printed_items later.needs_comma (normalized_items x js)) (sym added.arrangement))
+    ∙ ap (λ x. later.text.items ++ printed_items later.needs_comma (normalized_items x js)) (sym added.key_order))
 
 pub item_passed : (depth : ℕ) (all : Option (List ℕ × List Token)) (ts r : List Token) (now later : Normalizer)
     → all ≡ whole now (if_valid item_numbers_in_range (array_rest depth ts)) → after_end_array ts ≡ None
-    → ReadAndNormalized (if_valid all_numbers_in_range (value depth ts)) (normalized now.arrangement) r now later
+    → ReadAndNormalized (if_valid all_numbers_in_range (value depth ts)) (normalized now.key_order) r now later
     → all ≡ whole later (if_valid item_numbers_in_range (array_rest depth r))
 item_passed depth all ts r now later so_far going (j, read, added) =
     let was = was_sound all_numbers_in_range (value depth ts) j r read in
@@ -83,23 +83,23 @@ item_passed depth all ts r now later so_far going (j, read, added) =
 pub items_passed : (depth : ℕ) (start ts r : List Token) (old begun now later : Normalizer)
     → AppendedAfterComma old (91 ∷ []) false begun
     → whole begun (if_valid item_numbers_in_range (array_rest depth start)) ≡ whole now (if_valid item_numbers_in_range (array_rest depth ts))
-    → now.arrangement ≡ begun.arrangement → after_end_array ts ≡ Some r → TextAppended now (93 ∷ []) true later
-    → ReadAndNormalized (if_valid item_numbers_in_range (array_rest depth start)) (λ js. normalized old.arrangement (array js)) r old later
+    → now.key_order ≡ begun.key_order → after_end_array ts ≡ Some r → TextAppended now (93 ∷ []) true later
+    → ReadAndNormalized (if_valid item_numbers_in_range (array_rest depth start)) (λ js. normalized old.key_order (array js)) r old later
 items_passed depth start ts r old begun now later begin so_far same ended close =
     let last = is_sound item_numbers_in_range (array_rest depth ts) no_items r (last_item depth ts r ended) refl in
     let end : whole begun (if_valid item_numbers_in_range (array_rest depth start)) ≡ Some (later.text.items, r) =
     so_far ∙ ap (whole now) last
     ∙ ap (λ l. Some (now.text.items ++ l, r)) (no_more_items now.needs_comma) ∙ ap (λ l. Some (l, r)) (sym close.text) in
     let (p, read, text) = came_from (whole_at begun) (if_valid item_numbers_in_range (array_rest depth start)) (later.text.items, r) end in
-    let js = normalized_items old.arrangement p.0 in
+    let js = normalized_items old.key_order p.0 in
     let comma = comma_if old.needs_comma in (
       p.0,
       read ∙ ap (λ t. Some (p.0, t)) (ap (λ q. q.1) text),
       record {
-        arrangement = close.arrangement ∙ same ∙ begin.arrangement;
+        key_order = close.key_order ∙ same ∙ begin.key_order;
         needs_comma = close.needs_comma;
         text = sym (ap (λ q. q.0) text)
-            ∙ ap (λ a. begun.text.items ++ printed_items begun.needs_comma (normalized_items a p.0)) begin.arrangement
+            ∙ ap (λ a. begun.text.items ++ printed_items begun.needs_comma (normalized_items a p.0)) begin.key_order
             ∙ ap (λ b. begun.text.items ++ printed_items b js) begin.needs_comma
             ∙ ap (λ l. l ++ printed_items false js) begin.text
             ∙ append_assoc old.text.items (comma ++ 91 ∷ []) (printed_items false js)
@@ -125,28 +125,28 @@ item_fails depth ts going none = fails_at (value depth ts) refl
 
 -- ---- objects
 
-abbrev pub found_at : Arrangement → List JsonMember → Members × List Token → Members × List Token
+abbrev pub found_at : KeyOrder → List JsonMember → Members × List Token → Members × List Token
 found_at a es p = (normalized_members a p.0 (put_json_members a es), p.1)
 
 -- the same after these members
-abbrev pub found_from : Arrangement → Members → Option (Members × List Token) → Option (Members × List Token)
+abbrev pub found_from : KeyOrder → Members → Option (Members × List Token) → Option (Members × List Token)
 found_from a ms o = option_map (λ p. (normalized_members a p.0 ms, p.1)) o
 
-abbrev pub found : Arrangement → List JsonMember → Option (Members × List Token) → Option (Members × List Token)
+abbrev pub found : KeyOrder → List JsonMember → Option (Members × List Token) → Option (Members × List Token)
 found a es o = option_map (found_at a es) o
 
-put_last : (a : Arrangement) (es : List JsonMember) (e : JsonMember) (ms : Members)
+put_last : (a : KeyOrder) (es : List JsonMember) (e : JsonMember) (ms : Members)
     → put_all_members json_entry_key json_entry_value a (es ++ e ∷ []) ms ≡ put_member a e.0 e.1 (put_all_members json_entry_key json_entry_value a es ms)
 put_last a [] e ms = refl
 put_last a (d ∷ es) e ms = put_last a es e (put_member a d.0 d.1 ms)
 
-member_behind : (a : Arrangement) (es : List JsonMember) (k : List ℕ) (j : Json) (o : Option (Members × List Token))
+member_behind : (a : KeyOrder) (es : List JsonMember) (k : List ℕ) (j : Json) (o : Option (Members × List Token))
     → found a es (parse_map (member k j) o) ≡ found a (es ++ (k, normalized a j) ∷ []) o
 member_behind a es k j None = refl
 member_behind a es k j (Some (ms, r)) =
     ap (λ x. Some (normalized_members a ms x, r)) (sym (put_last a es (k, normalized a j) no_members))
 
-pub member_passed : (depth : ℕ) (all : Option (Members × List Token)) (a : Arrangement) (es : List JsonMember) (k : List ℕ)
+pub member_passed : (depth : ℕ) (all : Option (Members × List Token)) (a : KeyOrder) (es : List JsonMember) (k : List ℕ)
     (ts s r : List Token) (j : Json) → all ≡ found a es (if_valid member_numbers_in_range (object_rest depth ts))
     → read_key ts ≡ Some (Some k, s) → if_valid all_numbers_in_range (value depth s) ≡ Some (j, r)
     → all ≡ found a (es ++ (k, normalized a j) ∷ []) (if_valid member_numbers_in_range (object_rest depth r))
@@ -158,27 +158,27 @@ member_passed depth all a es k ts s r j so_far named read =
 
 pub members_passed : (depth : ℕ) (start ts r : List Token) (old begun now : Normalizer) (later : Normalizer)
     (es fs : List JsonMember) (body : List ℕ) → AppendedAfterComma old (123 ∷ []) false begun
-    → found now.arrangement [] (if_valid member_numbers_in_range (object_rest depth start))
-    ≡ found now.arrangement es (if_valid member_numbers_in_range (object_rest depth ts))
-    → now.arrangement ≡ begun.arrangement → read_key ts ≡ Some (None, r)
-    → body ≡ comma_if_then_member_texts false fs → entry_members fs ≡ put_json_members now.arrangement es
-    → later.arrangement ≡ now.arrangement → later.needs_comma ≡ true
+    → found now.key_order [] (if_valid member_numbers_in_range (object_rest depth start))
+    ≡ found now.key_order es (if_valid member_numbers_in_range (object_rest depth ts))
+    → now.key_order ≡ begun.key_order → read_key ts ≡ Some (None, r)
+    → body ≡ comma_if_then_member_texts false fs → entry_members fs ≡ put_json_members now.key_order es
+    → later.key_order ≡ now.key_order → later.needs_comma ≡ true
     → later.text.items ≡ (begun.text.items ++ body) ++ 125 ∷ []
-    → ReadAndNormalized (if_valid member_numbers_in_range (object_rest depth start)) (λ ms. normalized old.arrangement (object ms)) r old later
+    → ReadAndNormalized (if_valid member_numbers_in_range (object_rest depth start)) (λ ms. normalized old.key_order (object ms)) r old later
 members_passed depth start ts r old begun now later es fs body begin so_far same ended spells put kept needs_comma text =
-    let a = now.arrangement in
+    let a = now.key_order in
     let last = is_sound member_numbers_in_range (object_rest depth ts) no_members r (last_member depth ts r ended) refl in
     let (p, read, end) = came_from (found_at a []) (if_valid member_numbers_in_range (object_rest depth start)) (put_json_members a es, r)
     (so_far ∙ ap (found a es) last) in
     let comma = comma_if old.needs_comma in
-    let first = same ∙ begin.arrangement in
-    let all : entry_members fs ≡ normalized_members old.arrangement p.0 no_members =
+    let first = same ∙ begin.key_order in
+    let all : entry_members fs ≡ normalized_members old.key_order p.0 no_members =
     put ∙ sym (ap (λ q. q.0) end) ∙ ap (λ x. normalized_members x p.0 no_members) first in
     let rest = comma_if_then_member_texts false fs ++ 125 ∷ [] in (
       p.0,
       read ∙ ap (λ t. Some (p.0, t)) (ap (λ q. q.1) end),
       record {
-        arrangement = kept ∙ first;
+        key_order = kept ∙ first;
         needs_comma = needs_comma;
         text = text ∙ ap (λ b. (begun.text.items ++ b) ++ 125 ∷ []) spells
             ∙ append_assoc begun.text.items (comma_if_then_member_texts false fs) (125 ∷ [])

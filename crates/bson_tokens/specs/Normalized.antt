@@ -11,8 +11,8 @@ use Rattle.json.specs.Tree.{json_tokens}
 use Rattle.serde_json.specs.Data.{Num}
 use Rattle.serde_json.specs.Read.{number_of}
 use Rattle.bson_tokens.specs.DuplicateKeys.{json_of}
-use Rattle.bson_tokens.specs.declared.arrangement.Arrangement.{Arrangement}
-use Rattle.bson_tokens.specs.declared.arrangement.Arrangement.TheVariants.{FirstPositions, Ascending}
+use Rattle.bson_model.specs.declared.options.KeyOrder.{KeyOrder}
+use Rattle.bson_model.specs.declared.options.KeyOrder.TheVariants.{AsGiven, Ascending}
 
 -- the members with value j at key k: at the position of k if it is present, otherwise last
 abbrev pub put_at_first_position : (member_key : List ℕ) → Json → Members → Members
@@ -26,13 +26,13 @@ put_ascending member_key json_value (member first_key first_value json_members) 
     match_ordering (slice_cmp nat_cmp member_key first_key) (member member_key json_value (member first_key first_value json_members)) (member first_key json_value json_members)
     (member first_key first_value (put_ascending member_key json_value json_members))
 
-abbrev pub put_member : Arrangement → (member_key : List ℕ) → Json → Members → Members
-put_member FirstPositions = put_at_first_position
+abbrev pub put_member : KeyOrder → (member_key : List ℕ) → Json → Members → Members
+put_member AsGiven = put_at_first_position
 put_member Ascending = put_ascending
 
 -- the tree with each key once in its object: members are inserted one after another, so the last value of a key wins
 abbrev mutual
-  pub normalized : Arrangement → Json → Json
+  pub normalized : KeyOrder → Json → Json
   normalized key_order null = null
   normalized key_order (boolean truth) = boolean truth
   normalized key_order (number scalar_text) = number scalar_text
@@ -40,12 +40,12 @@ abbrev mutual
   normalized key_order (array json_items) = array (normalized_items key_order json_items)
   normalized key_order (object json_members) = object (normalized_members key_order json_members no_members)
 
-  pub normalized_items : Arrangement → Items → Items
+  pub normalized_items : KeyOrder → Items → Items
   normalized_items key_order no_items = no_items
   normalized_items key_order (item json_value json_items) = item (normalized key_order json_value) (normalized_items key_order json_items)
 
   -- members after those that are normalized
-  pub normalized_members : Arrangement → Members → (normalized_before : Members) → Members
+  pub normalized_members : KeyOrder → Members → (normalized_before : Members) → Members
   normalized_members key_order no_members normalized_before = normalized_before
   normalized_members key_order (member member_key json_value json_members) normalized_before = normalized_members key_order json_members (put_member key_order member_key (normalized key_order json_value) normalized_before)
 
@@ -70,7 +70,7 @@ abbrev mutual
       × MembersHaveNumbersInRange json_members
 
 -- the compact text of the normalized tree of a text, each number of which is in range; it is read as that tree
-pub record IsNormalizedText (key_order : Arrangement) (text written : List ℕ) : Type 0 where
+pub record IsNormalizedText (key_order : KeyOrder) (text written : List ℕ) : Type 0 where
   pub tree : Json
   pub is_tree : json_of text ≡ Some tree
   pub numbers : HasNumbersInRange tree

@@ -17,8 +17,8 @@ use Rattle.json.specs.Tree.{json_tokens}
 use Rattle.serde_json.specs.Read.{number_of}
 use Rattle.serde_json.specs.Written.{comma_if}
 use Rattle.bson_tokens.specs.PutMembers.{members_of, merged, put_all_members, KeysAscendFrom, PositionsAscend}
-use Rattle.bson_tokens.specs.declared.arrangement.Arrangement.{Arrangement}
-use Rattle.bson_tokens.specs.declared.arrangement.Arrangement.TheVariants.{FirstPositions, Ascending}
+use Rattle.bson_model.specs.declared.options.KeyOrder.{KeyOrder}
+use Rattle.bson_model.specs.declared.options.KeyOrder.TheVariants.{AsGiven, Ascending}
 use Rattle.bson_tokens.specs.declared.normalizer.Normalizer.{Normalizer}
 use Rattle.bson_tokens.specs.declared.member_order.MemberSpan.{MemberSpan}
 
@@ -65,7 +65,7 @@ if_valid is_valid (Some parsed) = if is_valid parsed.0 then Some parsed else Non
 -- this text was appended, and the next value needs a comma or not
 pub record TextAppended (old : Normalizer) (text_bytes : List ℕ) (comma_needed_next : Bool)
     (new : Normalizer) : Type 0 where
-  pub arrangement : new.arrangement ≡ old.arrangement
+  pub key_order : new.key_order ≡ old.key_order
   pub needs_comma : new.needs_comma ≡ comma_needed_next
   pub text : new.text.items ≡ old.text.items ++ text_bytes
 
@@ -111,7 +111,7 @@ json_entry_value json_entry = json_entry.1
 abbrev pub entry_members : List JsonMember → Members
 entry_members = members_of json_entry_key json_entry_value
 
-abbrev pub put_json_members : Arrangement → (json_entries : List JsonMember) → Members
+abbrev pub put_json_members : KeyOrder → (json_entries : List JsonMember) → Members
 put_json_members key_order json_entries =
     put_all_members json_entry_key json_entry_value key_order json_entries no_members
 
@@ -172,7 +172,7 @@ pub record SpansMatch (body : List ℕ) (member_spans : List MemberSpan) (json_e
   pub below : All (λ member_span. member_span.offset_in_object < length body) member_spans
 
 -- the spans are those of the entries that normalizing the first entries gives
-abbrev pub SpansMatchNormalized : Arrangement → (first_entries : List JsonMember) → (body : List ℕ)
+abbrev pub SpansMatchNormalized : KeyOrder → (first_entries : List JsonMember) → (body : List ℕ)
     → (member_spans : List MemberSpan)
     → Type 0
 SpansMatchNormalized key_order json_entries body member_spans = (normalized_entries : List JsonMember)
@@ -180,7 +180,7 @@ SpansMatchNormalized key_order json_entries body member_spans = (normalized_entr
     × (entry_members normalized_entries ≡ put_json_members key_order json_entries)
 
 -- the spans are normalized in the old text, or in this new text
-abbrev pub SpansNormalized : Arrangement → (body : List ℕ) → (spans_before spans_after : List MemberSpan)
+abbrev pub SpansNormalized : KeyOrder → (body : List ℕ) → (spans_before spans_after : List MemberSpan)
     → (text : Option (Vec ℕ Global)) → Type 0
 SpansNormalized key_order body spans_before spans_after text = (json_entries : List JsonMember)
     → SpansMatch body spans_before json_entries
@@ -192,20 +192,20 @@ abbrev pub IsObjectNormalized : (normalizer_before : Normalizer) → (start : �
     → (spans_before spans_after : List MemberSpan) → (normalizer_after : Normalizer)
     → Type 0
 IsObjectNormalized normalizer_before start spans_before spans_after normalizer_after =
-    (normalizer_after.arrangement ≡ normalizer_before.arrangement)
+    (normalizer_after.key_order ≡ normalizer_before.key_order)
     × (normalizer_after.needs_comma ≡ normalizer_before.needs_comma)
     × ((text_before_object body : List ℕ) (json_entries : List JsonMember)
     → normalizer_before.text.items ≡ text_before_object ++ body → start ≡ length text_before_object
     → SpansMatch body spans_before json_entries
     → (joined_text : List ℕ) × (normalizer_after.text.items ≡ text_before_object ++ joined_text)
-    × SpansMatchNormalized normalizer_before.arrangement json_entries joined_text spans_after)
+    × SpansMatchNormalized normalizer_before.key_order json_entries joined_text spans_after)
 
 -- the same before the object ends: the normalized members stay the same
 abbrev pub IsObjectNormalizedEarly : (normalizer_before : Normalizer) → (start : ℕ)
     → (spans_before spans_after : List MemberSpan)
     → (normalizer_after : Normalizer) → Type 0
 IsObjectNormalizedEarly normalizer_before start spans_before spans_after normalizer_after =
-    (normalizer_after.arrangement ≡ normalizer_before.arrangement)
+    (normalizer_after.key_order ≡ normalizer_before.key_order)
     × (normalizer_after.needs_comma ≡ normalizer_before.needs_comma)
     × ((text_before_object body : List ℕ) (json_entries : List JsonMember)
     → normalizer_before.text.items ≡ text_before_object ++ body → start ≡ length text_before_object
@@ -213,8 +213,8 @@ IsObjectNormalizedEarly normalizer_before start spans_before spans_after normali
     → (joined_text : List ℕ) × (normalized_entries : List JsonMember)
     × (normalizer_after.text.items ≡ text_before_object ++ joined_text)
     × SpansMatch joined_text spans_after normalized_entries
-    × (put_json_members normalizer_before.arrangement normalized_entries
-    ≡ put_json_members normalizer_before.arrangement json_entries)
+    × (put_json_members normalizer_before.key_order normalized_entries
+    ≡ put_json_members normalizer_before.key_order json_entries)
     × (has_entries normalized_entries ≡ has_entries json_entries))
 
 -- the texts of the spans are concatenated
@@ -225,9 +225,9 @@ AreSpansJoined body spans_before spans_after text = (values : MemberSpanValues)
 
 -- ---- their order
 
--- the keys are in the order of the arrangement, each once
-abbrev pub AreKeysInOrder : Arrangement → (key_list : List (List ℕ)) → Type 0
-AreKeysInOrder key_order key_list = KeysAscendFrom None key_list ⊎ ((key_order ≡ FirstPositions) × AreDistinct key_list)
+-- the keys are in the key order, each once
+abbrev pub AreKeysInOrder : KeyOrder → (key_list : List (List ℕ)) → Type 0
+AreKeysInOrder key_order key_list = KeysAscendFrom None key_list ⊎ ((key_order ≡ AsGiven) × AreDistinct key_list)
 
 -- no span before this one has its key
 abbrev pub IsFirstSpanOfKey : (member_spans : List MemberSpan) → (span_index : ℕ) → Type 0
@@ -235,9 +235,9 @@ IsFirstSpanOfKey member_spans span_index = (earlier_index : ℕ) (default_span :
     → member_span_key (slice_index_or member_spans earlier_index default_span) ≢ member_span_key
     (slice_index_or member_spans span_index default_span)
 
--- spans in ascending key order, rearranged in the order of the arrangement
-abbrev pub AreSpansArranged : Arrangement → (spans_before spans_after : List MemberSpan) → Type 0
-AreSpansArranged FirstPositions spans_before spans_after = IsPermutation spans_before spans_after
+-- spans in ascending key order, rearranged in the key order
+abbrev pub AreSpansArranged : KeyOrder → (spans_before spans_after : List MemberSpan) → Type 0
+AreSpansArranged AsGiven spans_before spans_after = IsPermutation spans_before spans_after
     × Sorted.IsSortedByKey span_offset nat_cmp spans_after
 AreSpansArranged Ascending spans_before spans_after = spans_after ≡ spans_before
 
@@ -247,8 +247,8 @@ key_and_offset_cmp member_span other_span =
     ordering_then (slice_cmp nat_cmp (member_span_key member_span) (member_span_key other_span))
     (nat_cmp (span_offset member_span) (span_offset other_span))
 
--- each key once, in the order of the arrangement: with the position of its first span and the text of its last
-pub record AreSpansOrdered (key_order : Arrangement) (spans_before spans_after : List MemberSpan) : Type 0 where
+-- each key once, in the key order: with the position of its first span and the text of its last
+pub record AreSpansOrdered (key_order : KeyOrder) (spans_before spans_after : List MemberSpan) : Type 0 where
   pub sorted_spans : List MemberSpan
   pub same : IsPermutation spans_before sorted_spans
   pub sorted : Sorted.IsSortedBy

@@ -6,7 +6,7 @@ use Rattle.std.specs.Str.{bytes_eq}
 use Rattle.std.specs.declared.cmp.Ordering.TheVariants.{Less}
 use Rattle.json.specs.Json.{Json, Members, no_members, member}
 use Rattle.bson_tokens.specs.Normalized.{put_member}
-use Rattle.bson_tokens.specs.declared.arrangement.Arrangement.{Arrangement}
+use Rattle.bson_model.specs.declared.options.KeyOrder.{KeyOrder}
 
 -- ---- keys
 
@@ -39,7 +39,7 @@ module _ {Entry : Type 0} (key_of : Entry → List ℕ) where
     members_of (entry ∷ entries) = member (key_of entry) (value_of entry) (members_of entries)
 
     -- the members after each item is inserted
-    abbrev pub put_all_members : Arrangement → List Entry → Members → Members
+    abbrev pub put_all_members : KeyOrder → List Entry → Members → Members
     put_all_members key_order [] members_so_far = members_so_far
     put_all_members key_order (entry ∷ entries) members_so_far =
         put_all_members key_order entries (put_member key_order (key_of entry) (value_of entry) members_so_far)

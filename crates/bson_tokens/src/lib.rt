@@ -2,12 +2,11 @@
 //!
 //! In reading order: `value_start`, `number` (a value of one token), `wrapper_content` (content of a
 //! wrapper), `key_prefix` (the first bytes of a key). `find_duplicate` finds the first duplicate key, and `key_path`
-//! has the segments to it. `arrangement` says where members go, `normalize` writes the text with
+//! has the segments to it. `normalize` writes the text with
 //! each key once, by `normalizer` (what is written) and `member_order` (members in order). `laws` has
 //! the laws of the definitions.
 #![tactic(auto)]
 
-pub mod arrangement;
 pub mod find_duplicate;
 mod key_path;
 pub mod key_prefix;

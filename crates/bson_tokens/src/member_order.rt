@@ -9,7 +9,7 @@ ghost use Rattle.bson_tokens.specs.NormalizerStates.{AreSpansOrdered, AreSpansAr
 ghost use Rattle.json.specs.Strict.{AreDistinct};
 ghost use Rattle.bson_tokens.specs.PutMembers.{merged, KeyIsGreater, KeysAscendFrom};
 
-use crate::arrangement::Arrangement;
+use bson_model::options::KeyOrder;
 use std::alloc::{AllocError, Global};
 use std::cmp::Ordering;
 
@@ -44,31 +44,31 @@ pub(crate) fn push_span<'a>(
 // `None` if they are in order.
 pub(crate) fn normalize_spans(
     alloc: Global,
-    arrangement: Arrangement,
+    key_order: KeyOrder,
     spans: &mut Vec<MemberSpan<'_>>,
     body: &[u8],
 ) -> Result<Option<Vec<u8>>, AllocError>
     requires { All (IsMemberSpanWithin body.now) spans.old.items }
-    ensures { IfOk result (λ text. SpansNormalized arrangement body.now spans.old.items spans.new.items text) }
+    ensures { IfOk result (λ text. SpansNormalized key_order body.now spans.old.items spans.new.items text) }
 {
-    if are_normalized(arrangement, spans) {
+    if are_normalized(key_order, spans) {
         return Ok(None);
     }
-    order_spans(arrangement, spans);
+    order_spans(key_order, spans);
     Ok(Some(join_spans(alloc, spans, body)?))
 }
 
 // Returns true if the members are in order, each key once. Many members at first positions are not
 // compared.
-fn are_normalized(arrangement: Arrangement, spans: &Vec<MemberSpan<'_>>) -> bool
-    ensures { result ≡ true → AreKeysInOrder arrangement (map member_span_key spans.now.items) }
+fn are_normalized(key_order: KeyOrder, spans: &Vec<MemberSpan<'_>>) -> bool
+    ensures { result ≡ true → AreKeysInOrder key_order (map member_span_key spans.now.items) }
 {
     if span_keys_ascend(spans) {
         return true;
     }
-    match arrangement {
-        Arrangement::FirstPositions => are_few_and_distinct(spans),
-        Arrangement::Ascending => false,
+    match key_order {
+        KeyOrder::AsGiven => are_few_and_distinct(spans),
+        KeyOrder::Ascending => false,
     }
 }
 
@@ -102,21 +102,21 @@ fn is_duplicate_at(spans: &Vec<MemberSpan<'_>>, span_index: usize) -> bool
 }
 
 // Keeps each key once, with the text of its last member.
-fn order_spans(arrangement: Arrangement, spans: &mut Vec<MemberSpan<'_>>)
-    ensures { AreSpansOrdered arrangement spans.old.items spans.new.items }
+fn order_spans(key_order: KeyOrder, spans: &mut Vec<MemberSpan<'_>>)
+    ensures { AreSpansOrdered key_order spans.old.items spans.new.items }
 {
     sort_by_key(spans);
     merge_equal_keys(spans);
-    arrange_spans(arrangement, spans);
+    arrange_spans(key_order, spans);
 }
 
-// Puts members that are sorted by key in the order of the arrangement.
-fn arrange_spans(arrangement: Arrangement, spans: &mut Vec<MemberSpan<'_>>)
-    ensures { AreSpansArranged arrangement spans.old.items spans.new.items }
+// Puts members that are sorted by key in the key order.
+fn arrange_spans(key_order: KeyOrder, spans: &mut Vec<MemberSpan<'_>>)
+    ensures { AreSpansArranged key_order spans.old.items spans.new.items }
 {
-    match arrangement {
-        Arrangement::FirstPositions => sort_by_offset(spans),
-        Arrangement::Ascending => {}
+    match key_order {
+        KeyOrder::AsGiven => sort_by_offset(spans),
+        KeyOrder::Ascending => {}
     }
 }
 

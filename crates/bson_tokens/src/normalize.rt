@@ -11,10 +11,10 @@ ghost use Rattle.bson_tokens.specs.NormalizerStates.{all_numbers_in_range, item_
 ghost use Rattle.json.specs.declared.error.Error.TheVariants.{Invalid};
 
 use crate::MAX_DEPTH;
-use crate::arrangement::Arrangement;
 use crate::member_order::{MemberSpan, push_span};
 use crate::normalizer::{MEMBERS_BEFORE_NORMALIZING, Normalizer, into_text};
 use crate::number::number;
+use bson_model::options::KeyOrder;
 use json::{Error, Reader, Scratch, Token};
 use std::alloc::Global;
 
@@ -31,16 +31,16 @@ use std::alloc::Global;
 ///
 /// ```
 /// let text = r#"{"b": 1, "a": 2, "b": 3}"#;
-/// let normalized = normalize_text(alloc, Arrangement::FirstPositions, text)?;
+/// let normalized = normalize_text(alloc, KeyOrder::AsGiven, text)?;
 /// println!(rt; "{normalized}")?; // {"b":3,"a":2}
 /// ```
-pub fn normalize_text(alloc: Global, arrangement: Arrangement, text: &str) -> Result<String, Error>
-    ensures ok { IfOk result (λ normalized_text. IsNormalizedText arrangement text.now (string_bytes normalized_text)) }
+pub fn normalize_text(alloc: Global, key_order: KeyOrder, text: &str) -> Result<String, Error>
+    ensures ok { IfOk result (λ normalized_text. IsNormalizedText key_order text.now (string_bytes normalized_text)) }
     ensures broken { IfErr result (NothingReadIfInvalid (read text.now)) }
 {
     let mut scratch = Scratch::new(alloc);
     let mut reader = Reader::new(text, &mut scratch)?;
-    let mut normalizer = Normalizer::new(alloc, arrangement, text.len())?;
+    let mut normalizer = Normalizer::new(alloc, key_order, text.len())?;
     write_value(&mut reader, MAX_DEPTH, &mut normalizer)?;
     if reader.next().is_some() {
         return Err(Error::Invalid);
@@ -56,7 +56,7 @@ fn write_value(
 ) -> Result<(), Error>
     ensures ok { OnOk result
         (ReadAndNormalized (if_valid all_numbers_in_range (value depth reader.old))
-        (normalized normalizer.old.arrangement)
+        (normalized normalizer.old.key_order)
         reader.new normalizer.old normalizer.new) }
     ensures broken { IfErr result (NothingReadIfInvalid (if_valid all_numbers_in_range (value depth reader.old))) }
 {
@@ -100,7 +100,7 @@ fn write_items(
     normalizer: &mut Normalizer,
 ) -> Result<(), Error>
     ensures ok { OnOk result (ReadAndNormalized (if_valid item_numbers_in_range (array_rest depth reader.old))
-        (λ json_items. normalized normalizer.old.arrangement
+        (λ json_items. normalized normalizer.old.key_order
         (array json_items)) reader.new normalizer.old normalizer.new) }
     ensures broken { IfErr result
         (NothingReadIfInvalid (if_valid item_numbers_in_range (array_rest depth reader.old))) }
@@ -120,7 +120,7 @@ fn write_members(
     normalizer: &mut Normalizer,
 ) -> Result<(), Error>
     ensures ok { OnOk result (ReadAndNormalized (if_valid member_numbers_in_range (object_rest depth reader.old))
-        (λ json_members. normalized normalizer.old.arrangement
+        (λ json_members. normalized normalizer.old.key_order
         (object json_members)) reader.new normalizer.old normalizer.new) }
     ensures broken { IfErr result
         (NothingReadIfInvalid (if_valid member_numbers_in_range (object_rest depth reader.old))) }

@@ -8,8 +8,8 @@ ghost use Rattle.serde_json.specs.Written.{comma_if};
 ghost use Rattle.json.specs.declared.error.Error.TheVariants.{OutOfMemory};
 ghost use Rattle.bson_tokens.specs.NormalizerStates.{AppendedAfterComma, TextAppended, ObjectOpened, IsObjectNormalized, IsObjectNormalizedEarly, IsMemberSpanWithin, MemberOpened};
 
-use crate::arrangement::Arrangement;
 use crate::member_order::{MemberSpan, normalize_spans};
+use bson_model::options::KeyOrder;
 use json::{Error, Token, Writer};
 use std::alloc::{AllocError, Global};
 use std::mem::replace;
@@ -22,7 +22,7 @@ pub(crate) const MEMBERS_BEFORE_NORMALIZING: usize = 1_000;
 #[derive(Drop)]
 pub(crate) struct Normalizer {
     pub(crate) alloc: Global,
-    pub(crate) arrangement: Arrangement,
+    pub(crate) key_order: KeyOrder,
     pub(crate) text: Vec<u8>,
     // A buffer for the writer of a token. In a long text it would reserve much memory ahead.
     pub(crate) token_buffer: Vec<u8>,
@@ -44,16 +44,16 @@ pub(crate) fn into_text(text: Vec<u8>) -> Result<String, Error>
 impl Normalizer {
     pub(crate) fn new(
         alloc: Global,
-        arrangement: Arrangement,
+        key_order: KeyOrder,
         capacity: usize,
     ) -> Result<Normalizer, AllocError>
-        ensures arrangement { IfOk result (λ normalizer. normalizer.arrangement ≡ arrangement) }
+        ensures key_order { IfOk result (λ normalizer. normalizer.key_order ≡ key_order) }
         ensures empty { IfOk result (λ normalizer. normalizer.text.items ≡ []) }
         ensures no_comma_yet { IfOk result (λ normalizer. normalizer.needs_comma ≡ false) }
     {
         Ok(Normalizer {
             alloc,
-            arrangement,
+            key_order,
             text: Vec::with_capacity(alloc, capacity)?,
             token_buffer: Vec::new(alloc),
             needs_comma: false,
@@ -154,7 +154,7 @@ impl Normalizer {
         ensures { OnOk result (IsObjectNormalized self.old object_start spans.old.items spans.new.items self.new) }
     {
         let body = &self.text[object_start..];
-        if let Some(normalized) = normalize_spans(self.alloc, self.arrangement, spans, body)? {
+        if let Some(normalized) = normalize_spans(self.alloc, self.key_order, spans, body)? {
             self.text.truncate(object_start);
             self.text.extend_from_slice(&normalized)?;
         }

@@ -13,7 +13,7 @@ use Rattle.serde_json.specs.Read.{max_depth}
 use Rattle.bson_tokens.specs.ReadOutcomes.{NothingReadIfInvalid}
 use Rattle.bson_tokens.specs.Normalized.{normalized, IsNormalizedText}
 use Rattle.bson_tokens.specs.DuplicateKeys.{json_of}
-use Rattle.bson_tokens.specs.declared.arrangement.Arrangement.TheVariants.{FirstPositions}
+use Rattle.bson_model.specs.declared.options.KeyOrder.TheVariants.{AsGiven}
 use Rattle.bson_v1.specs.Upgraded.{upgraded}
 use Rattle.bson_v1.specs.Text.{IsUpgradedText, IsRewritten}
 
@@ -37,11 +37,11 @@ written text out j ts read is text_is again =
 
 -- ---- of the text with each key once
 
-pub upgraded_of : (text normalized_input out : List ℕ) → IsNormalizedText FirstPositions text normalized_input → IsRewritten normalized_input out
+pub upgraded_of : (text normalized_input out : List ℕ) → IsNormalizedText AsGiven text normalized_input → IsRewritten normalized_input out
     → IsUpgradedText text out
 upgraded_of text normalized_input out first then =
-    let same : normalized FirstPositions first.tree ≡ then.tree =
-    same_Some (normalized FirstPositions first.tree) then.tree (sym first.read_again ∙ then.is_tree) in
+    let same : normalized AsGiven first.tree ≡ then.tree =
+    same_Some (normalized AsGiven first.tree) then.tree (sym first.read_again ∙ then.is_tree) in
     record {
       normalized_input = normalized_input;
       text_is_normalized = first;
@@ -50,6 +50,6 @@ upgraded_of text normalized_input out first then =
     }
 
 pub never_breaks : {X : Type 0} {Y : Type 0} (text normalized_input : List ℕ) (o : Option Y) (r : Result X Error)
-    → IsNormalizedText FirstPositions text normalized_input → IfErr r (NothingReadIfInvalid (json_of normalized_input)) → IfErr r (NothingReadIfInvalid o)
+    → IsNormalizedText AsGiven text normalized_input → IfErr r (NothingReadIfInvalid (json_of normalized_input)) → IfErr r (NothingReadIfInvalid o)
 never_breaks text normalized_input o (Ok x) first h = tt
 never_breaks text normalized_input o (Err e) first h = λ broken. let never = sym (h broken) ∙ first.read_again in cc

@@ -11,7 +11,7 @@ use Rattle.bson_scalar.specs.declared.form.Doubles.{Doubles}
 use Rattle.bson_model.specs.Value.{Value}
 use Rattle.bson_model.specs.OrderedTexts.{HasMeaningInOrder, MeansByDefault}
 use Rattle.bson_tokens.specs.Normalized.{normalized, IsNormalizedText}
-use Rattle.bson_tokens.specs.declared.arrangement.Arrangement.TheVariants.{FirstPositions}
+use Rattle.bson_model.specs.declared.options.KeyOrder.TheVariants.{AsGiven}
 use Rattle.bson_tokens.proofs.Offered.{meant, meant_in_order}
 use Rattle.bson_v1.specs.Upgraded.{binary, regex, date, not_v1, v1_shape, shape_of_two_strings, shape_of_two_members, shape_of_one_member, upgraded_wrapper, is_code, is_scope}
 use Rattle.bson_v1.specs.Upgraded.{upgraded, upgraded_items, upgraded_members, upgraded_object, upgraded_scope, ends_in_offset}
@@ -158,12 +158,12 @@ mutual
 -- ---- texts
 
 resolved_again : (text written : List ℕ) → IsUpgradedText text written → IsTextOfVersion2 text
-    → IsNormalizedText FirstPositions text written
+    → IsNormalizedText AsGiven text written
 resolved_again text written is newer =
     let j = is.text_is_normalized.tree in
-    let same = is.compact ∙ ap (λ x. print (json_tokens x)) (stays (normalized FirstPositions j) (newer j is.text_is_normalized.is_tree))
+    let same = is.compact ∙ ap (λ x. print (json_tokens x)) (stays (normalized AsGiven j) (newer j is.text_is_normalized.is_tree))
     ∙ sym is.text_is_normalized.compact in
-    subst (IsNormalizedText FirstPositions text) (sym same) is.text_is_normalized
+    subst (IsNormalizedText AsGiven text) (sym same) is.text_is_normalized
 
 pub kept_in_order : (D : Doubles) (text written : List ℕ) (v : Value) → IsUpgradedText text written
     → IsTextOfVersion2 text → (HasMeaningInOrder D written v ↔ HasMeaningInOrder D text v)
@@ -171,4 +171,4 @@ kept_in_order D text written v is newer = meant_in_order D text written v (resol
 
 pub kept_by_default : (D : Doubles) (text written : List ℕ) (v : Value) → IsUpgradedText text written
     → IsTextOfVersion2 text → (MeansByDefault D written v ↔ MeansByDefault D text v)
-kept_by_default D text written v is newer = meant D FirstPositions text written v (resolved_again text written is newer)
+kept_by_default D text written v is newer = meant D AsGiven text written v (resolved_again text written is newer)

@@ -6,7 +6,7 @@ use Rattle.json.specs.Json.{Json, Items, no_items, item, Members, no_members, me
 use Rattle.json.specs.Json as json
 use Rattle.bson_tokens.specs.Normalized.{normalized}
 use Rattle.bson_tokens.specs.DuplicateKeys.{json_of}
-use Rattle.bson_tokens.specs.declared.arrangement.Arrangement.TheVariants.{FirstPositions}
+use Rattle.bson_model.specs.declared.options.KeyOrder.TheVariants.{AsGiven}
 use Rattle.bson_v1.specs.Upgraded.{binary_json, date_json, ends_in_offset, regex_json}
 
 -- two members that are strings
@@ -66,4 +66,4 @@ mutual
 -- each key of the text's objects has its last value, and then the tree is one of v2
 abbrev pub IsTextOfVersion2 : (text : List ℕ) → Type 0
 IsTextOfVersion2 text = (json_value : Json) → json_of text ≡ Some json_value
-    → IsVersion2 (normalized FirstPositions json_value)
+    → IsVersion2 (normalized AsGiven json_value)

@@ -18,8 +18,8 @@ use crate::object_start::{
     LeadingStrings, ObjectStart, is_scope, next_member, read_start, scope_candidate,
 };
 use crate::v1_shapes::{write_from_v1, write_leading_strings, write_scope_or_value};
+use bson_model::options::KeyOrder;
 use bson_tokens::MAX_DEPTH;
-use bson_tokens::arrangement::Arrangement;
 use bson_tokens::normalize::normalize_text;
 use json::{Error, Reader, Scratch, Token, Writer};
 use std::alloc::Global;
@@ -51,7 +51,7 @@ pub fn upgraded_text(alloc: Global, text: &str) -> Result<String, Error>
     ensures ok { IfOk result (λ written. IsUpgradedText text.now (string_bytes written)) }
     ensures broken { IfErr result (NothingReadIfInvalid (read text.now)) }
 {
-    let normalized_input = normalize_text(alloc, Arrangement::FirstPositions, text)?;
+    let normalized_input = normalize_text(alloc, KeyOrder::AsGiven, text)?;
     rewrite_normalized(alloc, normalized_input.as_str())
 }
 

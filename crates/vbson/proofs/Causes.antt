@@ -3,7 +3,7 @@ use Rattle.std.proofs.Common.{◌≡◌, ◌≤◌, inl, inr, ℕ, List, arith, 
 use Rattle.serde_json.specs.Data.{Data}
 use Rattle.bson.specs.TextMeaning.{IsTextOf}
 use Rattle.bson_tree.specs.Faults.{Fault as TreeFault}
-use Rattle.bson.specs.declared.extjson.options.Options.{Options}
+use Rattle.bson_model.specs.declared.options.Options.{Options}
 use Rattle.bson_tree.proofs.Offered.{first_fault}
 use Rattle.bson_tree.specs.Place.{IsFirstFaultIn, IsReasonOfFault}
 use Rattle.bson_tree.specs.declared.place.Reason.{Reason}
@@ -19,7 +19,7 @@ use Rattle.bson_convert.specs.declared.encode_error.NoBytes.TheVariants.{NoDocum
 use Rattle.vbson.specs.Convert.{IsInvalidExtendedJson, IsInvalidShape, IsBadObjectId, IsCauseOfStatus, IsTextError, status_of_reason, status_of}
 use Rattle.vbson.specs.Convert.{status_of_encode_error}
 use Rattle.vbson.specs.Documents.{IsEncodeFailure}
-use Rattle.bson.specs.declared.extjson.key_order.KeyOrder.{KeyOrder}
+use Rattle.bson_model.specs.declared.options.KeyOrder.{KeyOrder}
 
 is_bad_id : (f : TreeFault) (r : Reason) → IsReasonOfFault f r → status_of_reason r ≡ 3 → IsBadObjectId f
 is_bad_id f (BadObjectId e) h is = (h.0, h.1)

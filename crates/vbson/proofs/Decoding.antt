@@ -15,7 +15,7 @@ use Rattle.bson.specs.View.{bson_view, document_view}
 use Rattle.bson.specs.declared.bson.Bson.{the_lemmas}
 use Rattle.bson.specs.declared.bson.Bson.TheVariants.{Document as held}
 use Rattle.bson.specs.declared.document.Document.{Document}
-use Rattle.bson.specs.declared.extjson.options.Options.{Options}
+use Rattle.bson_model.specs.declared.options.Options.{Options}
 use Rattle.bson.specs.OrderedTrees.{read_in_order}
 use Rattle.bson.specs.MeansInOrder.{MeansInOrder}
 use Rattle.bson_codec.specs.ReadDocuments.{IsReadAsDocument}
@@ -27,8 +27,8 @@ use Rattle.bson_model.specs.Value.{Value, Pairs, document}
 use Rattle.bson_convert.specs.declared.mode.Mode.{Mode}
 use Rattle.bson_convert.specs.declared.mode.Mode.TheVariants.{Canonical, Relaxed, Show}
 use Rattle.vbson.specs.Documents.{Decodes, PairsHaveNoTextIn, IsOneDocument, IsDecodeFailure, depth, streaming_form, streaming_form_in_order, form_of_mode}
-use Rattle.bson.specs.declared.extjson.key_order.KeyOrder.{KeyOrder}
-use Rattle.bson.specs.declared.extjson.key_order.KeyOrder.TheVariants.{Ascending, AsGiven}
+use Rattle.bson_model.specs.declared.options.KeyOrder.{KeyOrder}
+use Rattle.bson_model.specs.declared.options.KeyOrder.TheVariants.{Ascending, AsGiven}
 
 -- ---- bytes
 

@@ -1,11 +1,11 @@
 -- The struct that explains why a text is rejected, under the options.
-use Rattle.std.proofs.Common.{◌≡◌, ◌≢◌, inl, inr, ℕ, List, Option, None, Some, refl, subst, arith}
+use Rattle.std.proofs.Common.{◌≡◌, ◌≢◌, inl, inr, ℕ, List, None, Some, refl, subst, arith}
 use Rattle.json.specs.Json.{Json}
 use Rattle.json.specs.Strict.{HasUniqueKeys}
 use Rattle.serde_json.specs.Read.{read}
 use Rattle.bson.specs.TextMeaning.{HasTextMeaningIn}
 use Rattle.bson.specs.Value.{Value}
-use Rattle.bson.specs.declared.extjson.options.Options.{Options}
+use Rattle.bson_model.specs.declared.options.Options.{Options}
 use Rattle.bson_bytes.specs.declared.error.Error.{Error as PathError}
 use Rattle.bson_bytes.specs.declared.error.Error.TheVariants as sizes
 use Rattle.bson_convert.specs.Convert.{IsRejectedIn}
@@ -19,33 +19,34 @@ use Rattle.bson_tree.specs.declared.place.Reason.TheVariants.{BadObjectId, Wrong
 use Rattle.bson_run.specs.ErrorMessages.{IsExplanation, HasNoPosition}
 use Rattle.bson_run.specs.declared.explain.Explanation.{Explanation}
 use Rattle.bson_run.specs.declared.explain.Explanation.TheVariants as explained
+use Rattle.bson_run.specs.Preprocessed.{IsPreprocessedAs, IsPreprocessingError}
 use Rattle.bson_run.specs.declared.task.Preprocessing.{Preprocessing}
 use Rattle.vbson.proofs.Preprocessed.{meant, not_read, rejected_key}
 use Rattle.vbson.specs.Convert.{options_of_call, status_of_reason}
 use Rattle.vbson.specs.Explain.{Explains, ExplainsWithoutPreprocessing, ExplainsError, HasTooLongPath, IsRejectedFor, ErrorPathIsTooLong, IsUnexplained, ExplainsRejection, explanation_code}
-use Rattle.vbson.specs.Reading.{TextIsReadAs, IsPreprocessingFault, MeansUnder, preprocessing_of}
+use Rattle.vbson.specs.Reading.{MeansUnder, preprocessing_of}
 use Rattle.vbson.specs.declared.explain.Rejection.{Rejection}
 use Rattle.vbson.specs.declared.options.CallOptions.{CallOptions}
 
 -- ---- of what is read in the place of the text, and of a text that preprocessing rejects
 
-pub of_read : (options : CallOptions) (text read : List ℕ) (out : Rejection) → TextIsReadAs (preprocessing_of options) text read
+pub of_read : (options : CallOptions) (text read : List ℕ) (out : Rejection) → IsPreprocessedAs (preprocessing_of options) text read
     → ExplainsWithoutPreprocessing (options_of_call options) read out → Explains options text out
 of_read options text read out is (inl h) = inl ((h.0.0, record { read_text = read; read_as = is; meaning = h.0.1 }), h.1)
 of_read options text read out is (inr h) =
     inr (record { fault = h.0; read_text = read; refused = inl (is, h.1); reported = h.2; error = h.3 })
 
-pub long_of_read : (options : CallOptions) (text read : List ℕ) (e : PathError) → TextIsReadAs (preprocessing_of options) text read
+pub long_of_read : (options : CallOptions) (text read : List ℕ) (e : PathError) → IsPreprocessedAs (preprocessing_of options) text read
     → IsUnexplained e (λ fault. IsRejectedIn (options_of_call options) fault read) → e ≢ sizes.OutOfMemory → ErrorPathIsTooLong options text
 long_of_read options text read e is h reported =
     let it = h reported in record { fault = it.0; read_text = read; refused = inl (is, it.1); too_long = it.2 }
 
-pub refused_first : (options : CallOptions) (fault : Error) (text : List ℕ) (out : Rejection) → IsPreprocessingFault (preprocessing_of options) fault text
+pub refused_first : (options : CallOptions) (fault : Error) (text : List ℕ) (out : Rejection) → IsPreprocessingError (preprocessing_of options) fault text
     → fault ≢ errors.OutOfMemory → ExplainsError text fault out → Explains options text out
 refused_first options fault text out h reported is =
     inr (record { fault = fault; read_text = text; refused = inr (refl, h); reported = reported; error = is })
 
-pub long_first : (options : CallOptions) (fault : Error) (text : List ℕ) (e : PathError) → IsPreprocessingFault (preprocessing_of options) fault text
+pub long_first : (options : CallOptions) (fault : Error) (text : List ℕ) (e : PathError) → IsPreprocessingError (preprocessing_of options) fault text
     → (e ≢ sizes.OutOfMemory → HasTooLongPath fault) → e ≢ sizes.OutOfMemory → ErrorPathIsTooLong options text
 long_first options fault text e h too_long reported =
     record { fault = fault; read_text = text; refused = inr (refl, h); too_long = too_long reported }
@@ -62,16 +63,15 @@ of_text o (errors.NotCanonical column) bytes h reported none = h
 of_text o errors.OutOfMemory bytes h reported none = reported refl
 of_text o errors.CannotWrite bytes h reported none = h
 
-of_unread : (preprocessing : Option Preprocessing) (fault : Error) (text : List ℕ) → IsPreprocessingFault preprocessing fault text
+of_unread : (preprocessing : Preprocessing) (fault : Error) (text : List ℕ) → IsPreprocessingError preprocessing fault text
     → fault ≢ errors.OutOfMemory → HasNoPosition fault → ⊥
-of_unread None fault text h reported none = h
-of_unread (Some selected) errors.CannotRead text h reported none = h
-of_unread (Some selected) errors.NotJson text h reported none = none
-of_unread (Some selected) (errors.NotExtendedJson place) text h reported none = none
-of_unread (Some selected) (errors.NoBytes why) text h reported none = h
-of_unread (Some selected) (errors.NotCanonical column) text h reported none = h
-of_unread (Some selected) errors.OutOfMemory text h reported none = reported refl
-of_unread (Some selected) errors.CannotWrite text h reported none = h
+of_unread preprocessing errors.CannotRead text h reported none = h
+of_unread preprocessing errors.NotJson text h reported none = none
+of_unread preprocessing (errors.NotExtendedJson place) text h reported none = none
+of_unread preprocessing (errors.NoBytes why) text h reported none = h
+of_unread preprocessing (errors.NotCanonical column) text h reported none = h
+of_unread preprocessing errors.OutOfMemory text h reported none = reported refl
+of_unread preprocessing errors.CannotWrite text h reported none = h
 
 of_rejected : (options : CallOptions) (text read : List ℕ) (fault : Error) → IsRejectedFor options text read fault → fault ≢ errors.OutOfMemory
     → HasNoPosition fault → ⊥

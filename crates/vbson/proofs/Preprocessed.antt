@@ -1,5 +1,5 @@
 -- What is read in the place of a text, and what a status says of it.
-use Rattle.std.proofs.Common.{◌≡◌, ◌≢◌, ◌≤◌, inl, inr, ℕ, List, Option, None, Some, refl, ap, sym, subst, ◌∙◌, arith}
+use Rattle.std.proofs.Common.{◌≡◌, ◌≢◌, ◌≤◌, inl, inr, ℕ, List, Some, refl, ap, subst, arith}
 use Rattle.json.specs.Json.{Json}
 use Rattle.json.specs.Strict.{HasUniqueKeys}
 use Rattle.serde_json.specs.Data.{Data}
@@ -11,17 +11,18 @@ use Rattle.bson_model.specs.Means.{MeansIn}
 use Rattle.bson_bytes.specs.ReadDocuments.{IsReadAsDocumentIn}
 use Rattle.bson_model.specs.Value.{Pairs, Value}
 use Rattle.bson.specs.TextMeaning.{HasTextMeaningIn, IsTextOf}
-use Rattle.bson.specs.declared.extjson.options.Options.{Options}
+use Rattle.bson_model.specs.declared.options.Options.{Options}
 use Rattle.bson_convert.specs.Convert.{IsRejectedIn}
 use Rattle.bson_convert.specs.declared.error.Error.{Error}
 use Rattle.bson_convert.specs.declared.error.Error.TheVariants.{CannotRead, NotJson, NotExtendedJson, NoBytes, OutOfMemory}
 use Rattle.bson_convert.specs.declared.error.Error.TheVariants.{CannotWrite, NotCanonical}
 use Rattle.bson_run.proofs.Offered.{not_taken, one_taken}
+use Rattle.bson_run.specs.Preprocessed.{IsPreprocessedAs, IsPreprocessingError}
 use Rattle.bson_run.specs.declared.task.Preprocessing.{Preprocessing}
 use Rattle.vbson.proofs.Causes.{causes, reason_status}
 use Rattle.vbson.specs.Convert.{IsTextError, options_of_call, status_of}
 use Rattle.vbson.specs.Documents.{depth}
-use Rattle.vbson.specs.Reading.{HasRejectedKey, TextIsReadAs, IsReadFailure, IsPreprocessingFault, IsTextReadFailure, MeansUnder}
+use Rattle.vbson.specs.Reading.{HasRejectedKey, IsReadFailure, IsTextReadFailure, MeansUnder}
 use Rattle.vbson.specs.Reading.{IsDocumentReadFailure, duplicate_keys_of, preprocessing_of}
 use Rattle.vbson.specs.declared.options.CallOptions.{CallOptions}
 
@@ -36,18 +37,12 @@ one_meaning D bytes v w a b =
     let trees : a.tree ≡ b.tree = cc in
     b.meaning.one v (subst (λ t. MeansIn D t v) trees a.meaning.means)
 
--- one text is read in the place of a text
-pub one_read : (preprocessing : Option Preprocessing) (text a b : List ℕ) → TextIsReadAs preprocessing text a
-    → TextIsReadAs preprocessing text b → a ≡ b
-one_read None text a b x y = x ∙ sym y
-one_read (Some selected) text a b x y = one_taken selected text a b x y
-
--- which means one value
-pub meant : (options : CallOptions) (text read : List ℕ) (value : Value) → TextIsReadAs (preprocessing_of options) text read
+-- the text that is read in the place of a text means one value
+pub meant : (options : CallOptions) (text read : List ℕ) (value : Value) → IsPreprocessedAs (preprocessing_of options) text read
     → MeansUnder options text value → HasTextMeaningIn (options_of_call options).doubles read value
 meant options text read value is means =
     subst (λ x. HasTextMeaningIn (options_of_call options).doubles x value)
-    (one_read (preprocessing_of options) text means.read_text read means.read_as is) means.meaning
+    (one_taken (preprocessing_of options) text means.read_text read means.read_as is) means.meaning
 
 -- ---- what a status says
 
@@ -71,7 +66,7 @@ rejected o fault bytes h accepts = record {
 }
 
 -- of what is read in the place of a text
-pub without_value : (options : CallOptions) (status : ℕ) (text read : List ℕ) → TextIsReadAs (preprocessing_of options) text read
+pub without_value : (options : CallOptions) (status : ℕ) (text read : List ℕ) → IsPreprocessedAs (preprocessing_of options) text read
     → IsReadFailure (options_of_call options) status read → IsTextReadFailure options status text
 without_value options status text read is h = record {
   not_json = λ two. record { read_text = read; read_as = is; rejected = h.cause.not_json two };
@@ -92,24 +87,22 @@ no_memory options text = record {
 }
 
 -- a text that preprocessing rejects is not read
-pub not_read : ((j : Json) (path : List PathSegment) → DuplicateAt j path → ¬ HasUniqueKeys j) → (preprocessing : Option Preprocessing)
-    (text read : List ℕ) → HasRejectedKey preprocessing text → TextIsReadAs preprocessing text read → ⊥
-not_read twice None text read h is = h
-not_read twice (Some selected) text read h is = not_taken twice selected h.0 text read h.1 is
+pub not_read : ((j : Json) (path : List PathSegment) → DuplicateAt j path → ¬ HasUniqueKeys j) → (preprocessing : Preprocessing)
+    (text read : List ℕ) → HasRejectedKey preprocessing text → IsPreprocessedAs preprocessing text read → ⊥
+not_read twice preprocessing text read h is = not_taken twice preprocessing h.0 text read h.1 is
 
-pub rejected_key : (preprocessing : Option Preprocessing) (fault : Error) (text : List ℕ) → IsPreprocessingFault preprocessing fault text
+pub rejected_key : (preprocessing : Preprocessing) (fault : Error) (text : List ℕ) → IsPreprocessingError preprocessing fault text
     → fault ≢ OutOfMemory → HasRejectedKey preprocessing text
-rejected_key None fault text h some = h
-rejected_key (Some selected) CannotRead text h some = absurd h
-rejected_key (Some selected) NotJson text h some = absurd h
-rejected_key (Some selected) (NotExtendedJson place) text h some = (place, h)
-rejected_key (Some selected) (NoBytes why) text h some = absurd h
-rejected_key (Some selected) (NotCanonical column) text h some = absurd h
-rejected_key (Some selected) OutOfMemory text h some = absurd (some refl)
-rejected_key (Some selected) CannotWrite text h some = absurd h
+rejected_key preprocessing CannotRead text h some = absurd h
+rejected_key preprocessing NotJson text h some = absurd h
+rejected_key preprocessing (NotExtendedJson place) text h some = (place, h)
+rejected_key preprocessing (NoBytes why) text h some = absurd h
+rejected_key preprocessing (NotCanonical column) text h some = absurd h
+rejected_key preprocessing OutOfMemory text h some = absurd (some refl)
+rejected_key preprocessing CannotWrite text h some = absurd h
 
 pub turned_away : ((j : Json) (path : List PathSegment) → DuplicateAt j path → ¬ HasUniqueKeys j) → (options : CallOptions)
-    (fault : Error) (text : List ℕ) → IsPreprocessingFault (preprocessing_of options) fault text → fault ≢ OutOfMemory
+    (fault : Error) (text : List ℕ) → IsPreprocessingError (preprocessing_of options) fault text → fault ≢ OutOfMemory
     → IsTextReadFailure options 4 text
 turned_away twice options fault text h some =
     let key = rejected_key (preprocessing_of options) fault text h some in

@@ -3,7 +3,7 @@ use Rattle.std.proofs.Common.{◌≡◌, ℕ, ◌-◌, ◌≤◌, Bool, List, Op
 use Rattle.std.specs.Prelude.{◌↔◌, MatchOption, option_map}
 use Rattle.std.specs.Borrow.{Bor}
 use Rattle.bson_bytes.specs.Reading.{read_value_in, read_document_in}
-use Rattle.bson_bytes.specs.declared.duplicate_keys.DuplicateKeys.TheVariants.{Replace}
+use Rattle.bson_model.specs.declared.options.DuplicateKeys.TheVariants.{LastWins}
 use Rattle.bson_model.specs.Value.{Value, Pairs, no_pairs, pair, scalar, code_scope, array, document}
 use Rattle.bson_bytes.specs.RawElements.{HasValue, IsElement, IsFirstElement, IsValueOfElement, value_length}
 use Rattle.bson_bytes.specs.TypedGetters.{binary_value, boolean_value, date_value, double_value, int32_value, int64_value, object_id_value, string_value}
@@ -23,8 +23,8 @@ at_value : (d : ℕ) (e : RawElement) (v : Value) (out : RawValue) → HasValue 
 at_value d e v out read is within = record {
   type = e.kind;
   tag = is.tag;
-  read = subst (λ (bytes : List ℕ). read_value_in Replace (read_document_in Replace d) e.kind bytes ≡ Ok (v, drop out.len bytes)) (sym is.bytes)
-      (subst (λ (n : ℕ). read_value_in Replace (read_document_in Replace d) e.kind e.value.now ≡ Ok (v, drop n e.value.now)) (sym is.len) read);
+  read = subst (λ (bytes : List ℕ). read_value_in LastWins (read_document_in LastWins d) e.kind bytes ≡ Ok (v, drop out.len bytes)) (sym is.bytes)
+      (subst (λ (n : ℕ). read_value_in LastWins (read_document_in LastWins d) e.kind e.value.now ≡ Ok (v, drop n e.value.now)) (sym is.len) read);
   within = omega (arith, within, is.len, ap length is.bytes);
 }
 
@@ -61,10 +61,10 @@ some_kind x y e = cc
 
 pub read_at : (d : ℕ) (v : Value) (value : RawValue) (o : Option ElementType) (k : ElementType)
     → ((k : ElementType) → (o ≡ Some k) ↔ (tag_of k ≡ value.kind)) → o ≡ Some k → IsRawValueOf d v value
-    → read_value_in Replace (read_document_in Replace d) k value.bytes.now ≡ Ok (v, drop value.len value.bytes.now)
+    → read_value_in LastWins (read_document_in LastWins d) k value.bytes.now ≡ Ok (v, drop value.len value.bytes.now)
 read_at d v value o k h is at =
     let same : at.type ≡ k = some_kind at.type k (sym (kind_is o value.kind at.type h at.tag) ∙ is) in
-    subst (λ (t : ElementType). read_value_in Replace (read_document_in Replace d) t value.bytes.now ≡ Ok (v, drop value.len value.bytes.now)) same
+    subst (λ (t : ElementType). read_value_in LastWins (read_document_in LastWins d) t value.bytes.now ≡ Ok (v, drop value.len value.bytes.now)) same
     at.read
 
 pub no_kind : (d : ℕ) (v : Value) (value : RawValue) (o : Option ElementType)

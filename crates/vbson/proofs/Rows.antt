@@ -3,18 +3,17 @@
 use Rattle.std.proofs.Common.{◌≡◌, ℕ, Some, None, true, false, refl}
 use Rattle.bson.specs.Doubles.TheVariants.{Special, Finite}
 use Rattle.bson_tree.specs.declared.place.Reason.TheVariants.{BadObjectId, WrongShape}
-use Rattle.bson.specs.Options.{default_options, mongodb_options}
+use Rattle.bson_model.specs.NamedOptions.{default_options, mongodb_options}
 use Rattle.bson_convert.specs.declared.mode.Mode.TheVariants as mode
 use Rattle.bson_convert.specs.declared.error.Error.TheVariants as error
 use Rattle.bson_convert.specs.declared.encode_error.NoBytes.TheVariants as without
 use Rattle.vbson.specs.Convert.{mode_of_number, options_of_call, key_order_of, status_of_reason, status_of}
-use Rattle.bson_bytes.specs.declared.duplicate_keys.DuplicateKeys.TheVariants.{Replace, Refuse}
-use Rattle.bson_run.specs.declared.task.Preprocessing.TheVariants.{Distinct, Legacy, DistinctLegacy}
+use Rattle.bson_model.specs.declared.options.DuplicateKeys.TheVariants.{LastWins, Reject}
 use Rattle.vbson.specs.Documents.{depth}
 use Rattle.vbson.specs.Reading.{duplicate_keys_of, preprocessing_of}
 use Rattle.vbson.specs.Comparison.{comparison_status}
 use Rattle.vbson.specs.declared.options.CallOptions.{CallOptions}
-use Rattle.bson.specs.declared.extjson.key_order.KeyOrder.TheVariants.{Ascending, AsGiven}
+use Rattle.bson_model.specs.declared.options.KeyOrder.TheVariants.{Ascending, AsGiven}
 
 -- ---- modes
 
@@ -45,12 +44,12 @@ conversion_numbered : (options_of_call (options_with 0 0 0 0) ≡ default_option
     × (key_order_of (options_with 0 1 0 0) ≡ AsGiven)
 conversion_numbered = (refl, refl, refl, refl, refl, refl, refl)
 
-reading_numbered : (preprocessing_of (options_with 1 1 0 0) ≡ None)
-    × (preprocessing_of (options_with 0 0 1 0) ≡ Some Distinct)
-    × (preprocessing_of (options_with 0 0 0 1) ≡ Some Legacy)
-    × (preprocessing_of (options_with 0 0 1 1) ≡ Some DistinctLegacy)
-    × (duplicate_keys_of (options_with 1 1 0 1) ≡ Replace)
-    × (duplicate_keys_of (options_with 0 0 1 0) ≡ Refuse)
+reading_numbered : (preprocessing_of (options_with 1 1 0 0) ≡ record { duplicate_keys = LastWins; v1 = false })
+    × (preprocessing_of (options_with 0 0 1 0) ≡ record { duplicate_keys = Reject; v1 = false })
+    × (preprocessing_of (options_with 0 0 0 1) ≡ record { duplicate_keys = LastWins; v1 = true })
+    × (preprocessing_of (options_with 0 0 1 1) ≡ record { duplicate_keys = Reject; v1 = true })
+    × (duplicate_keys_of (options_with 1 1 0 1) ≡ LastWins)
+    × (duplicate_keys_of (options_with 0 0 1 0) ≡ Reject)
 reading_numbered = (refl, refl, refl, refl, refl, refl)
 
 -- ---- statuses

@@ -7,9 +7,9 @@ use Rattle.bson_tree.specs.declared.place.Reason.{Reason}
 use Rattle.bson_tree.specs.declared.place.Reason.TheVariants.{BadObjectId, WrongShape}
 use Rattle.bson.specs.Doubles.TheVariants.{Special, Finite}
 use Rattle.bson.specs.TextMeaning.{IsNotJsonText, IsTextOf}
-use Rattle.bson.specs.declared.extjson.options.Options.{Options}
+use Rattle.bson_model.specs.declared.options.Options.{Options}
 use Rattle.bson_convert.specs.Convert.{newline}
-use Rattle.bson_run.specs.InOrder.{ConvertsBy, IsFixedPointBy}
+use Rattle.bson_convert.specs.InOrder.{ConvertsBy, IsFixedPointBy}
 use Rattle.bson_convert.specs.declared.mode.Mode.{Mode}
 use Rattle.bson_convert.specs.declared.mode.Mode.TheVariants.{Canonical, Relaxed, Show}
 use Rattle.bson_convert.specs.declared.error.Error.{Error}
@@ -19,8 +19,8 @@ use Rattle.bson_convert.specs.declared.encode_error.NoBytes as no_bytes
 use Rattle.bson_convert.specs.declared.encode_error.NoBytes.TheVariants.{NoDocument, ZeroInKey, ZeroInRegex, TooLong}
 use Rattle.vbson.specs.Text.{IsOwnedText}
 use Rattle.vbson.specs.declared.options.CallOptions.{CallOptions}
-use Rattle.bson.specs.declared.extjson.key_order.KeyOrder.{KeyOrder}
-use Rattle.bson.specs.declared.extjson.key_order.KeyOrder.TheVariants.{Ascending, AsGiven}
+use Rattle.bson_model.specs.declared.options.KeyOrder.{KeyOrder}
+use Rattle.bson_model.specs.declared.options.KeyOrder.TheVariants.{Ascending, AsGiven}
 use Rattle.vbson.specs.declared.text.Text.{Text}
 
 abbrev pub mode_of_number : (mode_number : ℕ) → Option Mode

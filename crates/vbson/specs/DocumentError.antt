@@ -1,7 +1,7 @@
 -- Why bytes are rejected as a document that has a text, and where, as an error struct.
 use Rattle.std.specs.Prelude.{◌≡◌, ℕ, List, [], ◌++◌, IsUtf8, codes, false, true}
 use Rattle.std.specs.Fmt.{decimal}
-use Rattle.bson.specs.declared.extjson.options.Options.{Options}
+use Rattle.bson_model.specs.declared.options.Options.{Options}
 use Rattle.bson_bytes.specs.ReadDocuments.{IsReadAsDocumentIn}
 use Rattle.bson_bytes.specs.Writing.{document_bytes}
 use Rattle.bson_bytes.specs.declared.fault.FaultKind.{FaultKind}

@@ -2,7 +2,7 @@
 use Rattle.std.specs.Prelude.{◌≡◌, ◌≢◌, ◌⊎◌, ◌-◌, ℕ, IsUtf8, List, [], ◌++◌, length, min, take, string_bytes}
 use Rattle.bson.specs.TextMeaning.{HasTextMeaningIn}
 use Rattle.bson.specs.Value.{Value}
-use Rattle.bson.specs.declared.extjson.options.Options.{Options}
+use Rattle.bson_model.specs.declared.options.Options.{Options}
 use Rattle.bson_bytes.specs.Writing.{document_bytes, FitsDocument}
 use Rattle.bson_bytes.specs.declared.error.Error.{Error as PathError}
 use Rattle.bson_bytes.specs.declared.error.Error.TheVariants as path_error
@@ -12,13 +12,14 @@ use Rattle.bson_convert.specs.declared.error.Error.{Error}
 use Rattle.bson_convert.specs.declared.error.Error.TheVariants.{NotExtendedJson, OutOfMemory}
 use Rattle.bson_tree.specs.Place.{PathSegment, path_of}
 use Rattle.bson_run.specs.ErrorMessages.{IsExplanation, column_at, line_at, explanation_message}
+use Rattle.bson_run.specs.Preprocessed.{IsPreprocessedAs, IsPreprocessingError}
 use Rattle.bson_run.specs.TaskNames.{rule_message}
 use Rattle.bson_run.specs.declared.explain.Explanation.{Explanation}
 use Rattle.bson_run.specs.declared.explain.Explanation.TheVariants.{Difference, Syntax, Other}
 use Rattle.bson_run.specs.declared.explain.Explanation.TheVariants as explanations
 use Rattle.vbson.specs.Convert.{options_of_call, status_of_reason}
 use Rattle.vbson.specs.Path.{path_pairs}
-use Rattle.vbson.specs.Reading.{TextIsReadAs, IsPreprocessingFault, MeansUnder, preprocessing_of}
+use Rattle.vbson.specs.Reading.{MeansUnder, preprocessing_of}
 use Rattle.vbson.specs.Text.{IsOwnedText}
 use Rattle.vbson.specs.declared.explain.RejectionFields.{RejectionFields}
 use Rattle.vbson.specs.declared.explain.Rejection.{Rejection}
@@ -90,8 +91,8 @@ pub record ExplainsError (text : List ℕ) (fault : Error) (rejection : Rejectio
 -- the text that the options read in the place of this one is rejected for the error, or preprocessing rejects this one
 abbrev pub IsRejectedFor : (options : CallOptions) (text read_text : List ℕ) → Error → Type 0
 IsRejectedFor options text read_text fault =
-    (TextIsReadAs (preprocessing_of options) text read_text × IsRejectedIn (options_of_call options) fault read_text)
-    ⊎ ((read_text ≡ text) × IsPreprocessingFault (preprocessing_of options) fault text)
+    (IsPreprocessedAs (preprocessing_of options) text read_text × IsRejectedIn (options_of_call options) fault read_text)
+    ⊎ ((read_text ≡ text) × IsPreprocessingError (preprocessing_of options) fault text)
 
 -- the text is rejected, and the error struct explains why
 pub record ExplainsRejection (options : CallOptions) (text : List ℕ) (rejection : Rejection) : Type 0 where

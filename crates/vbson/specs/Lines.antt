@@ -1,16 +1,22 @@
 -- A block of lines, each a text of its own.
 use Rattle.std.specs.Prelude.{◌≡◌, ◌+◌, ℕ, List, ◌∷◌, ◌++◌, Bool, true, false, Some, length}
-use Rattle.bson.specs.declared.extjson.options.Options.{Options}
+use Rattle.bson_model.specs.declared.options.Options.{Options}
 use Rattle.bson_convert.specs.declared.error.Error.{Error}
 use Rattle.bson_convert.specs.declared.error.Error.TheVariants.{CannotRead, CannotWrite, OutOfMemory}
 use Rattle.bson_run.specs.Lines.{HaveLineOutcomes, IsRejectedLineIn, lines as lines_of, line_text}
 use Rattle.bson_convert.specs.declared.mode.Mode.{Mode}
 use Rattle.bson_run.specs.declared.task.OnRefusal.TheVariants.{KeepGoing, Stop}
 use Rattle.bson_run.specs.declared.task.Task.{Task}
-use Rattle.bson_run.specs.declared.task.Task.TheVariants.{Write, Encode}
+use Rattle.bson_run.specs.declared.task.Output.{Output}
+use Rattle.bson_run.specs.declared.task.Output.TheVariants.{Text, Bytes}
+use Rattle.bson_run.specs.Preprocessed.{default_preprocessing}
 use Rattle.vbson.specs.Convert.{mode_of_number}
 use Rattle.vbson.specs.Text.{IsOwnedText}
 use Rattle.vbson.specs.declared.lines.Lines.{Lines}
+
+-- the task that writes the output of each line, without preprocessing
+abbrev pub task_of : Output → Task
+task_of output = record { preprocessing = default_preprocessing; output = output }
 
 -- the task writes this output and these diagnostics for the lines of the block; these are the numbers of lines and of
 -- rejected lines
@@ -32,11 +38,11 @@ pub record LinesAreConverted (options : Options) (mode_number : ℕ) (block : Li
     (lines_result : Lines) : Type 0 where
   pub mode : Mode
   pub mode_selected : mode_of_number mode_number ≡ Some mode
-  pub is_result : IsLinesResult options (Write mode) block lines_result
+  pub is_result : IsLinesResult options (task_of (Text mode)) block lines_result
 
 -- the struct has the result of encoding each line as the bytes of its document
 abbrev pub LinesAreEncoded : Options → (block : List ℕ) → Lines → Type 0
-LinesAreEncoded options block lines_result = IsLinesResult options Encode block lines_result
+LinesAreEncoded options block lines_result = IsLinesResult options (task_of Bytes) block lines_result
 
 -- ---- the first line that is rejected
 

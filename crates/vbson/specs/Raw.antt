@@ -1,7 +1,7 @@
 -- Values of documents that remain bytes. The depth says how deep documents, arrays and scopes may nest in a value.
 use Rattle.std.specs.Prelude.{◌≡◌, ◌≤◌, ℕ, Bool, true, false, List, Option, None, Some, Ok, length, drop}
 use Rattle.bson_bytes.specs.Reading.{read_value_in, read_document_in}
-use Rattle.bson_bytes.specs.declared.duplicate_keys.DuplicateKeys.TheVariants.{Replace}
+use Rattle.bson_model.specs.declared.options.DuplicateKeys.TheVariants.{LastWins}
 use Rattle.bson_model.specs.Value.{Value, Pairs, no_pairs, pair}
 use Rattle.bson_bytes.specs.RawElements.{value_length}
 use Rattle.bson_bytes.specs.ReadElements.{BeginsWithElements}
@@ -17,7 +17,7 @@ use Rattle.vbson.specs.declared.raw.Slice.{Slice}
 pub record IsRawValueOf (depth : ℕ) (denoted_value : Value) (raw_value : RawValue) : Type 0 where
   pub type : ElementType
   pub tag : raw_value.kind ≡ tag_of type
-  pub read : read_value_in Replace (read_document_in Replace depth) type raw_value.bytes.now
+  pub read : read_value_in LastWins (read_document_in LastWins depth) type raw_value.bytes.now
       ≡ Ok (denoted_value, drop raw_value.len raw_value.bytes.now)
   pub within : raw_value.len ≤ length raw_value.bytes.now
 

@@ -1,49 +1,42 @@
 -- Which value the options read from a text, and from the bytes of a document.
-use Rattle.std.specs.Prelude.{◌≡◌, ◌⊎◌, ◌≤◌, ◌==◌, ℕ, List, Option, None, Some, if◌then◌else◌}
+use Rattle.std.specs.Prelude.{◌≡◌, ◌⊎◌, ◌≤◌, ◌==◌, ℕ, List, if◌then◌else◌}
 use Rattle.bson.specs.TextMeaning.{HasTextMeaningIn, IsNotJsonText}
 use Rattle.bson_bytes.specs.ReadDocuments.{IsReadAsDocumentIn}
-use Rattle.bson_bytes.specs.declared.duplicate_keys.DuplicateKeys.{DuplicateKeys}
-use Rattle.bson_bytes.specs.declared.duplicate_keys.DuplicateKeys.TheVariants.{Replace, Refuse}
+use Rattle.bson_model.specs.declared.options.DuplicateKeys.{DuplicateKeys}
+use Rattle.bson_model.specs.declared.options.DuplicateKeys.TheVariants.{LastWins, Reject}
 use Rattle.bson_model.specs.Value.{Value, Pairs, document}
 use Rattle.bson_tree.specs.declared.place.Place.{Place}
-use Rattle.bson.specs.declared.extjson.options.Options.{Options}
-use Rattle.bson_convert.specs.declared.error.Error.{Error}
-use Rattle.bson_run.specs.Preprocessed.{IsPreprocessedAs, IsRejectedByPreprocessing, IsPreprocessingError}
+use Rattle.bson_model.specs.declared.options.Options.{Options}
+use Rattle.bson_run.specs.Preprocessed.{IsPreprocessedAs, IsRejectedByPreprocessing}
 use Rattle.bson_run.specs.declared.task.Preprocessing.{Preprocessing}
-use Rattle.bson_run.specs.declared.task.Preprocessing.TheVariants.{Distinct, Legacy, DistinctLegacy}
 use Rattle.vbson.specs.Convert.{IsInvalidExtendedJson, IsInvalidShape, IsBadObjectId, IsCauseOfStatus, options_of_call}
 use Rattle.vbson.specs.Documents.{depth}
 use Rattle.vbson.specs.declared.options.CallOptions.{CallOptions}
 
 -- ---- texts
 
--- what the options request: that a duplicate key is rejected, and that Extended JSON v1 is read too
-abbrev pub preprocessing_of : CallOptions → Option Preprocessing
-preprocessing_of options =
-    if options.duplicate_keys == 1
-    then (if options.v1 == 1 then Some DistinctLegacy else Some Distinct)
-    else (if options.v1 == 1 then Some Legacy else None)
+-- the options reject a duplicate key, or do not
+abbrev pub duplicate_keys_of : CallOptions → DuplicateKeys
+duplicate_keys_of options = if options.duplicate_keys == 1 then Reject else LastWins
 
--- preprocessing accepts the text, and these bytes are read instead of it
-abbrev pub TextIsReadAs : Option Preprocessing → (text read_text : List ℕ) → Type 0
-TextIsReadAs None text read_text = read_text ≡ text
-TextIsReadAs (Some preprocessing) text read_text = IsPreprocessedAs preprocessing text read_text
+-- what the options request: that a duplicate key is rejected, and that Extended JSON v1 is read too
+abbrev pub preprocessing_of : CallOptions → Preprocessing
+preprocessing_of options = record { duplicate_keys = duplicate_keys_of options; v1 = options.v1 == 1 }
 
 -- preprocessing rejects the text
-abbrev pub HasRejectedKey : Option Preprocessing → (text : List ℕ) → Type 0
-HasRejectedKey None text = ⊥
-HasRejectedKey (Some preprocessing) text = (place : Place) × IsRejectedByPreprocessing preprocessing place text
+abbrev pub HasRejectedKey : Preprocessing → (text : List ℕ) → Type 0
+HasRejectedKey preprocessing text = (place : Place) × IsRejectedByPreprocessing preprocessing place text
 
 -- under the options the text denotes the value
 pub record MeansUnder (options : CallOptions) (text : List ℕ) (value : Value) : Type 0 where
   pub read_text : List ℕ
-  pub read_as : TextIsReadAs (preprocessing_of options) text read_text
+  pub read_as : IsPreprocessedAs (preprocessing_of options) text read_text
   pub meaning : HasTextMeaningIn (options_of_call options).doubles read_text value
 
 -- the text that is read instead of this one is rejected for the cause
 pub record IsReadAndRejected (options : CallOptions) (cause : List ℕ → Type 0) (text : List ℕ) : Type 0 where
   pub read_text : List ℕ
-  pub read_as : TextIsReadAs (preprocessing_of options) text read_text
+  pub read_as : IsPreprocessedAs (preprocessing_of options) text read_text
   pub rejected : cause read_text
 
 abbrev pub IsNotJsonUnder : CallOptions → (text : List ℕ) → Type 0
@@ -59,10 +52,6 @@ IsInvalidUnder options text =
 
 -- ---- documents
 
--- the options reject a duplicate key, or do not
-abbrev pub duplicate_keys_of : CallOptions → DuplicateKeys
-duplicate_keys_of options = if options.duplicate_keys == 1 then Refuse else Replace
-
 -- under the options the bytes are the document that the value is
 pub record IsDocumentUnder (options : CallOptions) (bytes : List ℕ) (value : Value) : Type 0 where
   pub pairs : Pairs
@@ -73,11 +62,6 @@ abbrev pub IsNotDocumentUnder : CallOptions → (bytes : List ℕ) → Type 0
 IsNotDocumentUnder options bytes = (value : Value) → IsDocumentUnder options bytes value → ⊥
 
 -- ---- for private clauses
-
--- the cause of a fault of a text that preprocessing does not accept
-abbrev pub IsPreprocessingFault : Option Preprocessing → Error → (text : List ℕ) → Type 0
-IsPreprocessingFault None fault text = ⊥
-IsPreprocessingFault (Some preprocessing) fault text = IsPreprocessingError preprocessing fault text
 
 -- the cause of each status that rejects bytes, without preprocessing
 pub record IsReadFailure (options : Options) (status : ℕ) (bytes : List ℕ) : Type 0 where

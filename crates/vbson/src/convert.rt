@@ -1,14 +1,14 @@
 //! Converts one text of Extended JSON to another.
 ghost use Rattle.std.specs.Prelude.{◌≡◌, ◌↔◌, ◌⊎◌, ◌<◌, ◌≤◌, ◌++◌, List, ℕ, Some};
 ghost use Rattle.serde_json.specs.Data.{Data};
-ghost use Rattle.bson.specs.declared.extjson.options.Options.{Options};
+ghost use Rattle.bson_model.specs.declared.options.Options.{Options};
 ghost use Rattle.bson_model.specs.Means.{MeansIn};
 ghost use Rattle.bson_model.specs.Value as model;
 ghost use Rattle.bson_convert.specs.Convert.{IsRejectedIn, newline};
 ghost use Rattle.bson.specs.TextMeaning.{IsNotJsonText, IsTextOf};
 ghost use Rattle.bson_convert.specs.declared.mode.Mode.{Mode};
 ghost use Rattle.vbson.specs.Convert.{IsInvalidExtendedJson, IsInvalidShape, IsBadObjectId, IsCauseOfStatus};
-ghost use Rattle.bson_run.specs.InOrder.{ConvertsBy};
+ghost use Rattle.bson_convert.specs.InOrder.{ConvertsBy};
 ghost use Rattle.vbson.specs.Convert.{IsConvertedBy, IsTextError};
 ghost use Rattle.vbson.specs.Convert.{mode_of_number, options_of_call, status_of};
 ghost use Rattle.vbson.specs.Options.{AreNotForConversion};
@@ -17,10 +17,10 @@ ghost use Rattle.vbson.specs.Text.{nul};
 use crate::options::{CallOptions, are_not_for_conversion, options_of};
 use crate::status;
 use crate::text::{Text, text_of_line};
+use bson_convert::convert::convert_text;
 use bson_convert::encode_error::NoBytes;
 use bson_convert::error::Error;
 use bson_convert::mode::Mode;
-use bson_run::convert::convert_text;
 use bson_tree::place::Reason;
 use std::alloc::Global;
 

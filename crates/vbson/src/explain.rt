@@ -13,15 +13,15 @@ ghost use Rattle.bson_run.specs.declared.explain.Explanation.TheVariants as expl
 
 use crate::options::{CallOptions, are_invalid, options_of, preprocessing_of};
 use crate::path::path_line;
-use crate::reading::preprocess;
 use crate::status;
 use crate::text::{Text, text_of_line};
 use bson::extjson::Options;
 use bson_bytes::error::Error as PathError;
-use bson_convert::convert::convert_sorted;
+use bson_convert::check::check;
 use bson_convert::error::Error;
-use bson_convert::mode::Mode;
+use bson_model::laws::reading_in_each_mode;
 use bson_run::explain::Explanation;
+use bson_run::preprocessed::preprocess_text;
 use bson_tokens::laws::one_duplicate_path;
 use bson_tree::place::{Reason, Segment};
 use std::alloc::{AllocError, Global};
@@ -93,7 +93,7 @@ fn explain_text(
     ensures error_report { IfOk result (λ rejection. Explains options text.now rejection) }
     ensures too_long { IfErr result (λ error. error ≢ path_error.OutOfMemory → ErrorPathIsTooLong options text.now) }
 {
-    match preprocess(alloc, preprocessing_of(options), text) {
+    match preprocess_text(alloc, preprocessing_of(options), text) {
         Ok(Some(new_text)) => explain_without_preprocessing(
             alloc,
             options_of(options),
@@ -114,8 +114,10 @@ fn explain_without_preprocessing(
     ensures error_report { IfOk result (λ rejection. ExplainsWithoutPreprocessing options text.now rejection) }
     ensures too_long { IfErr result (λ error. IsUnexplained error (λ fault. IsRejectedIn options fault text.now)) }
 {
-    match convert_sorted(alloc, options, Mode::Canonical, text) {
-        Ok(_) => empty_rejection(alloc),
+    // A law: a tree means at most one value, which is plain and writable.
+    reading_in_each_mode();
+    match check(alloc, options, text) {
+        Ok(()) => empty_rejection(alloc),
         Err(Error::OutOfMemory) => Err(PathError::OutOfMemory),
         Err(fault) => rejection_of_error(alloc, &fault, text),
     }

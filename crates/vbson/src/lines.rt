@@ -2,10 +2,9 @@
 ghost use Rattle.std.specs.Prelude.{◌≡◌, ◌⊎◌, ◌↔◌, ◌<◌, ◌++◌, List, ℕ, Some, IfSome};
 ghost use Rattle.bson_convert.specs.Convert.{newline};
 ghost use Rattle.bson_convert.specs.declared.mode.Mode.{Mode};
-ghost use Rattle.bson_run.specs.declared.task.Task.TheVariants.{Write, Encode};
 ghost use Rattle.vbson.specs.Convert.{mode_of_number, options_of_call};
 ghost use Rattle.vbson.specs.Lines.{LinesAreConverted, LinesAreEncoded, IsLinesResult, IsOutputOfLines};
-ghost use Rattle.vbson.specs.Lines.{EachLineIsAccepted, IsFirstRejected, is_rejection};
+ghost use Rattle.vbson.specs.Lines.{EachLineIsAccepted, IsFirstRejected, is_rejection, task_of};
 ghost use Rattle.vbson.specs.Options.{AreNotForConversion};
 
 use crate::convert::mode_of;
@@ -15,7 +14,7 @@ use crate::text::{Text, append_newline, text_of_line};
 use bson::extjson::Options;
 use bson_convert::error::Error;
 use bson_run::lines::LineRun;
-use bson_run::task::{OnRefusal, Task};
+use bson_run::task::{OnRefusal, Output, Task};
 use std::alloc::Global;
 use std::io::sink;
 
@@ -54,7 +53,8 @@ pub extern "C" fn vbson_convert_lines_nonnull(
     let Some(mode) = mode_of(mode) else {
         return status::INVALID_ARGUMENT;
     };
-    let Some(lines) = lines_of(alloc, options_of(*options), Task::Write(mode), block) else {
+    let task = task_of(Output::Text(mode));
+    let Some(lines) = lines_of(alloc, options_of(*options), task, block) else {
         return status::OUT_OF_MEMORY;
     };
     *out = lines;
@@ -82,7 +82,8 @@ pub extern "C" fn vbson_encode_lines_nonnull(
     if are_not_for_conversion(*options) {
         return status::INVALID_ARGUMENT;
     }
-    let Some(encoded_lines) = lines_of(alloc, options_of(*options), Task::Encode, block) else {
+    let task = task_of(Output::Bytes);
+    let Some(encoded_lines) = lines_of(alloc, options_of(*options), task, block) else {
         return status::OUT_OF_MEMORY;
     };
     *out = encoded_lines;
@@ -100,9 +101,9 @@ pub extern "C" fn vbson_first_rejected_line_nonnull(
     number: &mut u64,
 ) -> u32
     ensures rejected { result ≡ 0 → (selected_mode : Mode) → mode_of_number mode ≡ Some selected_mode
-        → IsFirstRejected (options_of_call options.now) (Write selected_mode) block.now number.new }
+        → IsFirstRejected (options_of_call options.now) (task_of (Output.Text selected_mode)) block.now number.new }
     ensures accepted { result ≡ 14 → (selected_mode : Mode) → mode_of_number mode ≡ Some selected_mode
-        → EachLineIsAccepted (options_of_call options.now) (Write selected_mode) block.now }
+        → EachLineIsAccepted (options_of_call options.now) (task_of (Output.Text selected_mode)) block.now }
 
     // When each other status comes, and that nothing is left then.
     ensures invalid_argument { result ≡ 1 ↔ (2 < mode) ⊎ AreNotForConversion options.now }
@@ -118,7 +119,7 @@ pub extern "C" fn vbson_first_rejected_line_nonnull(
     first_rejected(
         alloc,
         options_of(*options),
-        Task::Write(mode),
+        task_of(Output::Text(mode)),
         block,
         number,
     )
@@ -133,8 +134,8 @@ pub extern "C" fn vbson_first_unencoded_line_nonnull(
     block: &[u8],
     number: &mut u64,
 ) -> u32
-    ensures rejected { result ≡ 0 → IsFirstRejected (options_of_call options.now) Encode block.now number.new }
-    ensures accepted { result ≡ 14 → EachLineIsAccepted (options_of_call options.now) Encode block.now }
+    ensures rejected { result ≡ 0 → IsFirstRejected (options_of_call options.now) (task_of Output.Bytes) block.now number.new }
+    ensures accepted { result ≡ 14 → EachLineIsAccepted (options_of_call options.now) (task_of Output.Bytes) block.now }
 
     // When each other status comes, and that nothing is left then.
     ensures invalid_argument { result ≡ 1 ↔ AreNotForConversion options.now }
@@ -144,7 +145,15 @@ pub extern "C" fn vbson_first_unencoded_line_nonnull(
     if are_not_for_conversion(*options) {
         return status::INVALID_ARGUMENT;
     }
-    first_rejected(alloc, options_of(*options), Task::Encode, block, number)
+    let task = task_of(Output::Bytes);
+    first_rejected(alloc, options_of(*options), task, block, number)
+}
+
+// Returns the task that writes the output of each line, without preprocessing.
+fn task_of(output: Output) -> Task
+    ensures { result ≡ task_of output }
+{
+    Task::new(output)
 }
 
 // Returns the result for the lines of the block, or `None` if memory runs out.

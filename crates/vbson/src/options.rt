@@ -94,27 +94,23 @@ fn key_order_of(options: CallOptions) -> KeyOrder
     }
 }
 
-/// Returns the preprocessing that the options request for a text, if any.
-pub fn preprocessing_of(options: CallOptions) -> Option<Preprocessing>
+/// Returns the preprocessing that the options request for a text.
+pub fn preprocessing_of(options: CallOptions) -> Preprocessing
     ensures { result ≡ preprocessing_of options }
 {
-    let is_distinct = options.duplicate_keys == DUPLICATE_KEYS_REJECT;
-    let is_legacy = options.v1 == V1_ACCEPT;
-    match (is_distinct, is_legacy) {
-        (true, true) => Some(Preprocessing::DistinctLegacy),
-        (true, false) => Some(Preprocessing::Distinct),
-        (false, true) => Some(Preprocessing::Legacy),
-        (false, false) => None,
+    Preprocessing {
+        duplicate_keys: duplicate_keys_of(options),
+        v1: options.v1 == V1_ACCEPT,
     }
 }
 
-/// Returns whether the options reject BSON bytes with a duplicate key.
+/// Returns whether the options reject input with a duplicate key.
 pub fn duplicate_keys_of(options: CallOptions) -> DuplicateKeys
     ensures { result ≡ duplicate_keys_of options }
 {
     if options.duplicate_keys == DUPLICATE_KEYS_REJECT {
-        DuplicateKeys::Refuse
+        DuplicateKeys::Reject
     } else {
-        DuplicateKeys::Replace
+        DuplicateKeys::LastWins
     }
 }

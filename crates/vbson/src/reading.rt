@@ -3,8 +3,7 @@ ghost use Rattle.std.specs.Prelude.{◌≡◌, ◌⊎◌, IfOk, IfErr};
 ghost use Rattle.bson.specs.TextMeaning.{HasTextMeaningIn};
 ghost use Rattle.bson.specs.View.{bson_view};
 ghost use Rattle.bson_model.specs.Value.{Value};
-ghost use Rattle.bson_run.specs.Preprocessed.{preprocessed_of};
-ghost use Rattle.vbson.specs.Reading.{IsDocumentUnder, TextIsReadAs, IsPreprocessingFault, IsTextReadFailure, IsReadFailure};
+ghost use Rattle.vbson.specs.Reading.{IsDocumentUnder, IsTextReadFailure, IsReadFailure};
 ghost use Rattle.vbson.specs.Reading.{IsDocumentReadFailure, MeansUnder};
 
 use crate::convert::status_of;
@@ -14,10 +13,8 @@ use bson::Bson;
 use bson::extjson::{KeyOrder, Options};
 use bson_codec::de;
 use bson_codec::de::{DEPTH, ReadOptions, from_bytes};
-use bson_convert::convert::error_of;
-use bson_convert::error::Error;
+use bson_run::encode::error_of;
 use bson_run::preprocessed::preprocess_text;
-use bson_run::task::Preprocessing;
 use bson_tokens::laws::one_duplicate_path;
 use std::alloc::Global;
 
@@ -39,31 +36,11 @@ pub fn value_of_text(alloc: Global, options: CallOptions, text: &[u8]) -> Result
 {
     // A law: no text with a duplicate key has unique keys.
     one_duplicate_path();
-    match preprocess(alloc, preprocessing_of(options), text) {
+    match preprocess_text(alloc, preprocessing_of(options), text) {
         Ok(Some(new_text)) => meaning_of(alloc, options_of(options), new_text.as_bytes()),
         Ok(None) => meaning_of(alloc, options_of(options), text),
         Err(fault) if fault.is_out_of_memory() => Err(status::OUT_OF_MEMORY),
         Err(_) => Err(status::NOT_EXTENDED_JSON),
-    }
-}
-
-/// Returns the text that is read in the place of a text, or `None` if the text itself is read.
-///
-/// # Errors
-///
-/// - `NotExtendedJson`: preprocessing rejects the text.
-/// - `OutOfMemory`: an allocation failed.
-pub fn preprocess(
-    alloc: Global,
-    preprocessing: Option<Preprocessing>,
-    text: &[u8],
-) -> Result<Option<String>, Error>
-    ensures ok { IfOk result (λ new_text. TextIsReadAs preprocessing text.now (preprocessed_of text.now new_text)) }
-    ensures rejected { IfErr result (λ fault. IsPreprocessingFault preprocessing fault text.now) }
-{
-    match preprocessing {
-        Some(selected) => preprocess_text(alloc, selected, text),
-        None => Ok(None),
     }
 }
 

@@ -13,9 +13,9 @@ ghost use Rattle.bson.specs.Texts.{IsTextInKeyOrder, IsTextIn, IsTextInOrder, Is
 ghost use Rattle.bson.specs.View.{bson_view};
 
 use crate::bson::Bson;
-use crate::extjson::options::Options;
 use crate::extjson::text_writer::{append_text, text_of};
 use crate::extjson::write::write;
+use bson_model::options::Options;
 use bson_scalar::form::{Doubles, Form};
 use bson_scalar::write_error::WriteError;
 use serde_json::Value;

@@ -18,10 +18,9 @@ pub(crate) mod sorted_members;
 
 use crate::bson::Bson;
 use crate::extjson::bson_writer::read_once;
-use crate::extjson::key_order::KeyOrder;
-use crate::extjson::options::Options;
 use crate::extjson::text_error::TextError;
 use crate::extjson::text_reader::retry::read_again;
+use bson_model::options::{KeyOrder, Options};
 use bson_scalar::form::Doubles;
 use bson_text::traversal_error::TraversalError;
 use std::alloc::Global;

@@ -15,18 +15,17 @@ ghost use Rattle.bson.specs.Texts.{AppendsPrintedTokens, ReturnsWrittenText, App
 ghost use Rattle.bson.specs.IsScalar.{IsScalar};
 ghost use Rattle.bson.specs.OutputCapacity.{is_allocation_free as is_scalar_allocation_free, IsAllocationFree, ValuesAreAllocationFree, PairsAreAllocationFree};
 ghost use Rattle.bson.specs.OutputCapacity.{written_tree_capacity, value_capacity, values_capacity, pairs_capacity, StaysWithinCapacityOrStops};
-ghost use Rattle.bson.specs.declared.extjson.key_order.KeyOrder.{KeyOrder as Order};
-ghost use Rattle.bson.specs.declared.extjson.key_order.KeyOrder.TheVariants.{AsGiven};
+ghost use Rattle.bson_model.specs.declared.options.KeyOrder.{KeyOrder as Order};
+ghost use Rattle.bson_model.specs.declared.options.KeyOrder.TheVariants.{AsGiven};
 ghost use Rattle.bson_scalar.specs.declared.write_error.WriteError.TheVariants.{OutOfMemory};
 ghost use Rattle.bson.specs.View.{bson_view, code_with_scope_view, values_view, pairs_view};
 
 use crate::bson::{Bson, JavaScriptCodeWithScope};
 use crate::document::Document;
-use crate::extjson::key_order::KeyOrder;
-use crate::extjson::options::Options;
 use crate::extjson::scalars::can_be_printed;
 use crate::extjson::without_allocation::{is_allocation_free, print_without_allocation, put_code};
 use crate::scalar::scalar_ref;
+use bson_model::options::{KeyOrder, Options};
 use bson_scalar::form::{Doubles, Form};
 use bson_scalar::scalar_ref::ScalarRef;
 use bson_scalar::write::{print_scalar_in, put_binary};

@@ -5,7 +5,7 @@ use Rattle.bson_store.specs.AscendingOrder.{sorted_by_key}
 use Rattle.bson_model.specs.HashInput.{sorted_hash_input as words_of}
 use Rattle.bson_model.specs.Value.{document, array}
 use Rattle.bson.specs.View.{values_view, pairs_view}
-use Rattle.bson.specs.declared.extjson.key_order.KeyOrder.TheVariants.{Ascending}
+use Rattle.bson_model.specs.declared.options.KeyOrder.TheVariants.{Ascending}
 use Rattle.bson.proofs.Feeds.{turn_words, list_words, document_words, array_words, feeds_pair, feeds_all}
 use Rattle.bson.proofs.Sizes.{NoLarger, walk_larger, next_smaller, rest_larger}
 use Rattle.bson.proofs.hash.+feeding.Goals as goal

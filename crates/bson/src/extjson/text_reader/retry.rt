@@ -2,7 +2,7 @@
 ghost use Rattle.std.specs.Prelude.{IfOk, IfErr, ℕ, List, string_bytes};
 ghost use Rattle.serde_json.specs.Read.{read as tree_of};
 ghost use Rattle.bson_tokens.specs.Normalized.{IsNormalizedText};
-ghost use Rattle.bson_tokens.specs.declared.arrangement.Arrangement.TheVariants as normalized;
+ghost use Rattle.bson_model.specs.declared.options.KeyOrder.TheVariants as normalized;
 ghost use Rattle.bson_scalar.specs.declared.form.Doubles.{Doubles};
 ghost use Rattle.bson_model.specs.Value as model;
 ghost use Rattle.bson_tokens.specs.ReadOutcomes.{NothingReadIfInvalid};
@@ -11,11 +11,10 @@ ghost use Rattle.bson.specs.TextMeaning.{HasTextMeaningInKeyOrder, IsTextFaultIn
 
 use crate::bson::Bson;
 use crate::extjson::bson_writer::read_once;
-use crate::extjson::key_order::KeyOrder;
 use crate::extjson::text_error::TextError;
+use bson_model::options::KeyOrder;
 use bson_scalar::form::Doubles;
 use bson_text::first_fault::first_fault_of_normalized;
-use bson_tokens::arrangement::Arrangement;
 use bson_tokens::normalize::normalize_text;
 use json::Error;
 use std::alloc::{AllocError, Global};
@@ -50,7 +49,7 @@ fn normalize_faultless(alloc: Global, doubles: Doubles, text: &str) -> Result<St
         (λ ascending_text. IsNormalizedText normalized.Ascending text.now (string_bytes ascending_text)) }
     ensures fault { IfErr result (λ read_error. IsTextFaultIn doubles text.now read_error) }
 {
-    let ascending_text = match normalize_text(alloc, Arrangement::Ascending, text) {
+    let ascending_text = match normalize_text(alloc, KeyOrder::Ascending, text) {
         Ok(ascending_text) => ascending_text,
         Err(error) => return Err(error_of_tree(error)),
     };
@@ -78,7 +77,7 @@ fn normalize_by_key_order(
         KeyOrder::Ascending => Ok(ascending_text),
         KeyOrder::AsGiven => {
             drop(ascending_text);
-            match normalize_text(alloc, Arrangement::FirstPositions, text) {
+            match normalize_text(alloc, KeyOrder::AsGiven, text) {
                 Ok(normalized) => Ok(normalized),
                 Err(error) => Err(error_of_tree(error)),
             }

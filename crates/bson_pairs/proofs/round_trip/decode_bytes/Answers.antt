@@ -5,7 +5,7 @@ use Rattle.bson.specs.Texts.{IsTextInKeyOrder, IsTextInOrder}
 use Rattle.bson.specs.Value.{document}
 use Rattle.bson.specs.View.{bson_view}
 use Rattle.bson.specs.declared.bson.Bson.TheVariants.{Document as held}
-use Rattle.bson.specs.declared.extjson.options.Options.{Options}
+use Rattle.bson.specs.Options.{Options}
 use Rattle.bson_pairs.proofs.Seen.{document_seen}
 use Rattle.bson_pairs.proofs.round_trip.decode_bytes.Goals as goal
 

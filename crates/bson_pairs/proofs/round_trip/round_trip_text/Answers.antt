@@ -5,9 +5,9 @@ use Rattle.bson.specs.Form.TheVariants.{Canonical}
 use Rattle.bson.specs.Texts.{IsTextInOrder}
 use Rattle.bson.specs.Value.{document}
 use Rattle.bson_codec.specs.ReadDocuments.{IsReadAsDocument}
-use Rattle.bson.specs.Options.{mongodb_options}
-use Rattle.bson.specs.declared.extjson.key_order.KeyOrder.TheVariants.{AsGiven}
-use Rattle.bson.specs.declared.extjson.options.Options.{Options}
+use Rattle.bson.specs.NamedOptions.{mongodb_options}
+use Rattle.bson.specs.KeyOrder.TheVariants.{AsGiven}
+use Rattle.bson.specs.Options.{Options}
 use Rattle.bson_run.specs.Encode.{Encodes}
 use Rattle.bson_pairs.proofs.ComingBack.{decoded_again, text_one}
 use Rattle.bson_pairs.proofs.round_trip.round_trip_text.Goals as goal

@@ -49,18 +49,18 @@ loop-arg-preserved c =
       args_so_far = more_given string_bytes c.args.args.items c.deref-arg-items.result.now _ _ c.as_str.result.now
           c.loop-arg.args_so_far c.parse_arg.new.self c.deref-arg-items.ensures.value (omega arith) c.arg-item.is
           c.as_str.ensures.value c.loop-arg.invariant.args_so_far c.parse_arg.ensures.args_so_far;
-      named_task = still_there args c.as_str.result.now c.loop-arg.args_so_far.purpose c.parse_arg.new.self.purpose c.loop-arg.args_so_far.task
-          c.parse_arg.new.self.task there c.loop-arg.invariant.named_task c.parse_arg.ensures.named_task;
+      named_kind = still_there args c.as_str.result.now c.loop-arg.args_so_far.purpose c.parse_arg.new.self.purpose c.loop-arg.args_so_far.output_kind
+          c.parse_arg.new.self.output_kind there c.loop-arg.invariant.named_kind c.parse_arg.ensures.named_kind;
     }
 
 pub loop-arg-init : goal.loop-arg-init
 loop-arg-init c =
     let args = map string_bytes c.args.args.items in
     let first = c.new-args_so_far.ensures.initial_state in
-    let unnamed : c.new-args_so_far.result.task ≡ None = ap (λ (g : ArgsSoFar). g.task) first in
+    let unnamed : c.new-args_so_far.result.output_kind ≡ None = ap (λ (g : ArgsSoFar). g.output_kind) first in
     record {
       args_so_far = no_args c.new-args_so_far.result first c.new-args_so_far.ensures.no_inputs;
-      named_task = subst (λ task. IfSome task (IsThere args c.new-args_so_far.result.purpose)) (sym unnamed) tt;
+      named_kind = subst (λ kind. IfSome kind (IsThere args c.new-args_so_far.result.purpose)) (sym unnamed) tt;
     }
 
 pub returns : goal.returns
@@ -75,5 +75,5 @@ returns c =
       c.loop-arg-test.false,
     )) in
     answer (map string_bytes args) c.loop-arg.args_so_far c.into_request.result
-    (subst (λ ws. AreParsed ws c.loop-arg.args_so_far) whole c.loop-arg.invariant.args_so_far) c.loop-arg.invariant.named_task
+    (subst (λ ws. AreParsed ws c.loop-arg.args_so_far) whole c.loop-arg.invariant.args_so_far) c.loop-arg.invariant.named_kind
     c.into_request.ensures

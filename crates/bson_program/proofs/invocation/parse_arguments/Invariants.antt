@@ -6,5 +6,5 @@ use Rattle.bson_program.proofs.invocation.parse_arguments.Given as goal
 abbrev pub invariant-loop-arg : goal.invariant-loop-arg
 invariant-loop-arg l = record {
   args_so_far : AreParsed (take l.arg-index (map string_bytes l.fn.args.items)) l.args_so_far;
-  named_task : IfSome l.args_so_far.task (IsThere (map string_bytes l.fn.args.items) l.args_so_far.purpose);
+  named_kind : IfSome l.args_so_far.output_kind (IsThere (map string_bytes l.fn.args.items) l.args_so_far.purpose);
 }

@@ -1,8 +1,21 @@
 use Rattle.std.proofs.Common.{subst, sym}
 use Rattle.bson_program.specs.Texts.{FailsAtText}
 use Rattle.bson_program.specs.SingleText.{IsTextRejected}
-use Rattle.bson_program.proofs.Sequences.{accepted_stops, content_read, if_err, on_ok, one_text_done, reads_and_stops, stops_whole}
+use Rattle.bson_program.proofs.Sequences.{accepted_stops, content_read, if_err, on_ok, one_text_done, reads_and_stops, sequence_done, stops_whole}
 use Rattle.bson_program.proofs.texts.convert_texts.Goals as goal
+
+pub returns-then-is_read_as_sequence-clause-done : goal.returns-then-is_read_as_sequence-clause-done
+returns-then-is_read_as_sequence-clause-done g c =
+    let invocation = c.args.invocation.now in
+    let file_name = c.args.file_name.now in
+    let content = c.content_of-content.result.now in
+    let several = c.if-is_read_as_sequence.true in
+    on_ok c.convert_sequence.result _ _ (sequence_done invocation file_name content c.in-Ok.bytes.items
+    (g.R.Read.remaining c.args.reader.now) (g.R.Read.remaining c.read_whole.new.reader) (g.W.Write.contents c.args.writer.now)
+    (g.W.Write.contents c.convert_sequence.new.writer) c.in-Err-accept_single_text.fault c.in-Err-accept_single_text.ensures.fault
+    (c.is_read_as_sequence.ensures.not_json several) (c.is_read_as_sequence.ensures.several several) c.in-Ok.ensures.all
+    (content_read invocation file_name content c.deref.result.now c.in-Ok.bytes.items c.content_of-content.ensures c.deref.ensures.value))
+    c.convert_sequence.ensures.done
 
 pub returns-in-Err-accept_single_text-clause-stops : goal.returns-in-Err-accept_single_text-clause-stops
 returns-in-Err-accept_single_text-clause-stops g c =

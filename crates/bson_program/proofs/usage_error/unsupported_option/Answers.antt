@@ -5,7 +5,7 @@ use Rattle.bson_program.proofs.usage_error.unsupported_option.Goals as goal
 pub returns : goal.returns
 returns c = λ arg.
     let it = c.args.command in
-    let own = mode_with_command it (mode_without_option c.args.flag c.args.purpose c.args.task) in
+    let own = mode_with_command it (mode_without_option c.args.flag c.args.purpose c.args.output) in
     let name : string_bytes c.in_ok-name.name ≡ own = c.in_ok-name.ensures ∙ ap (mode_with_command it) c.mode_without_option.ensures in
     subst (λ option. IfOk c.format.result (λ line. string_bytes line
     ≡ codes "bson: " ++ own ++ codes " does not accept " ++ option)) c.flag_name-option.ensures

@@ -1,6 +1,6 @@
 use Rattle.std.proofs.Common.{string_bytes, subst}
 use Rattle.std.specs.Prelude.{IfOk}
-use Rattle.bson_run.specs.InOrder.{IsConvertedTextBy}
+use Rattle.bson_convert.specs.InOrder.{IsConvertedTextBy}
 use Rattle.bson_run.specs.Indent.{IsIndentedOutput}
 use Rattle.bson_run.proofs.LinesLaws.{oks_with}
 use Rattle.bson_run.proofs.TwiceIndented.{indented, indented_kept}

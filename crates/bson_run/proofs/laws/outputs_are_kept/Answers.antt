@@ -1,4 +1,4 @@
-use Rattle.bson_run.proofs.TwiceInOrder.{kept_by}
+use Rattle.bson_convert.proofs.Offered.{kept_by}
 use Rattle.bson_run.proofs.TwiceIndented.{laid_kept}
 use Rattle.bson_run.proofs.laws.outputs_are_kept.Goals as goal
 

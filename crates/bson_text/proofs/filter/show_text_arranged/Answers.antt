@@ -15,7 +15,7 @@ pub returns : goal.returns
 returns c =
     let old : DisplayWriter = record {
       alloc = c.args.alloc;
-      arrangement = c.args.arrangement;
+      key_order = c.args.key_order;
       text = c.in_ok-with_capacity.field-0;
       fragment = c.new.result;
       member_starts = c.new-2.result;
@@ -24,7 +24,7 @@ returns c =
       utf8 = nothing_utf8 _ c.in_ok-with_capacity.ensures.items;
     } in
     record {
-      ok = text_shown c.args.doubles c.args.arrangement c.args.text.now old c.in_ok-finished_writer.finished_writer
+      ok = text_shown c.args.doubles c.args.key_order c.args.text.now old c.in_ok-finished_writer.finished_writer
           c.in_ok-finished_writer.ensures.ok refl refl c.in_ok-with_capacity.ensures.items;
       utf8 = IsUtf8-from_is_utf8 c.in_ok-finished_writer.finished_writer.text.items c.in_ok-finished_writer.finished_writer.utf8;
       accepts = tt;

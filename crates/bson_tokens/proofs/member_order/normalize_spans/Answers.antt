@@ -6,11 +6,11 @@ use Rattle.bson_tokens.proofs.member_order.normalize_spans.Goals as goal
 
 pub returns-then-are_normalized : goal.returns-then-are_normalized
 returns-then-are_normalized c = λ es stand.
-    (es, stand, stays c.args.arrangement c.args.body.now c.args.spans.now.items es stand (c.are_normalized.ensures c.if-are_normalized.true))
+    (es, stand, stays c.args.key_order c.args.body.now c.args.spans.now.items es stand (c.are_normalized.ensures c.if-are_normalized.true))
 
 pub join_spans-requires : goal.join_spans-requires
 join_spans-requires c =
-    all_within c.args.body.now c.args.arrangement c.args.spans.now.items c.order_spans.new.spans.items
+    all_within c.args.body.now c.args.key_order c.args.spans.now.items c.order_spans.new.spans.items
     c.order_spans.ensures c.requires
 
 pub returns : goal.returns
@@ -20,6 +20,6 @@ returns c = λ es stand.
     let ordered = c.order_spans.ensures in (
       map (entry_at stand.values) zs,
       c.in_ok-join_spans.ensures stand.values
-          (all_spans c.args.body.now stand.values c.args.arrangement xs zs ordered stand.all),
-      settled c.args.arrangement c.args.body.now xs zs es stand ordered,
+          (all_spans c.args.body.now stand.values c.args.key_order xs zs ordered stand.all),
+      settled c.args.key_order c.args.body.now xs zs es stand ordered,
     )

@@ -99,10 +99,10 @@ pub write_items-items-preserved : goal.write_items-items-preserved
 write_items-items-preserved t c =
     let l = c.items in
     let going : (after_end_array l.reader ≡ None) × (c.take_end_array.new.self ≡ l.reader) = grind arith in
-    let read : ReadAndNormalized (if_valid all_numbers_in_range (value c.args.depth l.reader)) (normalized l.normalizer.arrangement) c.write_value.new.reader
+    let read : ReadAndNormalized (if_valid all_numbers_in_range (value c.args.depth l.reader)) (normalized l.normalizer.key_order) c.write_value.new.reader
     l.normalizer c.write_value.new.normalizer = rw (← going.1) c.in_ok-write_value.ensures.ok in
     record {
-      arrangement = read.2.arrangement ∙ l.invariant.arrangement;
+      key_order = read.2.key_order ∙ l.invariant.key_order;
       whole = item_passed c.args.depth _ l.reader c.write_value.new.reader l.normalizer c.write_value.new.normalizer
           l.invariant.whole going.0 read;
     }
@@ -119,7 +119,7 @@ pub write_items-returns-clause-ok : goal.write_items-returns-clause-ok
 write_items-returns-clause-ok t c =
     let l = c.items in
     items_passed c.args.depth c.args.reader.now l.reader c.take_end_array.new.self c.args.normalizer.now c.open_container.new.self l.normalizer
-    c.close_container.new.self c.in_ok-open_container.ensures l.invariant.whole l.invariant.arrangement (grind arith)
+    c.close_container.new.self c.in_ok-open_container.ensures l.invariant.whole l.invariant.key_order (grind arith)
     c.in_ok-close_container.ensures
 
 pub write_items-returns-in_err-write_value-clause-broken : goal.write_items-returns-in_err-write_value-clause-broken
@@ -137,7 +137,7 @@ write_items-returns-in_err-write_value-clause-broken t c =
 pub write_members-members-init : goal.write_members-members-init
 write_members-members-init t c =
     record {
-      arrangement = refl;
+      key_order = refl;
       entries = [];
       grown = record {
         body = [];
@@ -159,21 +159,21 @@ write_members-members-preserved t c =
     let later = c.write_value.new.normalizer in
     let named : read_key l.reader ≡ Some (Some k, s) = grind arith in
     let (j, read, added) = c.in_ok-write_value.ensures.ok in
-    let a = l.normalizer.arrangement in
-    let es = h.entries ++ (k, normalized mid.arrangement j) ∷ [] in
+    let a = l.normalizer.key_order in
+    let es = h.entries ++ (k, normalized mid.key_order j) ∷ [] in
     let rest = if_valid member_numbers_in_range (object_rest c.args.depth c.write_value.new.reader) in
     let begun = c.in_ok-object_start.ensures.0 in
     let g = grown_more first l.normalizer mid later c.in_ok-object_start.object_start c.in_ok-offset_in_object.offset_in_object c.offset_in_object.result l.spans.items
-    c.push_span.new.spans.items h.entries c.in-Some.key (normalized mid.arrangement j) h.grown begun c.in_ok-offset_in_object.ensures added
+    c.push_span.new.spans.items h.entries c.in-Some.key (normalized mid.key_order j) h.grown begun c.in_ok-offset_in_object.ensures added
     c.offset_in_object.ensures c.in_ok-push_span.ensures in
     let early = c.in_ok-member_limit.ensures in
     let (body, fs, text, stand, put, some) = early.2 first g.body es g.text_is begun g.stand in
-    let same : later.arrangement ≡ a = added.arrangement ∙ c.in_ok-offset_in_object.ensures.1.arrangement in
+    let same : later.key_order ≡ a = added.key_order ∙ c.in_ok-offset_in_object.ensures.1.key_order in
     let all = member_passed c.args.depth _ a h.entries k l.reader s c.write_value.new.reader j h.found named read
-    ∙ ap (λ x. found a (h.entries ++ (k, normalized x j) ∷ []) rest) (sym c.in_ok-offset_in_object.ensures.1.arrangement)
+    ∙ ap (λ x. found a (h.entries ++ (k, normalized x j) ∷ []) rest) (sym c.in_ok-offset_in_object.ensures.1.key_order)
     ∙ ap (λ ms. found_from a ms rest) (sym (ap (λ x. put_json_members x fs) (sym same) ∙ put ∙ ap (λ x. put_json_members x es) same)) in
     record {
-      arrangement = early.0 ∙ same ∙ h.arrangement;
+      key_order = early.0 ∙ same ∙ h.key_order;
       entries = fs;
       grown = record {
         body = body;
@@ -198,7 +198,7 @@ write_members-members-smaller t c =
 pub write_members-returns-in_err-key-clause-broken : goal.write_members-returns-in_err-key-clause-broken
 write_members-returns-in_err-key-clause-broken t c =
     let l = c.members in
-    let a = l.normalizer.arrangement in
+    let a = l.normalizer.key_order in
     let p = err_from_is_err_and c.from_residual-in_err-key.result c.from_residual-in_err-key.ensures.1 in
     rw p.1 (λ broken. all_breaks (found_at a []) (found_at a l.invariant.entries) _ _ l.invariant.found
     (key_fails c.args.depth l.reader (grind arith)))
@@ -207,7 +207,7 @@ pub write_members-returns-in_err-write_value-clause-broken :
     goal.write_members-returns-in_err-write_value-clause-broken
 write_members-returns-in_err-write_value-clause-broken t c =
     let l = c.members in
-    let a = l.normalizer.arrangement in
+    let a = l.normalizer.key_order in
     let k = c.in-Some.key.now in
     let s = c.next_key.new.self in
     let named : read_key l.reader ≡ Some (Some k, s) = grind arith in
@@ -227,5 +227,5 @@ write_members-returns-clause-ok t c =
     let ended : read_key l.reader ≡ Some (None, c.next_key.new.self) = grind arith in
     let close_container = c.in_ok-close_container.ensures in
     members_passed c.args.depth c.args.reader.now l.reader c.next_key.new.self c.args.normalizer.now c.begin_object.new.self
-    l.normalizer later h.entries fs body c.in_ok-object_start.ensures.1 h.found h.arrangement ended stand.body_is_member_texts put
-    (close_container.arrangement ∙ settled.0) close_container.needs_comma (close_container.text ∙ ap (λ b. b ++ 125 ∷ []) text)
+    l.normalizer later h.entries fs body c.in_ok-object_start.ensures.1 h.found h.key_order ended stand.body_is_member_texts put
+    (close_container.key_order ∙ settled.0) close_container.needs_comma (close_container.text ∙ ap (λ b. b ++ 125 ∷ []) text)

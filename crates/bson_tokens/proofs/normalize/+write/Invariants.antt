@@ -16,7 +16,7 @@ decreases-write_members l = 2 * l.depth + 1
 -- what is left, written after what was written, is the whole
 abbrev pub invariant-write_items-items : goal.invariant-write_items-items
 invariant-write_items-items l = record {
-  arrangement : l.normalizer.arrangement ≡ l.initial.normalizer.arrangement;
+  key_order : l.normalizer.key_order ≡ l.initial.normalizer.key_order;
   whole : whole l.initial.normalizer (if_valid item_numbers_in_range (array_rest l.depth l.initial.reader))
       ≡ whole l.normalizer (if_valid item_numbers_in_range (array_rest l.depth l.reader));
 }
@@ -27,11 +27,11 @@ decreases-write_items-items l = length l.reader
 -- the members so far follow the start, and what is left, inserted into them, is the whole
 abbrev pub invariant-write_members-members : goal.invariant-write_members-members
 invariant-write_members-members l = record {
-  arrangement : l.normalizer.arrangement ≡ l.initial.normalizer.arrangement;
+  key_order : l.normalizer.key_order ≡ l.initial.normalizer.key_order;
   entries : List JsonMember;
   grown : Grown l.initial.normalizer.text.items l.normalizer.text.items l.normalizer.needs_comma l.spans.items entries;
-  found : found l.normalizer.arrangement [] (if_valid member_numbers_in_range (object_rest l.depth l.initial.reader))
-      ≡ found l.normalizer.arrangement entries (if_valid member_numbers_in_range (object_rest l.depth l.reader));
+  found : found l.normalizer.key_order [] (if_valid member_numbers_in_range (object_rest l.depth l.initial.reader))
+      ≡ found l.normalizer.key_order entries (if_valid member_numbers_in_range (object_rest l.depth l.reader));
 }
 
 abbrev pub decreases-write_members-members : goal.decreases-write_members-members

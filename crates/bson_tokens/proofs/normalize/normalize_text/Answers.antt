@@ -23,9 +23,9 @@ returns-clause-ok c =
     let left : c.write_value.new.reader ≡ [] = grind arith in
     let first = c.in_ok-normalizer.ensures in
     IfOk-weaker c.into_text.result (λ s. string_bytes s ≡ c.write_value.new.normalizer.text.items)
-    (λ s. IsNormalizedText c.args.arrangement c.args.text.now (string_bytes s))
-    (λ s is. text_normalized c.args.arrangement c.args.text.now (string_bytes s) c.in_ok-reader.reader
-    c.write_value.new.reader c.in_ok-normalizer.normalizer c.write_value.new.normalizer start left first.arrangement first.no_comma_yet first.empty
+    (λ s. IsNormalizedText c.args.key_order c.args.text.now (string_bytes s))
+    (λ s is. text_normalized c.args.key_order c.args.text.now (string_bytes s) c.in_ok-reader.reader
+    c.write_value.new.reader c.in_ok-normalizer.normalizer c.write_value.new.normalizer start left first.key_order first.no_comma_yet first.empty
     c.in_ok-write_value.ensures.ok is) c.into_text.ensures.bytes
 
 pub returns-clause-broken : goal.returns-clause-broken

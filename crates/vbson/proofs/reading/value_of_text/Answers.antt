@@ -1,9 +1,9 @@
 use Rattle.std.proofs.Common.{◌≡◌, None, Some, IfOk, subst, sym}
 use Rattle.std.proofs.lemmas.Result.{IfErr-weaker}
 use Rattle.std.specs.Prelude.{string_bytes}
-use Rattle.bson_run.specs.Preprocessed.{preprocessed_of}
+use Rattle.bson_run.specs.Preprocessed.{IsPreprocessedAs, IsPreprocessingError, preprocessed_of}
 use Rattle.vbson.proofs.Preprocessed.{turned_away, without_value}
-use Rattle.vbson.specs.Reading.{TextIsReadAs, IsReadFailure, IsPreprocessingFault, IsTextReadFailure, preprocessing_of}
+use Rattle.vbson.specs.Reading.{IsReadFailure, IsTextReadFailure, preprocessing_of}
 use Rattle.vbson.proofs.reading.value_of_text.Goals as goal
 
 pub returns-in-Ok-Some-clause-rejected : goal.returns-in-Ok-Some-clause-rejected
@@ -14,12 +14,12 @@ returns-in-Ok-Some-clause-rejected c =
     let p = c.preprocessing_of.result in
     let field = c.in-Ok-Some.field-0-is in
     let is : c.in-Ok-Some.field-0 ≡ Some c.in-Ok-Some.new_text = cc in
-    let given : TextIsReadAs p text (preprocessed_of text c.in-Ok-Some.field-0) =
-    subst (λ r. IfOk r (λ new_text. TextIsReadAs p text (preprocessed_of text new_text))) c.in-Ok-Some.is c.preprocess.ensures.ok in
-    let new_text : TextIsReadAs p text (string_bytes c.in-Ok-Some.new_text) =
-    subst (λ n. TextIsReadAs p text (preprocessed_of text n)) is given in
-    let stands : TextIsReadAs (preprocessing_of options) text read =
-    subst (λ q. TextIsReadAs q text read) c.preprocessing_of.ensures (subst (TextIsReadAs p text) (sym c.as_bytes.ensures.value) new_text) in
+    let given : IsPreprocessedAs p text (preprocessed_of text c.in-Ok-Some.field-0) =
+    subst (λ r. IfOk r (λ new_text. IsPreprocessedAs p text (preprocessed_of text new_text))) c.in-Ok-Some.is c.preprocess_text.ensures.ok in
+    let new_text : IsPreprocessedAs p text (string_bytes c.in-Ok-Some.new_text) =
+    subst (λ n. IsPreprocessedAs p text (preprocessed_of text n)) is given in
+    let stands : IsPreprocessedAs (preprocessing_of options) text read =
+    subst (λ q. IsPreprocessedAs q text read) c.preprocessing_of.ensures (subst (IsPreprocessedAs p text) (sym c.as_bytes.ensures.value) new_text) in
     IfErr-weaker c.meaning_of.result (λ status. IsReadFailure c.options_of.result status read)
     (λ status. IsTextReadFailure options status text)
     (λ status h. without_value options status text read stands (subst (λ o. IsReadFailure o status read) c.options_of.ensures h))
@@ -32,11 +32,11 @@ returns-in-Ok-None-clause-rejected c =
     let p = c.preprocessing_of.result in
     let field = c.in-Ok-None.field-0-is in
     let is : c.in-Ok-None.field-0 ≡ None = cc in
-    let given : TextIsReadAs p text (preprocessed_of text c.in-Ok-None.field-0) =
-    subst (λ r. IfOk r (λ new_text. TextIsReadAs p text (preprocessed_of text new_text))) c.in-Ok-None.is c.preprocess.ensures.ok in
-    let itself : TextIsReadAs p text text = subst (λ n. TextIsReadAs p text (preprocessed_of text n)) is given in
-    let stands : TextIsReadAs (preprocessing_of options) text text =
-    subst (λ q. TextIsReadAs q text text) c.preprocessing_of.ensures itself in
+    let given : IsPreprocessedAs p text (preprocessed_of text c.in-Ok-None.field-0) =
+    subst (λ r. IfOk r (λ new_text. IsPreprocessedAs p text (preprocessed_of text new_text))) c.in-Ok-None.is c.preprocess_text.ensures.ok in
+    let itself : IsPreprocessedAs p text text = subst (λ n. IsPreprocessedAs p text (preprocessed_of text n)) is given in
+    let stands : IsPreprocessedAs (preprocessing_of options) text text =
+    subst (λ q. IsPreprocessedAs q text text) c.preprocessing_of.ensures itself in
     IfErr-weaker c.meaning_of-in-Ok-None.result
     (λ status. IsReadFailure c.options_of-in-Ok-None.result status text) (λ status. IsTextReadFailure options status text)
     (λ status h. without_value options status text text stands
@@ -49,4 +49,4 @@ returns-in-Err-2-clause-rejected c =
     let text = c.args.text.now in
     let fault = c.in-Err.fault in
     turned_away c.one_duplicate_path.ensures.has_duplicate_key c.args.options fault text
-    (subst (λ p. IsPreprocessingFault p fault text) c.preprocessing_of.ensures c.in-Err.ensures.rejected) c.if-is_out_of_memory.ensures
+    (subst (λ p. IsPreprocessingError p fault text) c.preprocessing_of.ensures c.in-Err.ensures.fault) c.if-is_out_of_memory.ensures

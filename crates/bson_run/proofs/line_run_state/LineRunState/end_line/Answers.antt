@@ -1,8 +1,9 @@
 use Rattle.std.proofs.Common.{◌≡◌, ℕ, Vec, Global, IfSome, IsUtf8, ◌+◌, ◌++◌, Ok, ap, sym, ◌∙◌, subst}
+use Rattle.std.proofs.lemmas.Result.{err_from_is_err_and}
 use Rattle.bson_run.specs.Lines.{line_text, IsBlank, WritesOutputForTask}
 use Rattle.bson_run.specs.LinesSteps.{IsConversionFailure, IsDiagnosticAppended}
 use Rattle.bson_run.specs.declared.line_run_state.LineRunState.{LineRunState}
-use Rattle.bson_run.proofs.LinesLaws.{blank_taken, written_taken, told_taken, judged_bad}
+use Rattle.bson_run.proofs.LinesLaws.{blank_taken, written_taken, told_taken, judged_bad, refused_stops}
 use Rattle.bson_run.proofs.line_run_state.LineRunState.end_line.Goals as goal
 use Rattle.bson_run.proofs.line_run_state.LineRunState.end_line.Goals.{in-Ok-None, in-Ok-Some+in_ok-add_output-in-Ok-Some}
 use Rattle.bson_run.proofs.line_run_state.LineRunState.end_line.Goals.{in-Err+in_ok-refuse_line-in-Err}
@@ -41,3 +42,15 @@ returns-clause-ok c =
           (subst (IsDiagnosticAppended c.args.settings.options c.args.settings.task (self.lines + 1) w.in-Err.fault (line_text self.lines self.line.items) self.diagnostics.items)
           (sym (ap (λ (s : LineRunState). s.diagnostics.items) w.self-is)) (refused.ok.3 c.args.settings.options c.args.settings.task))
     ]
+
+pub returns-in_err-refuse_line-in-Err-clause-fault : goal.returns-in_err-refuse_line-in-Err-clause-fault
+returns-in_err-refuse_line-in-Err-clause-fault c =
+    let self = c.args.self.now in
+    let settings = c.args.settings in
+    let line = line_text self.lines self.line.items in
+    let text : c.text-line.result.now ≡ line = c.text-line.ensures ∙ ap (line_text self.lines) c.deref.ensures.value in
+    let failed = c.in_err-refuse_line-in-Err in
+    let p = err_from_is_err_and c.from_residual-in_err-refuse_line-in-Err.result c.from_residual-in_err-refuse_line-in-Err.ensures.1 in
+    rw (p.1, p.2)
+    (refused_stops settings.options settings.task settings.on_refusal c.in-Err.fault failed.field-0.0 line
+    (subst (IsConversionFailure settings.options settings.task c.in-Err.fault) text c.in-Err.ensures.fault) failed.ensures.fault)

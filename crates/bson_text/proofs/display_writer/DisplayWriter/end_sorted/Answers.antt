@@ -1,7 +1,7 @@
 use Rattle.std.proofs.Common.{◌≡◌, ◌==◌, ◌++◌, length, take, refl, sym, ap, ◌∙◌, subst, arith, append_assoc}
 use Rattle.std.proofs.lemmas.List.{length-map}
 use Rattle.std.specs.List.{All}
-use Rattle.bson_tokens.specs.declared.arrangement.Arrangement.TheVariants.{Ascending}
+use Rattle.bson_model.specs.declared.options.KeyOrder.TheVariants.{Ascending}
 use Rattle.bson_model.specs.Displayed.{display_text}
 use Rattle.bson_model.specs.Sorted.{sorted_pairs}
 use Rattle.bson_model.specs.Value.{document}
@@ -65,7 +65,7 @@ returns-clause-written c = λ start mid ps open_container written named.
     (own_starts d c.deref.result.now c.deref.ensures.value) c.in_ok-end_object.ensures.ended) in
     let last = c.put_space_before_brace.new.text.items in
     let ordered = same_order ps mid c.args.self.now written ∙ open_container.2.1 in
-    let ascending : Ascending ≡ start.arrangement = sym c.requires.ascending ∙ ordered in
+    let ascending : Ascending ≡ start.key_order = sym c.requires.ascending ∙ ordered in
     let whole = append_assoc start.text.items (separator_if start.needs_comma) (display_text (document qs))
     ∙ ap (λ a. start.text.items ++ (separator_if start.needs_comma ++ display_text (document (arranged_pairs a (each_key_once ps))))) ascending in
     let many : length (keys_of ps) ≡ length ks = ap length named ∙ length-map ks (λ k. k.now) in

@@ -13,7 +13,7 @@ returns c =
     let k = c.args.key.now in (
       c.offset_in_object-offset_in_object.ensures ∙ ap (λ t. length t - c.args.object_start) comma.text,
       record {
-        arrangement = named.arrangement ∙ comma.arrangement;
+        key_order = named.key_order ∙ comma.key_order;
         needs_comma = named.needs_comma;
         text = named.text ∙ ap (λ t. t ++ print (key k ∷ [])) comma.text
             ∙ append_assoc old.text.items (comma_if old.needs_comma) (print (key k ∷ []))

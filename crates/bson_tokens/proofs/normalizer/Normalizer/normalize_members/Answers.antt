@@ -13,9 +13,9 @@ returns-in_ok-extend_from_slice c =
         c.in_ok-extend_from_slice.ensures.items
             ∙ ap (λ l. l ++ c.deref-in-Some.result.now) (c.truncate.ensures.items ∙ front_is old.text.items front rest c.args.object_start is begun)
             ∙ ap (λ l. front ++ l) c.deref-in-Some.ensures.value,
-        normalized_anew old.arrangement rest c.args.spans.now.items c.normalize_spans.new.spans.items
+        normalized_anew old.key_order rest c.args.spans.now.items c.normalize_spans.new.spans.items
             c.in_ok-normalized.field-0 c.in-Some.normalized c.in-Some.is es stand
-            (subst (λ b. SpansNormalized old.arrangement b c.args.spans.now.items c.normalize_spans.new.spans.items
+            (subst (λ b. SpansNormalized old.key_order b c.args.spans.now.items c.normalize_spans.new.spans.items
             c.in_ok-normalized.field-0) (body_is old.text.items c.deref.result.now front rest c.args.object_start is begun c.deref.ensures.value) c.in_ok-normalized.ensures),
       ),
     )
@@ -28,9 +28,9 @@ returns-in_default c =
       λ front rest es is begun stand. (
         rest,
         is,
-        stays_normalized old.arrangement rest c.args.spans.now.items c.normalize_spans.new.spans.items
+        stays_normalized old.key_order rest c.args.spans.now.items c.normalize_spans.new.spans.items
             c.in_ok-normalized.field-0 c.in_default.not-Some es stand
-            (subst (λ b. SpansNormalized old.arrangement b c.args.spans.now.items c.normalize_spans.new.spans.items
+            (subst (λ b. SpansNormalized old.key_order b c.args.spans.now.items c.normalize_spans.new.spans.items
             c.in_ok-normalized.field-0) (body_is old.text.items c.deref.result.now front rest c.args.object_start is begun c.deref.ensures.value) c.in_ok-normalized.ensures),
       ),
     )

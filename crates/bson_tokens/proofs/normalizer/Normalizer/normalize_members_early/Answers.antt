@@ -11,6 +11,6 @@ returns c = (
   c.in_ok-normalize_members.ensures.1,
   λ front body es is begun stand.
       let (t, text, (fs, there, put)) = c.in_ok-normalize_members.ensures.2 front body es is begun stand in
-      let same = settled_alike c.args.self.now.arrangement es fs put in
+      let same = settled_alike c.args.self.now.key_order es fs put in
       (t, fs, text, there, same.0, same.1),
 )

@@ -1,0 +1,77 @@
+//! Texts that are only checked.
+ghost use Rattle.std.specs.Prelude.{◌≡◌, IfErr, OnOk};
+ghost use Rattle.serde_json.specs.Data.{Data};
+ghost use Rattle.bson_model.specs.Means.{MeansIn};
+ghost use Rattle.bson_model.specs.TextMeaning.{IsTextOf};
+ghost use Rattle.bson_model.specs.Value as model;
+ghost use Rattle.bson_convert.specs.Convert.{IsAccepted, IsRejectedIn};
+
+use crate::conversion_attempt::refuse;
+use crate::error::Error;
+use bson_model::options::Options;
+use bson_text::discard_writer::check_text;
+use bson_text::traversal_error::TraversalError;
+use json::Scratch;
+use std::alloc::Global;
+
+/// Checks that the bytes are a text that has a meaning. Nothing is written.
+///
+/// # Errors
+///
+/// - `NotJson`: the bytes are not UTF-8, or `serde_json` reads no tree from them.
+/// - `NotExtendedJson`: the tree has no meaning. It has the tree's first fault.
+/// - `OutOfMemory`: an allocation failed.
+///
+/// ```
+/// let text = br#"{"n": 1.5}"#;
+/// println!(rt; "{}", check(alloc, Options::mongodb(), text).is_ok())?; // true
+/// println!(rt; "{}", check(alloc, Options::default(), text).is_ok())?; // false
+/// ```
+pub fn check(alloc: Global, options: Options, bytes: &[u8]) -> Result<(), Error>
+    ensures ok { OnOk result (IsAccepted options bytes.now) }
+    ensures accepts { (tree : Data) (value : model.Value) → IsTextOf bytes.now tree
+        → MeansIn options.doubles tree value → IfErr result (λ fault. fault ≡ Error.OutOfMemory) }
+    ensures fault { IfErr result (λ fault. IsRejectedIn options fault bytes.now) }
+{
+    check_line(alloc, options, bytes, &mut Scratch::new(alloc))
+}
+
+/// Checks the bytes as [`check`] does, with memory that serves one text after another.
+///
+/// # Errors
+///
+/// The errors of [`check`].
+pub fn check_line(
+    alloc: Global,
+    options: Options,
+    bytes: &[u8],
+    scratch: &mut Scratch,
+) -> Result<(), Error>
+    ensures ok { OnOk result (IsAccepted options bytes.now) }
+    ensures accepts { (tree : Data) (value : model.Value) → IsTextOf bytes.now tree
+        → MeansIn options.doubles tree value → IfErr result (λ fault. fault ≡ Error.OutOfMemory) }
+    ensures fault { IfErr result (λ fault. IsRejectedIn options fault bytes.now) }
+{
+    let Ok(text) = simdutf8::compat::from_utf8(bytes) else {
+        return Err(Error::NotJson);
+    };
+    check_tokens(alloc, options, text, scratch)
+}
+
+/// Checks a string: it is traversed as it is. If the traversal stops, the normalized string has the
+/// fault, if there is one.
+pub(crate) fn check_tokens(
+    alloc: Global,
+    options: Options,
+    text: &str,
+    scratch: &mut Scratch,
+) -> Result<(), Error>
+    ensures ok { OnOk result (IsAccepted options text.now) }
+    ensures fault { IfErr result (λ fault. IsRejectedIn options fault text.now) }
+{
+    match check_text(alloc, options.doubles, text, scratch) {
+        Ok(()) => Ok(()),
+        Err(TraversalError::OutOfMemory) => Err(Error::OutOfMemory),
+        Err(_) => refuse(alloc, options, text),
+    }
+}
