@@ -1,24 +1,17 @@
 -- What the text of a value's tree in its own order is.
-use Rattle.std.proofs.Common.{◌≡◌, ◌++◌, ℕ, List, true, false, Result, Ok, Err, String, Global, string_bytes, refl, sym, ap, ◌∙◌, subst}
+use Rattle.std.proofs.Common.{◌≡◌, ◌++◌, ℕ, List, true, false, Result, Ok, Err, String, Global, string_bytes, refl, sym, ap, ◌∙◌}
 use Rattle.std.specs.Prelude.{is_ok, IfOk, OnOk, OnErr}
 use Rattle.serde_json.specs.Data.{Data}
 use Rattle.bson_scalar.specs.TreeText.{text_of}
-use Rattle.bson_scalar.specs.Written.{WriteFault}
 use Rattle.bson_scalar.specs.declared.form.Doubles.{Doubles}
 use Rattle.bson_scalar.specs.declared.form.Form.{Form}
 use Rattle.bson_scalar.specs.declared.write_error.WriteError.{WriteError}
 use Rattle.bson_scalar.specs.declared.write_error.WriteError.TheVariants.{FiniteDouble, OutOfMemory}
 use Rattle.bson_scalar.proofs.Offered.{text_is as as_text}
-use Rattle.bson_model.specs.Laws.{IsTreeOfIn}
-use Rattle.bson_model.specs.Normal.{writable_in, normal_form, NumbersInRange}
+use Rattle.bson_model.specs.Normal.{writable_in, NumbersInRange}
 use Rattle.bson_model.specs.Value.{Value}
-use Rattle.bson_model.specs.Writing.{writes_value_in}
-use Rattle.bson_model.proofs.Offered.{tree_is_in, writable_is_in}
 use Rattle.bson_model.specs.DistinctKeys.{AllKeysDistinct}
-use Rattle.bson_model.specs.OrderedTrees.{tree_sorted_by_key}
-use Rattle.bson_model.specs.OrderedWritten.{WrittenInOrder}
-use Rattle.bson_model.proofs.OfferedInOrder.{default_written, has_no_float, one_written, ordered_text, written_from}
-use Rattle.bson_model.proofs.OfferedInOrder.{writable_is}
+use Rattle.bson_model.proofs.OfferedInOrder.{has_no_float, text_in_order, writable_is, written_from}
 use Rattle.bson.specs.KeyOrders.{writes_in_key_order}
 use Rattle.bson.specs.Texts.{ReturnsWrittenText, AppendsText, IsTextInKeyOrder, IsTextInOrder}
 use Rattle.bson_model.specs.declared.options.KeyOrder.{KeyOrder}
@@ -30,32 +23,12 @@ module _ (D : Doubles) (f : Form) (v : Value) where
   is_writable : (t : Data) → writes_in_key_order AsGiven D f v ≡ Ok t → writable_in D v ≡ true
   is_writable t h = sym (writable_is D f v) ∙ ap is_ok (sym (as_given_is D f v) ∙ h)
 
-  written_by_default : (r : Result Data WriteFault) → r ≡ writes_value_in D f v → is_ok r ≡ true
-      → (u : Data) × (writes_value_in D f v ≡ Ok u)
-  written_by_default (Ok u) h ok = (u, sym h)
-  written_by_default (Err e) h ok = cc
-
-  -- with the order forgotten the tree is that of the writers by default
-  default_tree : (t : Data) → WrittenInOrder D f (normal_form v) t → writable_in D v ≡ true → NumbersInRange v
-      → IsTreeOfIn D f v (tree_sorted_by_key t)
-  default_tree t h w within_type_range =
-      let it = written_by_default (writes_value_in D f v) refl (writable_is_in D f v ∙ w) in
-      let is = tree_is_in D f v it.0 it.1 within_type_range in
-      subst (IsTreeOfIn D f v) (sym (is.one (tree_sorted_by_key t) (default_written D f v t h within_type_range))) is
-
   -- the text of a tree that writing gives
   text_of_tree : (t : Data) (s : List ℕ) → writes_in_key_order AsGiven D f v ≡ Ok t → s ≡ text_of t → NumbersInRange v → AllKeysDistinct v
       → IsTextInOrder D f v s
   text_of_tree t s w is within_type_range distinct =
       let h = written_from D f v t (sym (as_given_is D f v) ∙ w) in
-      record {
-        tree = t;
-        written = h;
-        only_tree = λ u other. one_written D f v t u h other;
-        ordered = λ plain. ordered_text D f v t h plain within_type_range distinct;
-        by_default = default_tree t h (is_writable t w) within_type_range;
-        compact = is ∙ sym (as_text D f t (has_no_float D f v t h));
-      }
+      text_in_order D f v t s (is ∙ sym (as_text D f t (has_no_float D f v t h))) h within_type_range distinct
 
   ordered_is : (r : Result (String Global) WriteError) → ReturnsWrittenText r (writes_in_key_order AsGiven D f v) → OnOk r (NumbersInRange v)
       → OnOk r (AllKeysDistinct v) → IfOk r (λ s. IsTextInOrder D f v (string_bytes s))

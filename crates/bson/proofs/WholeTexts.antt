@@ -10,7 +10,8 @@ use Rattle.bson_scalar.proofs.Offered.{text_is as as_text}
 use Rattle.bson_model.specs.Value.{Value}
 use Rattle.bson_model.specs.Normal.{writable_in, NumbersInRange}
 use Rattle.bson_model.specs.Writing.{writes_value_in}
-use Rattle.bson_model.proofs.Offered.{has_text_in, has_no_float, tree_is_in, writable_from_in, writable_is_in}
+use Rattle.bson_model.proofs.Offered.{canon_from_in, has_no_float, writable_from_in, writable_is_in}
+use Rattle.bson_model.proofs.OfferedInOrder.{sorted_text}
 use Rattle.bson.specs.KeyOrders.{writes_in_key_order}
 use Rattle.bson.specs.Texts.{ReturnsWrittenText, IsTextWithDoubles}
 use Rattle.bson_model.specs.declared.options.KeyOrder.TheVariants.{Ascending}
@@ -24,12 +25,8 @@ pub text_is : (D : Doubles) (f : Form) (v : Value) (r : Result (String Global) W
     → ReturnsWrittenText r (writes_value_in D f v)
     → OnOk r (NumbersInRange v) → IfOk r (λ s. IsTextWithDoubles D f v (string_bytes s))
 text_is D f v (Ok s) g r =
-    record {
-      tree = g.0;
-      is_tree = tree_is_in D f v g.0 g.1 r;
-      reads_again = λ p. has_text_in D f v g.0 g.1 p r;
-      compact = g.2 ∙ sym (as_text D f g.0 (has_no_float D f v g.0 g.1));
-    }
+    sorted_text D f v g.0 (string_bytes s) (g.2 ∙ sym (as_text D f g.0 (has_no_float D f v g.0 g.1)))
+    (canon_from_in D f v g.0 g.1) r
 text_is D f v (Err e) g r = tt
 
 pub text_writable : (D : Doubles) (f : Form) (v : Value) (r : Result (String Global) WriteError)

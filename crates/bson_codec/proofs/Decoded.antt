@@ -1,22 +1,15 @@
 -- The text that the source wrote is that of the document in its own order, and so is a line of a dump.
-use Rattle.std.proofs.Common.{◌≡◌, ◌++◌, ℕ, List, true, Result, Ok, Err, String, string_bytes, refl, sym, ap, subst, ◌∙◌}
+use Rattle.std.proofs.Common.{◌≡◌, ◌++◌, ℕ, List, true, Ok, String, string_bytes, refl, sym, ap, subst, ◌∙◌}
 use Rattle.std.specs.Prelude.{is_ok, IsUtf8}
 use Rattle.std.specs.declared.alloc.Global.{Global}
-use Rattle.serde_json.specs.Data.{Data, object}
-use Rattle.bson_scalar.specs.Written.{WriteFault}
+use Rattle.serde_json.specs.Data.{object}
 use Rattle.bson_scalar.specs.declared.form.Doubles.TheVariants.{Finite}
 use Rattle.bson_scalar.specs.declared.form.Form.{Form}
 use Rattle.bson_scalar.proofs.Offered.{text_is}
-use Rattle.bson_model.specs.Laws.{IsTreeOfIn}
-use Rattle.bson_model.specs.Normal.{writable_in, normal_form, NumbersInRange}
+use Rattle.bson_model.specs.Normal.{writable_in}
 use Rattle.bson_model.specs.Value.{Value, Pairs, document}
-use Rattle.bson_model.specs.Writing.{writes_value_in}
-use Rattle.bson_model.proofs.Offered.{tree_is_in, writable_is_in}
-use Rattle.bson_model.specs.OrderedTrees.{tree_sorted_by_key}
 use Rattle.bson_model.specs.OrderedWriting.{writes_value_in_order}
-use Rattle.bson_model.specs.OrderedWritten.{WrittenInOrder}
-use Rattle.bson_model.proofs.OfferedInOrder.{default_written, has_no_float, one_written, ordered_text, written_from}
-use Rattle.bson_model.proofs.OfferedInOrder.{writable_is, written_to}
+use Rattle.bson_model.proofs.OfferedInOrder.{has_no_float, text_in_order, writable_is, written_from, written_to}
 use Rattle.bson.specs.Texts.{IsTextInKeyOrder, IsTextInOrder}
 use Rattle.bson_model.specs.declared.options.KeyOrder.TheVariants.{AsGiven}
 use Rattle.bson_bytes.specs.PrintedText.{IsPrintedText}
@@ -26,18 +19,6 @@ use Rattle.bson_codec.specs.Diagnostics.{line_feed}
 use Rattle.bson_codec.specs.declared.documents.Line.TheVariants.{Text}
 use Rattle.bson_codec.specs.declared.documents.Run.{Run}
 
-written_tree : (r : Result Data WriteFault) → is_ok r ≡ true → (u : Data) × (r ≡ Ok u)
-written_tree (Ok u) ok = (u, refl)
-written_tree (Err e) ok = cc
-
--- with the order forgotten the tree is that of the writers by default
-default_tree : (f : Form) (v : Value) (t : Data) → WrittenInOrder Finite f (normal_form v) t → writable_in Finite v ≡ true
-    → NumbersInRange v → IsTreeOfIn Finite f v (tree_sorted_by_key t)
-default_tree f v t h w within_type_range =
-    let it = written_tree (writes_value_in Finite f v) (writable_is_in Finite f v ∙ w) in
-    let is = tree_is_in Finite f v it.0 it.1 within_type_range in
-    subst (IsTreeOfIn Finite f v) (sym (is.one (tree_sorted_by_key t) (default_written Finite f v t h within_type_range))) is
-
 pub printed_is : (f : Form) (ps : Pairs) (s : String Global) → IsPrintedText f ps (string_bytes s)
     → IsTextInOrder Finite f (document ps) (string_bytes s)
 printed_is f ps s (us, (w, r, d), text) =
@@ -45,14 +26,7 @@ printed_is f ps s (us, (w, r, d), text) =
     let t = object us in
     let writes : writes_value_in_order Finite f v ≡ Ok t = rw w refl in
     let h = written_from Finite f v t writes in
-    record {
-      tree = t;
-      written = h;
-      only_tree = λ u other. one_written Finite f v t u h other;
-      ordered = λ plain. ordered_text Finite f v t h plain r d;
-      by_default = default_tree f v t h (sym (writable_is Finite f v) ∙ ap is_ok writes) r;
-      compact = text ∙ sym (text_is Finite f t (has_no_float Finite f v t h));
-    }
+    text_in_order Finite f v t (string_bytes s) (text ∙ sym (text_is Finite f t (has_no_float Finite f v t h))) h r d
 
 -- what has a text in its own order is written
 text_written : (f : Form) (v : Value) (text : List ℕ) → IsTextInOrder Finite f v text → writable_in Finite v ≡ true

@@ -9,6 +9,7 @@ use Rattle.bson_scalar.specs.declared.form.Form.TheVariants as form
 use Rattle.bson_model.specs.Normal.{normal_form}
 use Rattle.bson_model.specs.Written.{WrittenIn}
 use Rattle.bson_model.specs.TextMeaning.{IsTextOf}
+use Rattle.bson_model.specs.declared.options.KeyOrder.TheVariants.{Ascending}
 use Rattle.bson_model.specs.declared.options.Options.{Options}
 use Rattle.bson_convert.specs.Convert.{ConvertsIn, IsCanonicalText, IsRejectedIn, IsUncanonicalAt, IsUncanonicalIn, newline}
 use Rattle.bson_convert.specs.declared.error.Error.{Error}
@@ -46,17 +47,17 @@ module _ (o : Options) where
       }
 
   -- what the bytes are converted to is themselves if and only if they are canonical
-  pub canonical : (bytes text : List ℕ) → IsConvertedText o Canonical bytes text → text ≡ bytes → IsCanonicalText o bytes
+  pub canonical : (bytes text : List ℕ) → IsConvertedText Ascending o Canonical bytes text → text ≡ bytes → IsCanonicalText o bytes
   canonical bytes text is same = text_converts o Canonical bytes text (bytes ++ newline) is (ap (λ s. s ++ newline) (sym same))
 
-  pub unchanged : (bytes text : List ℕ) → IsConvertedText o Canonical bytes text → IsCanonicalText o bytes → text ≡ bytes
+  pub unchanged : (bytes text : List ℕ) → IsConvertedText Ascending o Canonical bytes text → IsCanonicalText o bytes → text ≡ bytes
   unchanged bytes text is c =
       append_cancel_right text bytes newline
       (sym (converts_one o Canonical bytes (text ++ newline) (bytes ++ newline)
       (text_converts o Canonical bytes text (text ++ newline) is refl) c))
 
   -- they are not, and differ from it after so many bytes
-  pub uncanonical : (n : ℕ) (bytes text : List ℕ) → IsConvertedText o Canonical bytes text → take n bytes ≡ take n text
+  pub uncanonical : (n : ℕ) (bytes text : List ℕ) → IsConvertedText Ascending o Canonical bytes text → take n bytes ≡ take n text
       → take (suc n) bytes ≢ take (suc n) text → IsUncanonicalAt o (suc n) bytes
   uncanonical n bytes text is same differ = record {
     text = text;

@@ -6,9 +6,10 @@ use Rattle.bson_scalar.specs.declared.form.Form.TheVariants as form
 use Rattle.bson_model.specs.Means.{MeansIn}
 use Rattle.bson_model.specs.Value.{Value}
 use Rattle.bson_model.specs.Laws.{IsReadFormIn}
-use Rattle.bson_convert.specs.Convert.{ConvertsIn, IsWrittenIn, IsOutputIn, IsTextInMode, IsConvertedText, newline}
+use Rattle.bson_convert.specs.Convert.{ConvertsIn, IsWrittenIn, IsOutputIn, IsTextForMode, IsConvertedText, newline}
 use Rattle.bson_convert.specs.declared.mode.Mode.{Mode}
 use Rattle.bson_convert.specs.declared.mode.Mode.TheVariants.{Canonical, Relaxed, Show}
+use Rattle.bson_model.specs.declared.options.KeyOrder.TheVariants.{Ascending}
 use Rattle.bson_model.specs.declared.options.Options.{Options}
 use Rattle.bson_model.proofs.Offered.{tree_one}
 use Rattle.bson_convert.proofs.Again.{is_written}
@@ -29,14 +30,14 @@ module _ (o : Options) where
       subst (λ t. MeansIn o.doubles t y.value) (tree_one bytes y.tree x.tree y.text x.text) y.meaning.means in
       output_one mode x.value a b x.is_output (subst (λ w. IsOutputIn o mode w b) (x.meaning.one y.value m) y.is_output)
 
-  text_output : (mode : Mode) (v : Value) (text output : List ℕ) → IsReadFormIn o.doubles v → IsTextInMode o mode v text
+  text_output : (mode : Mode) (v : Value) (text output : List ℕ) → IsReadFormIn o.doubles v → IsTextForMode Ascending o mode v text
       → output ≡ text ++ newline → IsOutputIn o mode v output
   text_output Canonical v text output p i l = is_written o form.Canonical v text output p i l
   text_output Relaxed v text output p i l = is_written o form.Relaxed v text output p i l
   text_output Show v text output p i l = l ∙ ap (λ s. s ++ newline) i
 
   -- the text that the bytes are converted to, and a newline, is their output
-  pub text_converts : (mode : Mode) (bytes text output : List ℕ) → IsConvertedText o mode bytes text
+  pub text_converts : (mode : Mode) (bytes text output : List ℕ) → IsConvertedText Ascending o mode bytes text
       → output ≡ text ++ newline → ConvertsIn o mode bytes output
   text_converts mode bytes text output (v, m, i) l = record {
     tree = m.tree;

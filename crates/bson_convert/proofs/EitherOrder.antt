@@ -13,8 +13,8 @@ use Rattle.bson_model.specs.declared.options.KeyOrder.TheVariants.{Ascending, As
 use Rattle.bson_model.specs.declared.options.Options.{Options}
 use Rattle.bson_tokens.proofs.Offered.{text_read}
 use Rattle.bson_tokens.specs.Normalized.{IsNormalizedText}
-use Rattle.bson_convert.specs.Convert.{IsRejectedIn, newline}
-use Rattle.bson_convert.specs.InOrder.{ConvertsBy, IsConvertedTextBy, IsFixedPointBy, IsLineInOrder, IsOutputInOrder}
+use Rattle.bson_convert.specs.Convert.{IsConvertedText, IsRejectedIn, newline}
+use Rattle.bson_convert.specs.InOrder.{ConvertsBy, IsFixedPointBy, IsLineInOrder, IsOutputInOrder}
 use Rattle.bson_convert.specs.declared.error.Error.{Error}
 use Rattle.bson_convert.specs.declared.error.Error.TheVariants.{CannotRead, CannotWrite, NotJson, NotExtendedJson}
 use Rattle.bson_convert.specs.declared.error.Error.TheVariants.{NoBytes, NotCanonical, OutOfMemory}
@@ -27,13 +27,13 @@ use Rattle.bson_convert.proofs.TwiceInOrder.{kept_by}
 
 -- the text that the bytes are converted to, and a newline, is their output
 pub text_converts_by : (k : KeyOrder) (o : Options) (mode : Mode) (bytes text output : List ℕ)
-    → IsConvertedTextBy k o mode bytes text → output ≡ text ++ newline → ConvertsBy k o mode bytes output
+    → IsConvertedText k o mode bytes text → output ≡ text ++ newline → ConvertsBy k o mode bytes output
 text_converts_by Ascending o mode bytes text output is line = text_converts o mode bytes text output is line
 text_converts_by AsGiven o mode bytes text output is line = ordered_text_converts o mode bytes text output is line
 
 -- a text that is ended is converted to itself
 pub kept_ok_by : (k : KeyOrder) (o : Options) (mode : Mode) (bytes text : List ℕ) (r : Result (Vec ℕ Global) Error)
-    → IsConvertedTextBy k o mode bytes text → IsUtf8 text → IfOk r (λ ended. ended.items ≡ text ++ newline)
+    → IsConvertedText k o mode bytes text → IsUtf8 text → IfOk r (λ ended. ended.items ≡ text ++ newline)
     → (IsUtf8 text → IfOk r (λ ended. IsUtf8 ended.items)) → IfOk r (λ ended. IsFixedPointBy k o mode ended.items)
 kept_ok_by k o mode bytes text (Ok ended) is utf8 line valid =
     kept_by k o mode bytes ended.items (text_converts_by k o mode bytes text ended.items is line) (valid utf8)
@@ -66,7 +66,7 @@ converts_one_by AsGiven o mode bytes a b x y =
 
 -- the text of the normalized bytes is that of the bytes
 pub converted_alike_by : (k : KeyOrder) (o : Options) (mode : Mode) (bytes normalized text : List ℕ) → IsUtf8 bytes
-    → IsNormalizedText k bytes normalized → IsConvertedTextBy k o mode normalized text → IsConvertedTextBy k o mode bytes text
+    → IsNormalizedText k bytes normalized → IsConvertedText k o mode normalized text → IsConvertedText k o mode bytes text
 converted_alike_by Ascending o mode bytes normalized text utf8 is x =
     (x.0, meant_alike o bytes normalized utf8 (text_read Ascending bytes normalized is) x.0 x.1, x.2)
 converted_alike_by AsGiven o mode bytes normalized text utf8 is x = converted_alike o mode bytes normalized text utf8 is x

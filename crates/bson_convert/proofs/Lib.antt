@@ -1,3 +1,4 @@
+mod Accepted
 mod Again
 mod Normalized
 mod CanonicalTexts

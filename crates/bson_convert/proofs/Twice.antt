@@ -1,43 +1,25 @@
 -- Output in a form is read as a tree with the same output.
-use Rattle.std.proofs.Common.{◌≡◌, ◌++◌, ℕ, List, true, Result, Ok, Err, refl, sym, ap, ◌∙◌, subst}
-use Rattle.std.specs.Prelude.{is_ok, IsUtf8}
+use Rattle.std.proofs.Common.{◌≡◌, ℕ, List, Ok, refl, sym, ap, subst, ◌∙◌}
+use Rattle.std.specs.Prelude.{IsUtf8}
 use Rattle.serde_json.specs.Data.{Data}
 use Rattle.serde_json.specs.Read.{read}
-use Rattle.bson_scalar.specs.TreeText.{HasNoFloatIn}
-use Rattle.bson_scalar.specs.Written.{WriteFault}
+use Rattle.bson_scalar.specs.TreeText.{HasNoFloatIn, tree_text}
 use Rattle.bson_scalar.specs.declared.form.Form.{Form}
 use Rattle.bson_scalar.specs.declared.form.Form.TheVariants as form
 use Rattle.bson_model.specs.Laws.{HasMeaningIn, IsTreeOfIn}
-use Rattle.bson_model.specs.Normal.{normal_form, NumbersInRange, writable_in}
 use Rattle.bson_model.specs.Texts.{HasTextIn, IsTree}
 use Rattle.bson_model.specs.Value.{Value}
-use Rattle.bson_model.specs.Writing.{writes_value_in}
-use Rattle.bson_model.specs.Written.{WrittenIn}
-use Rattle.bson_model.proofs.Offered.{has_text_in, in_range_in, means_to_in, read_tree, tree_is_in}
-use Rattle.bson_model.proofs.Offered.{value_read_in, writable_is_in}
+use Rattle.bson_model.proofs.Offered.{in_range_in, means_to_in, read_tree, value_read_in}
+use Rattle.bson_model.proofs.OfferedInOrder.{sorted_text}
 use Rattle.bson_model.specs.TextMeaning.{IsTextOf}
 use Rattle.bson_model.specs.declared.options.Options.{Options}
-use Rattle.bson_convert.specs.Convert.{ConvertsIn, ConvertsToItself, IsFixedPointIn, IsOutputIn, IsWrittenIn, newline}
+use Rattle.bson_convert.specs.Convert.{ConvertsIn, ConvertsToItself, IsFixedPointIn, IsOutputIn, IsWrittenIn}
 use Rattle.bson_convert.specs.declared.mode.Mode.{Mode}
 use Rattle.bson_convert.specs.declared.mode.Mode.TheVariants.{Canonical, Relaxed, Show}
 use Rattle.bson_convert.proofs.Deep.{numbers, shallow}
 use Rattle.bson_convert.proofs.Newline.{read_then}
 
-some_tree : (r : Result Data WriteFault) → is_ok r ≡ true → (u : Data) × (r ≡ Ok u)
-some_tree (Ok u) h = (u, refl)
-some_tree (Err e) h = cc
-
 module _ (o : Options) (f : Form) where
-  -- a value that was read is written as its tree in the form
-  written_as : (v : Value) (u : Data) → NumbersInRange v → writable_in o.doubles v ≡ true
-      → WrittenIn o.doubles f (normal_form v) u → (writes_value_in o.doubles f v ≡ Ok u) × IsTreeOfIn o.doubles f v u
-  written_as v u within_type_range writable w =
-      let D = o.doubles in
-      let it = some_tree (writes_value_in D f v) (writable_is_in D f v ∙ writable) in
-      let is = tree_is_in D f v it.0 it.1 within_type_range in
-      let same : u ≡ it.0 = is.one u w in
-      (it.1 ∙ ap Ok (sym same), subst (IsTreeOfIn D f v) (sym same) is)
-
   -- the tree of a value that was read means a value that has the output too
   pub record Again (u : Data) (output : List ℕ) : Type 0 where
     pub value : Value
@@ -51,18 +33,21 @@ module _ (o : Options) (f : Form) where
   again bytes output t v is m w =
       let D = o.doubles in
       let u = w.tree in
-      let within_type_range = in_range_in D m.means (read_tree bytes t is.tree_read) in
-      let first = written_as v u within_type_range m.read_form.1 w.is_tree.written in
-      let has : HasTextIn D f v u = has_text_in D f v u first.0 m.read_form.0 within_type_range in
+      let own = sorted_text D f v u (tree_text D f u) refl w.is_tree.written
+      (in_range_in D m.means (read_tree bytes t is.tree_read)) in
+      let own_tree : u ≡ own.tree = own.is_tree.one u w.is_tree.written in
+      let has : HasTextIn D f v u = subst (HasTextIn D f v) (sym own_tree) (own.reads_again m.read_form.0) in
       let x = has.means.0 in
       let meaning : HasMeaningIn D u x = (value_read_in D (λ (y : Value). y) u (Ok x) (means_to_in D has.means.1)).ok in
-      let second = written_as x u (in_range_in D has.means.1 has.is_tree) meaning.read_form.1 has.means.3 in
+      let other = sorted_text D f x u (tree_text D f u) refl has.means.3 (in_range_in D has.means.1 has.is_tree) in
+      let other_tree : u ≡ other.tree = other.is_tree.one u has.means.3 in
+      let other_is_tree : IsTreeOfIn D f x u = subst (IsTreeOfIn D f x) (sym other_tree) other.is_tree in
       record {
         value = x;
         fits = has.is_tree;
         no_float = w.is_tree.no_float;
         meaning = meaning;
-        is_written = record { tree = u; is_tree = second.1; line = w.line; again = w.again };
+        is_written = record { tree = u; is_tree = other_is_tree; line = w.line; again = w.again };
       }
 
   kept : (mode : Mode) (bytes output : List ℕ) (t : Data) (v : Value) → IsTextOf bytes t → HasMeaningIn o.doubles t v

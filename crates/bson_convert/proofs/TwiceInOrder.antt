@@ -1,24 +1,16 @@
 -- Output in the order of keys is read as a value with the same output.
-use Rattle.std.proofs.Common.{◌≡◌, ◌≤◌, ◌++◌, ℕ, List, Some, option_and_then, refl, sym, ap, ◌∙◌}
+use Rattle.std.proofs.Common.{◌≡◌, ◌≤◌, ◌++◌, ℕ, List, Some, option_and_then, ap, ◌∙◌}
 use Rattle.std.specs.Prelude.{IsUtf8}
 use Rattle.json.specs.Json as json
-use Rattle.serde_json.specs.Data.{Data, depth}
+use Rattle.serde_json.specs.Data.{depth}
 use Rattle.serde_json.specs.Read.{max_depth}
-use Rattle.bson_scalar.specs.Normal.{normal_scalar, scalar_as_read_back}
-use Rattle.bson_scalar.specs.Scalar.{Scalar}
-use Rattle.bson_scalar.specs.Written.{writes_scalar_in}
 use Rattle.bson_scalar.specs.declared.form.Form.{Form}
 use Rattle.bson_scalar.specs.declared.form.Form.TheVariants as form
-use Rattle.bson_scalar.proofs.Offered as scalars
-use Rattle.bson_model.specs.Normal.{as_read_back, map_scalars, map_scalars_of_items, map_scalars_of_pairs, normal_form}
-use Rattle.bson_model.specs.Value.{Value, scalar, code_scope, array, document, Values, no_values, value, Pairs, no_pairs, pair}
-use Rattle.bson_model.proofs.Offered.{as_read_each}
-use Rattle.bson_model.specs.OrderedTrees.{tree_of_json, read_in_order, tree_sorted_by_key}
+use Rattle.bson_model.specs.Normal.{as_read_back, normal_form}
+use Rattle.bson_model.specs.Value.{Value}
+use Rattle.bson_model.specs.OrderedTrees.{tree_of_json, read_in_order}
 use Rattle.bson_model.specs.OrderedTexts.{HasMeaningInOrder, IsOrderedTextOf}
-use Rattle.bson_model.specs.OrderedWriting.{writes_value_in_order, writes_items_in_order, writes_pairs_in_order}
-use Rattle.bson_model.specs.OrderedWritten.{WrittenInOrder}
-use Rattle.bson_model.proofs.OfferedInOrder.{default_written, one_written, ordered_text, text_means, written_from, written_to}
-use Rattle.bson_model.specs.ValueTexts.{IsTextInOrder}
+use Rattle.bson_model.proofs.OfferedInOrder.{text_in_order, text_means, written_again}
 use Rattle.bson_model.specs.declared.options.KeyOrder.{KeyOrder}
 use Rattle.bson_model.specs.declared.options.KeyOrder.TheVariants.{Ascending, AsGiven}
 use Rattle.bson_model.specs.declared.options.Options.{Options}
@@ -29,42 +21,12 @@ use Rattle.bson_convert.proofs.Newline.{tokens_then}
 use Rattle.bson_convert.proofs.Twice.{output_kept as sorted_kept}
 use Rattle.bson_convert.specs.InOrder.{ConvertsBy, ConvertsInOrder, ConvertsToItselfInOrder, IsFixedPointBy}
 use Rattle.bson_convert.specs.InOrder.{IsFixedPointInOrder, IsLineInOrder, IsOutputInOrder}
-use Rattle.bson_convert.proofs.Ordered.{default_tree}
 
 pub read_kept_then : (text : List ℕ) → read_in_order (text ++ newline) ≡ read_in_order text
 read_kept_then text =
     ap (λ ts. option_and_then tree_of_json (option_and_then (λ p. json.if_last p.0 p.1) (json.value max_depth ts))) (tokens_then text)
 
-module _ (o : Options) (f : Form) (g : Scalar → Scalar)
-    (same : (x : Scalar) → writes_scalar_in o.doubles f (g x) ≡ writes_scalar_in o.doubles f x) where
-  mutual
-    -- what keeps the tree of each scalar keeps the tree
-    each_written : (v : Value) → writes_value_in_order o.doubles f (map_scalars g v) ≡ writes_value_in_order o.doubles f v
-    each_written (scalar x) = same x
-    each_written (code_scope s ps) = rw (each_pair ps) refl
-    each_written (array vs) = rw (each_item vs) refl
-    each_written (document ps) = rw (each_pair ps) refl
-
-    each_item : (vs : Values) → writes_items_in_order o.doubles f (map_scalars_of_items g vs) ≡ writes_items_in_order o.doubles f vs
-    each_item no_values = refl
-    each_item (value v vs) = rw (each_written v, each_item vs) refl
-
-    each_pair : (ps : Pairs) → writes_pairs_in_order o.doubles f (map_scalars_of_pairs g ps) ≡ writes_pairs_in_order o.doubles f ps
-    each_pair no_pairs = refl
-    each_pair (pair k v ps) = rw (each_written v, each_pair ps) refl
-
 module _ (o : Options) (f : Form) where
-  -- what is read back has the tree of the value
-  written_again : (v : Value) (t : Data) → WrittenInOrder o.doubles f (normal_form v) t
-      → WrittenInOrder o.doubles f (normal_form (as_read_back f (normal_form v))) t
-  written_again v t h =
-      let D = o.doubles in
-      let w = as_read_back f (normal_form v) in
-      written_from D f w t
-      (ap (writes_value_in_order D f) (sym (as_read_each f (normal_form v)))
-      ∙ each_written o f (scalar_as_read_back f) (scalars.as_read_written D f) (normal_form v)
-      ∙ each_written o f normal_scalar (scalars.nf_written D f) v ∙ written_to D f v t h)
-
   -- a text that is read as the tree means a value that has the line too
   pub again_in_order : (mode : Mode) (bytes output text : List ℕ) (v : Value) → HasMeaningInOrder o.doubles bytes v
       → (line : IsLineInOrder o.doubles f v output)
@@ -75,17 +37,9 @@ module _ (o : Options) (f : Form) where
       let t = line.is_text.tree in
       let ordered : IsOrderedTextOf D f v t = line.is_text.ordered m.read_form.0 in
       let w = as_read_back f (normal_form v) in
-      let h = written_again v t ordered.written in
       let meaning : HasMeaningInOrder D text w = text_means D text t w read ordered.means in
-      let is_text : IsTextInOrder D f w line.text = record {
-        tree = t;
-        written = h;
-        only_tree = λ u other. one_written D f w t u h other;
-        ordered = λ plain. ordered_text D f w t h plain meaning.within_type_range meaning.distinct;
-        by_default = default_tree o f w (tree_sorted_by_key t) meaning.read_form.1 meaning.within_type_range
-            (default_written D f w t h meaning.within_type_range);
-        compact = line.is_text.compact;
-      } in
+      let is_text = text_in_order D f w t line.text line.is_text.compact (written_again D f v t ordered.written)
+      meaning.within_type_range meaning.distinct in
       record {
         value = w;
         utf8 = utf8;

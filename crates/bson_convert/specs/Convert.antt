@@ -14,8 +14,9 @@ use Rattle.bson_model.specs.Normal.{normal_form}
 use Rattle.bson_model.specs.Written.{WrittenIn}
 use Rattle.bson_model.specs.Laws.{HasMeaningIn, IsTreeOfIn}
 use Rattle.bson_tree.specs.Place.{IsFirstFaultIn}
-use Rattle.bson_model.specs.TextMeaning.{IsTextOf, IsNotJsonText, HasTextMeaningIn}
-use Rattle.bson_model.specs.ValueTexts.{IsTextWithDoubles}
+use Rattle.bson_model.specs.TextMeaning.{IsTextOf, IsNotJsonText, HasTextMeaningInKeyOrder}
+use Rattle.bson_model.specs.ValueTexts.{IsTextInKeyOrder}
+use Rattle.bson_model.specs.declared.options.KeyOrder.{KeyOrder}
 use Rattle.bson_convert.specs.declared.mode.Mode.{Mode}
 use Rattle.bson_convert.specs.declared.mode.Mode.TheVariants.{Canonical, Relaxed, Show}
 use Rattle.bson_convert.specs.declared.error.Error.{Error}
@@ -117,13 +118,14 @@ IsUncanonicalIn options fault bytes = IsRejectedIn options fault bytes
 
 -- ---- the text
 
--- a text of the value in the mode's form, or the one that shows it
-abbrev pub IsTextInMode : Options → Mode → Value → (text : List ℕ) → Type 0
-IsTextInMode options Canonical value text = IsTextWithDoubles options.doubles form.Canonical value text
-IsTextInMode options Relaxed value text = IsTextWithDoubles options.doubles form.Relaxed value text
-IsTextInMode options Show value text = text ≡ display_text value
+-- a text of the value in the mode's form, or the one that shows it, with keys in the order
+abbrev pub IsTextForMode : KeyOrder → Options → Mode → Value → (text : List ℕ) → Type 0
+IsTextForMode key_order options Canonical value text =
+    IsTextInKeyOrder key_order options.doubles form.Canonical value text
+IsTextForMode key_order options Relaxed value text = IsTextInKeyOrder key_order options.doubles form.Relaxed value text
+IsTextForMode key_order options Show value text = text ≡ display_text value
 
--- a text for the mode, of the value that the bytes denote
-abbrev pub IsConvertedText : Options → Mode → (bytes text : List ℕ) → Type 0
-IsConvertedText options mode bytes text =
-    (value : Value) × HasTextMeaningIn options.doubles bytes value × IsTextInMode options mode value text
+-- a text for the mode, of the value that the bytes mean with keys in the order
+abbrev pub IsConvertedText : KeyOrder → Options → Mode → (bytes text : List ℕ) → Type 0
+IsConvertedText key_order options mode bytes text = (value : Value)
+    × HasTextMeaningInKeyOrder key_order options.doubles bytes value × IsTextForMode key_order options mode value text

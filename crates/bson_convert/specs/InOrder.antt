@@ -13,7 +13,7 @@ use Rattle.bson_model.specs.ValueTexts.{IsTextInOrder}
 use Rattle.bson_model.specs.declared.options.KeyOrder.{KeyOrder}
 use Rattle.bson_model.specs.declared.options.KeyOrder.TheVariants.{Ascending, AsGiven}
 use Rattle.bson_model.specs.declared.options.Options.{Options}
-use Rattle.bson_convert.specs.Convert.{ConvertsIn, IsConvertedText, IsFixedPointIn, newline}
+use Rattle.bson_convert.specs.Convert.{ConvertsIn, IsFixedPointIn, newline}
 use Rattle.bson_convert.specs.declared.mode.Mode.{Mode}
 use Rattle.bson_convert.specs.declared.mode.Mode.TheVariants.{Canonical, Relaxed, Show}
 
@@ -60,22 +60,3 @@ ConvertsBy AsGiven options mode input output = ConvertsInOrder options mode inpu
 abbrev pub IsFixedPointBy : KeyOrder → Options → Mode → (output : List ℕ) → Type 0
 IsFixedPointBy Ascending options mode output = IsFixedPointIn options mode output
 IsFixedPointBy AsGiven options mode output = IsFixedPointInOrder options mode output
-
--- ---- texts without the newline
-
--- the value's text in its own order in the mode's form, or the one that shows it
-abbrev pub IsTextInOrderFor : Options → Mode → Value → (text : List ℕ) → Type 0
-IsTextInOrderFor options Canonical value text = IsTextInOrder options.doubles form.Canonical value text
-IsTextInOrderFor options Relaxed value text = IsTextInOrder options.doubles form.Relaxed value text
-IsTextInOrderFor options Show value text = text ≡ display_text value
-
--- a text for the mode, of the value that the bytes denote with keys in input order
-abbrev pub IsConvertedTextInOrder : Options → Mode → (bytes text : List ℕ) → Type 0
-IsConvertedTextInOrder options mode bytes text =
-    (value : Value) × IsUtf8 bytes × HasMeaningInOrder options.doubles bytes value
-    × IsTextInOrderFor options mode value text
-
--- a text of the value that the bytes mean, its keys in the order
-abbrev pub IsConvertedTextBy : KeyOrder → Options → Mode → (bytes text : List ℕ) → Type 0
-IsConvertedTextBy Ascending options mode bytes text = IsConvertedText options mode bytes text
-IsConvertedTextBy AsGiven options mode bytes text = IsConvertedTextInOrder options mode bytes text

@@ -1,5 +1,5 @@
 -- The names of the modes, the messages of errors and their kinds.
-use Rattle.std.specs.Prelude.{ℕ, List, ◌++◌, Option, None, Some, codes}
+use Rattle.std.specs.Prelude.{ℕ, List, Option, None, Some, codes}
 use Rattle.bson_tree.specs.declared.place.Reason.{Reason}
 use Rattle.bson_tree.specs.declared.place.Reason.TheVariants as reason
 use Rattle.bson_convert.specs.declared.mode.Mode.{Mode}

@@ -4,6 +4,7 @@ ghost use Rattle.serde_json.specs.Data.{Data};
 ghost use Rattle.bson_model.specs.Means.{MeansIn};
 ghost use Rattle.bson_model.specs.TextMeaning.{IsTextOf};
 ghost use Rattle.bson_model.specs.Value as model;
+ghost use Rattle.bson_model.specs.declared.options.KeyOrder.TheVariants.{Ascending};
 ghost use Rattle.bson_convert.specs.Convert.{IsCanonicalText, IsConvertedText, IsRejectedIn, IsUncanonicalIn};
 ghost use Rattle.bson_convert.specs.declared.mode.Mode.TheVariants.{Canonical};
 
@@ -99,7 +100,7 @@ fn sorted_canonical_text(
     bytes: &[u8],
     scratch: &mut Scratch,
 ) -> Result<Vec<u8>, Error>
-    ensures ok { IfOk result (λ text. IsConvertedText options Canonical bytes.now text.items) }
+    ensures ok { IfOk result (λ text. IsConvertedText Ascending options Canonical bytes.now text.items) }
     ensures accepts { (tree : Data) (value : model.Value) → IsTextOf bytes.now tree
         → MeansIn options.doubles tree value → IfErr result (λ fault. fault ≡ Error.OutOfMemory) }
     ensures fault { IfErr result (λ fault. IsRejectedIn options fault bytes.now) }

@@ -6,10 +6,11 @@ ghost use Rattle.bson_model.specs.TextMeaning.{IsTextOf};
 ghost use Rattle.bson_model.specs.Value as model;
 ghost use Rattle.bson_convert.specs.Convert.{IsAccepted, IsRejectedIn};
 
-use crate::conversion_attempt::refuse;
+use crate::conversion_attempt::error_of_tree;
 use crate::error::Error;
 use bson_model::options::Options;
 use bson_text::discard_writer::check_text;
+use bson_text::first_fault::first_fault_in;
 use bson_text::traversal_error::TraversalError;
 use json::Scratch;
 use std::alloc::Global;
@@ -70,8 +71,13 @@ pub(crate) fn check_tokens(
     ensures fault { IfErr result (λ fault. IsRejectedIn options fault text.now) }
 {
     match check_text(alloc, options.doubles, text, scratch) {
-        Ok(()) => Ok(()),
-        Err(TraversalError::OutOfMemory) => Err(Error::OutOfMemory),
-        Err(_) => refuse(alloc, options, text),
+        Ok(()) => return Ok(()),
+        Err(TraversalError::OutOfMemory) => return Err(Error::OutOfMemory),
+        Err(_) => {}
+    }
+    match first_fault_in(alloc, options.doubles, text) {
+        Ok(None) => Ok(()),
+        Ok(Some(place)) => Err(Error::NotExtendedJson(place)),
+        Err(error) => Err(error_of_tree(error)),
     }
 }

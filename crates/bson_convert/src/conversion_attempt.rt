@@ -3,14 +3,13 @@
 //! If a text cannot be written as it is read, it is normalized: each object has each key once, in
 //! the key order of the options. The normalized text has the same tree. If it has no fault, it is
 //! written as it is read.
-ghost use Rattle.std.specs.Prelude.{◌≡◌, IfOk, IfErr, IsUtf8, OnOk, ℕ, List, string_bytes};
+ghost use Rattle.std.specs.Prelude.{◌≡◌, IfOk, IfErr, IsUtf8, ℕ, List, string_bytes};
 ghost use Rattle.serde_json.specs.Read.{read};
 ghost use Rattle.bson_tokens.specs.Normalized.{IsNormalizedText};
 ghost use Rattle.bson_tokens.specs.ReadOutcomes.{NothingReadIfInvalid};
 ghost use Rattle.bson_model.specs.declared.options.KeyOrder.TheVariants.{Ascending, AsGiven};
 ghost use Rattle.bson_convert.specs.Attempts.{IsAttemptResult, IsUtf8Attempt};
 ghost use Rattle.bson_convert.specs.Convert.{IsAccepted, IsConvertedText, IsRejectedIn};
-ghost use Rattle.bson_convert.specs.InOrder.{IsConvertedTextBy, IsConvertedTextInOrder};
 ghost use Rattle.bson_model.specs.declared.options.Options.{Options};
 
 use crate::check::check_tokens;
@@ -18,8 +17,8 @@ use crate::error::Error;
 use crate::mode::Mode;
 use bson_model::options::{KeyOrder, Options};
 use bson_scalar::form::Form;
-use bson_text::filter::{filter_text, show_text, show_text_in_order, sort_text};
-use bson_text::first_fault::{first_fault_in, first_fault_of_normalized};
+use bson_text::filter::{filter_text, show_text};
+use bson_text::first_fault::first_fault_of_normalized;
 use bson_text::traversal_error::TraversalError;
 use bson_tokens::normalize::normalize_text;
 use json::Scratch;
@@ -88,7 +87,7 @@ pub(crate) fn read_normalized(
     mode: Mode,
     normalized: &str,
 ) -> Result<Vec<u8>, Error>
-    ensures ok { IfOk result (λ text. IsConvertedTextBy options.key_order options mode normalized.now text.items) }
+    ensures ok { IfOk result (λ text. IsConvertedText options.key_order options mode normalized.now text.items) }
     ensures utf8 { IfOk result (λ text. IsUtf8 text.items) }
     ensures fault { IfErr result (λ fault. fault ≡ Error.OutOfMemory) }
 {
@@ -107,48 +106,13 @@ fn stream_text(
     text: &str,
     scratch: &mut Scratch,
 ) -> Result<Vec<u8>, TraversalError>
-    ensures ok { IfOk result (λ written. IsConvertedTextBy options.key_order options mode text.now written.items) }
-    ensures utf8 { IfOk result (λ written. IsUtf8 written.items) }
-{
-    match options.key_order {
-        KeyOrder::Ascending => sorted_text(alloc, options, mode, text, scratch),
-        KeyOrder::AsGiven => ordered_text(alloc, options, mode, text, scratch),
-    }
-}
-
-// The same with keys in ascending order.
-fn sorted_text(
-    alloc: Global,
-    options: Options,
-    mode: Mode,
-    text: &str,
-    scratch: &mut Scratch,
-) -> Result<Vec<u8>, TraversalError>
-    ensures ok { IfOk result (λ written. IsConvertedText options mode text.now written.items) }
+    ensures ok { IfOk result (λ written. IsConvertedText options.key_order options mode text.now written.items) }
     ensures utf8 { IfOk result (λ written. IsUtf8 written.items) }
 {
     match mode {
-        Mode::Canonical => sort_text(alloc, options.doubles, Form::Canonical, text, scratch),
-        Mode::Relaxed => sort_text(alloc, options.doubles, Form::Relaxed, text, scratch),
-        Mode::Show => show_text(alloc, options.doubles, text, scratch),
-    }
-}
-
-// The same with keys as given.
-fn ordered_text(
-    alloc: Global,
-    options: Options,
-    mode: Mode,
-    text: &str,
-    scratch: &mut Scratch,
-) -> Result<Vec<u8>, TraversalError>
-    ensures ok { IfOk result (λ written. IsConvertedTextInOrder options mode text.now written.items) }
-    ensures utf8 { IfOk result (λ written. IsUtf8 written.items) }
-{
-    match mode {
-        Mode::Canonical => filter_text(alloc, options.doubles, Form::Canonical, text, scratch),
-        Mode::Relaxed => filter_text(alloc, options.doubles, Form::Relaxed, text, scratch),
-        Mode::Show => show_text_in_order(alloc, options.doubles, text, scratch),
+        Mode::Canonical => filter_text(alloc, options, Form::Canonical, text, scratch),
+        Mode::Relaxed => filter_text(alloc, options, Form::Relaxed, text, scratch),
+        Mode::Show => show_text(alloc, options, text, scratch),
     }
 }
 
@@ -216,26 +180,8 @@ fn deduplicate_if_valid(alloc: Global, options: Options, text: &str) -> Result<S
     }
 }
 
-/// Checks that a text is JSON and has a meaning. No value is made.
-///
-/// # Errors
-///
-/// - `NotJson`: `serde_json` reads no tree from the text.
-/// - `NotExtendedJson`: the tree has no meaning. It has the tree's first fault.
-/// - `OutOfMemory`: an allocation failed.
-pub fn refuse(alloc: Global, options: Options, text: &str) -> Result<(), Error>
-    ensures ok { OnOk result (IsAccepted options text.now) }
-    ensures fault { IfErr result (λ fault. IsRejectedIn options fault text.now) }
-{
-    match first_fault_in(alloc, options.doubles, text) {
-        Ok(None) => Ok(()),
-        Ok(Some(place)) => Err(Error::NotExtendedJson(place)),
-        Err(error) => Err(error_of_tree(error)),
-    }
-}
-
-// The fault of a text of which no tree was read.
-fn error_of_tree(error: json::Error) -> Error
+/// Returns the error for a text of which no tree was read.
+pub(crate) fn error_of_tree(error: json::Error) -> Error
     ensures { (options : Options) (bytes : List ℕ) → NothingReadIfInvalid (read bytes) error
         → IsRejectedIn options result bytes }
 {

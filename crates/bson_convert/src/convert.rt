@@ -4,8 +4,8 @@ ghost use Rattle.serde_json.specs.Data.{Data};
 ghost use Rattle.bson_model.specs.Means.{Means, MeansIn};
 ghost use Rattle.bson_model.specs.Value as model;
 ghost use Rattle.bson_convert.specs.Attempts.{IsAttemptResult, IsUtf8Attempt};
-ghost use Rattle.bson_convert.specs.Convert.{Converts, IsFixedPoint, IsRejected, IsRejectedIn, newline};
-ghost use Rattle.bson_convert.specs.InOrder.{ConvertsBy, IsConvertedTextBy, IsFixedPointBy};
+ghost use Rattle.bson_convert.specs.Convert.{Converts, IsConvertedText, IsFixedPoint, IsRejected, IsRejectedIn, newline};
+ghost use Rattle.bson_convert.specs.InOrder.{ConvertsBy, IsFixedPointBy};
 ghost use Rattle.bson_model.specs.declared.options.Options.{Options};
 ghost use Rattle.bson_model.specs.TextMeaning.{IsTextOf};
 
@@ -150,7 +150,7 @@ pub fn converted_text(
     mode: Mode,
     bytes: &[u8],
 ) -> Result<Vec<u8>, Error>
-    ensures ok { IfOk result (λ text. IsConvertedTextBy options.key_order options mode bytes.now text.items) }
+    ensures ok { IfOk result (λ text. IsConvertedText options.key_order options mode bytes.now text.items) }
     ensures utf8 { IfOk result (λ text. IsUtf8 text.items) }
     ensures accepts { (tree : Data) (value : model.Value) → IsTextOf bytes.now tree
         → MeansIn options.doubles tree value → IfErr result (λ fault. fault ≡ Error.OutOfMemory) }
@@ -167,7 +167,7 @@ pub(crate) fn line_text(
     bytes: &[u8],
     scratch: &mut Scratch,
 ) -> Result<Vec<u8>, Error>
-    ensures ok { IfOk result (λ text. IsConvertedTextBy options.key_order options mode bytes.now text.items) }
+    ensures ok { IfOk result (λ text. IsConvertedText options.key_order options mode bytes.now text.items) }
     ensures utf8 { IfOk result (λ text. IsUtf8 text.items) }
     ensures accepts { (tree : Data) (value : model.Value) → IsTextOf bytes.now tree
         → MeansIn options.doubles tree value → IfErr result (λ fault. fault ≡ Error.OutOfMemory) }
@@ -185,7 +185,7 @@ fn finish_attempt(
     attempt: Attempt,
 ) -> Result<Vec<u8>, Error>
     ensures ok { (bytes : List ℕ) → IsAttemptResult options mode bytes attempt
-        → IfOk result (λ text. IsConvertedTextBy options.key_order options mode bytes text.items) }
+        → IfOk result (λ text. IsConvertedText options.key_order options mode bytes text.items) }
     ensures utf8 { IsUtf8Attempt attempt → IfOk result (λ text. IsUtf8 text.items) }
     ensures fault { (bytes : List ℕ) → IsAttemptResult options mode bytes attempt
         → IfErr result (λ fault. IsRejectedIn options fault bytes) }

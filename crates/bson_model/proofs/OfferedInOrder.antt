@@ -16,3 +16,5 @@ pub use Rattle.bson_model.proofs.OrderedTexts.{ordered_text, comes_back, has_no_
 pub use Rattle.bson_model.proofs.OrderedWriteLaws.{written_from, written_to, one_written, writable_is, default_written}
 pub use Rattle.bson_model.proofs.OrderedWriteLaws.{items_from as items_written_from, items_to as items_written_to}
 pub use Rattle.bson_model.proofs.OrderedWriteLaws.{pairs_from as pairs_written_from, pairs_to as pairs_written_to}
+-- ---- for both orders
+pub use Rattle.bson_model.proofs.ValueTexts.{meant_by_default, sorted_text, text_in_order, written_again}

@@ -114,7 +114,7 @@ module _ (D : Doubles) where
     each_pair f g k no_pairs = refl
     each_pair f g k (pair l v ps) = rw (each_written f g k v, each_pair f g k ps) refl
 
-  as_read_written : (f : Form) (v : Value) → writes_value_in_order D f (as_read_back f (normal_form v)) ≡ writes_value_in_order D f v
+  pub as_read_written : (f : Form) (v : Value) → writes_value_in_order D f (as_read_back f (normal_form v)) ≡ writes_value_in_order D f v
   as_read_written f v =
       subst (λ w. writes_value_in_order D f w ≡ writes_value_in_order D f v) (as_read_each f (normal_form v))
       (each_written f (scalar_as_read_back f) (scalars.as_read_written D f) (normal_form v)

@@ -1,5 +1,5 @@
 -- What a tree in the order of a text is read as, as a function: for the proofs. `MeansInOrder` is the grammar, and the
--- law `reading_is_meaning_in_order` joins the two.
+-- law `ordered_reading_is_meaning` joins the two.
 use Rattle.std.specs.Prelude.{codes, if◌then◌else◌, Option, Some, None, Result, Ok, Err}
 use Rattle.std.specs.Str.{bytes_eq}
 use Rattle.serde_json.specs.Data.{Data, Items, no_items, item, Members, no_members, member}

@@ -1,5 +1,5 @@
 -- What a value is written as in its own order, as a function: for the proofs. `WrittenInOrder` is the grammar, and the
--- law `writing_is_written_in_order` joins the two.
+-- law `ordered_writing_is_written` joins the two.
 use Rattle.std.specs.Prelude.{Result, Ok}
 use Rattle.serde_json.specs.Data.{Data, Items, no_items, item, Members, no_members, member}
 use Rattle.serde_json.specs.Data as tree

@@ -53,7 +53,7 @@ pub fn ordered_texts_read_back()
 {}
 
 /// Proves that a tree with each key once means at most one value in order.
-pub fn one_meaning_in_order()
+pub fn ordered_trees_have_one_meaning()
     ensures { (doubles : Doubles) (json_tree : Data) (bson_value other_value : Value) → IsTreeInOrder json_tree
         → MeansInOrder doubles json_tree bson_value → MeansInOrder doubles json_tree other_value
         → bson_value ≡ other_value }
@@ -61,7 +61,7 @@ pub fn one_meaning_in_order()
 
 /// Proves that a tree with each key once means a value in order if and only if reading it in order
 /// returns that value.
-pub fn reading_is_meaning_in_order()
+pub fn ordered_reading_is_meaning()
     ensures { (doubles : Doubles) (json_tree : Data) (bson_value : Value) → IsTreeInOrder json_tree
         → ((reads_tree_in_order doubles json_tree ≡ Ok bson_value) ↔ MeansInOrder doubles json_tree bson_value) }
 {}
@@ -89,7 +89,7 @@ pub fn sorted_trees_mean_alike()
 
 /// Proves that a text whose tree means a value in order means that value, and by default the same,
 /// sorted.
-pub fn texts_mean_in_order()
+pub fn ordered_texts_have_meaning()
     ensures { (doubles : Doubles) (text : List ℕ) (json_tree : Data) (bson_value : Value)
         → read_in_order text ≡ Some json_tree → MeansInOrder doubles json_tree bson_value
         → HasMeaningInOrder doubles text bson_value }
@@ -104,7 +104,7 @@ pub fn accepted_in_either_order()
 
 /// Proves that a value has a tree in its own order if and only if writing it in order returns that
 /// tree.
-pub fn writing_is_written_in_order()
+pub fn ordered_writing_is_written()
     ensures { (doubles : Doubles) (text_form : Form) (bson_value : Value) (json_tree : Data)
         → ((writes_value_in_order doubles text_form bson_value ≡ Ok json_tree)
         ↔ WrittenInOrder doubles text_form (normal_form bson_value) json_tree) }
@@ -136,7 +136,7 @@ pub fn ordered_texts()
 
 /// Proves that the value of a text in order round-trips: it is written in both forms in that order,
 /// and each text is read as exactly that value again.
-pub fn read_values_round_trip_in_order()
+pub fn ordered_values_round_trip()
     ensures { (doubles : Doubles) (text : List ℕ) (bson_value : Value) → HasMeaningInOrder doubles text bson_value
         → ValueRoundTripsInOrder doubles bson_value }
 {}
@@ -149,7 +149,7 @@ pub fn every_value_has_ordered_tree()
 
 /// Proves that in the mode `Finite` a tree or a text means in order what it means in the mode
 /// `Special`, and a canonical tree of a value in its own order is its tree in both modes.
-pub fn finite_is_wider_in_order()
+pub fn finite_is_wider_for_ordered_trees()
     ensures finite_meaning { (json_tree : Data) (bson_value : Value) → MeansInOrder Special json_tree bson_value
         → MeansInOrder Finite json_tree bson_value }
     ensures finite_text_meaning { (text : List ℕ) (bson_value : Value) → HasMeaningInOrder Special text bson_value

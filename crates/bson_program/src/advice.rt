@@ -13,7 +13,7 @@ use crate::single_text::accept_single_text;
 use crate::texts::{BYTE_ORDER_MARK, reads_several};
 use bson::extjson::{Doubles, Options};
 use bson_codec::run_end::RunFault;
-use bson_convert::conversion_attempt::refuse;
+use bson_convert::check::check;
 use bson_convert::encode_error::NoBytes;
 use bson_convert::error::Error;
 use bson_json::sequence::split_text;
@@ -329,7 +329,7 @@ fn reads_upgraded(
     ensures { result ≡ true → IsReadUpgraded options preprocessing text.now }
 {
     match preprocess_text(alloc, preprocessing, text) {
-        Ok(Some(upgraded)) => refuse(alloc, options, upgraded.as_str()).is_ok(),
+        Ok(Some(upgraded)) => check(alloc, options, upgraded.as_bytes()).is_ok(),
         _ => false,
     }
 }

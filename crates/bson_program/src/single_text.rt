@@ -11,7 +11,6 @@ use crate::invocation::Invocation;
 use bson::extjson::{Form, Options};
 use bson_convert::canonical::check_canonical;
 use bson_convert::check::check;
-use bson_convert::conversion_attempt::refuse;
 use bson_convert::error::Error;
 use bson_convert::mode::Mode;
 use bson_run::accepted::Accepted;
@@ -60,7 +59,7 @@ fn accept_upgraded(
     }
     match invocation.task.output {
         Output::Text(mode) => {
-            refuse(alloc, invocation.options, upgraded.as_str())?;
+            check(alloc, invocation.options, upgraded.as_bytes())?;
             Ok(Accepted::Normalized(mode, upgraded))
         }
         Output::Bytes | Output::Nothing(_) => {

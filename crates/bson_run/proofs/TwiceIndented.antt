@@ -13,10 +13,10 @@ use Rattle.bson_model.specs.Value.{Value}
 use Rattle.bson_model.specs.declared.options.KeyOrder.{KeyOrder}
 use Rattle.bson_model.specs.declared.options.KeyOrder.TheVariants.{Ascending, AsGiven}
 use Rattle.bson_model.specs.declared.options.Options.{Options}
-use Rattle.bson_convert.specs.Convert.{IsOutputIn, IsWrittenIn, newline}
+use Rattle.bson_convert.specs.Convert.{IsConvertedText, IsOutputIn, IsWrittenIn, newline}
 use Rattle.bson_convert.specs.declared.error.Error.{Error}
 use Rattle.bson_convert.proofs.Offered.{again, again_in_order, line_read, parsed_whole, read_then, text_converts_by, tokens_then, whole}
-use Rattle.bson_convert.specs.InOrder.{IsConvertedTextBy, IsLineInOrder, IsOutputInOrder}
+use Rattle.bson_convert.specs.InOrder.{IsLineInOrder, IsOutputInOrder}
 use Rattle.bson_run.specs.Indent.{mode_of, ConvertsIndented, IsIndentedOutput, IsFixedPointIndented}
 
 module _ (n : ℕ) (text output : List ℕ) (is : IsIndentedOutput n text output) where
@@ -95,7 +95,7 @@ laid_kept AsGiven o Relaxed n bytes output x utf8 =
     laid_again_in_order o Relaxed n bytes output utf8 x x.converts.is_output (λ v line. line)
 
 module _ (k : KeyOrder) (o : Options) (f : Form) (n : ℕ) (bytes text : List ℕ)
-    (is : IsConvertedTextBy k o (mode_of f) bytes text) where
+    (is : IsConvertedText k o (mode_of f) bytes text) where
   pub indented : (output : List ℕ) → IsIndentedOutput n text output → ConvertsIndented k o f n bytes output
   indented output indented_text = record { text = text; converts = text_converts_by k o (mode_of f) bytes text (text ++ newline) is refl; is_output = indented_text }
 

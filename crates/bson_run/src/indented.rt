@@ -4,8 +4,7 @@ ghost use Rattle.serde_json.specs.Data.{Data};
 ghost use Rattle.bson_model.specs.Means.{MeansIn};
 ghost use Rattle.bson_model.specs.Value as model;
 ghost use Rattle.bson.specs.TextMeaning.{IsTextOf};
-ghost use Rattle.bson_convert.specs.Convert.{IsRejectedIn};
-ghost use Rattle.bson_convert.specs.InOrder.{IsConvertedTextBy};
+ghost use Rattle.bson_convert.specs.Convert.{IsConvertedText, IsRejectedIn};
 ghost use Rattle.bson_run.specs.Indent.{mode_of, ConvertsIndented, IsFixedPointIndented, IsIndentedOutput};
 
 use crate::indent::indent_text;
@@ -64,7 +63,7 @@ fn mode_of(form: Form) -> Mode
 
 // The text in the mode of the value that the bytes mean.
 fn text_in_mode(alloc: Global, options: Options, mode: Mode, bytes: &[u8]) -> Result<String, Error>
-    ensures ok { IfOk result (λ text. IsConvertedTextBy options.key_order options mode bytes.now (string_bytes text)) }
+    ensures ok { IfOk result (λ text. IsConvertedText options.key_order options mode bytes.now (string_bytes text)) }
     ensures accepts { (tree : Data) (value : model.Value) → IsTextOf bytes.now tree
         → MeansIn options.doubles tree value → IfErr result (λ fault. fault ≡ Error.OutOfMemory) }
     ensures fault { IfErr result (λ fault. IsRejectedIn options fault bytes.now) }

@@ -1,5 +1,6 @@
 -- Tokens that a writer of a text writes one after another.
 use Rattle.std.proofs.Common.{◌≡◌, ℕ, ◌+◌, List, [], ◌∷◌, ◌++◌, Ok, refl, sym, ap, ◌∙◌, subst, append_assoc}
+use Rattle.std.specs.Prelude.{IsUtf8}
 use Rattle.std.specs.declared.alloc.Global.{Global}
 use Rattle.json.specs.Print.{print}
 use Rattle.json.specs.Token as token
@@ -8,7 +9,7 @@ use Rattle.json.specs.declared.Writer.{Writer}
 use Rattle.json.specs.Tree.{items_tokens, members_tokens}
 use Rattle.serde_json.specs.Data.{Items, no_items, item, Members, no_members, member, array, object}
 use Rattle.bson_scalar.specs.Tokens.{tokens_of, code_tokens}
-use Rattle.bson_scalar.specs.TreeText.{json_of_items, json_of_members}
+use Rattle.bson_scalar.specs.TreeText.{json_of_items, json_of_members, tree_text}
 use Rattle.bson_scalar.specs.declared.form.Doubles.{Doubles}
 use Rattle.bson_scalar.specs.declared.form.Form.{Form}
 use Rattle.bson_scalar.proofs.Offered.{text_is}
@@ -16,8 +17,9 @@ use Rattle.bson_model.specs.Value as model
 use Rattle.bson_model.specs.Writing.{with_scope}
 use Rattle.bson_model.specs.Value.{Value, Values, no_values, Pairs, no_pairs, pair, code_scope, document}
 use Rattle.bson_model.specs.OrderedTexts.{HasMeaningInOrder}
+use Rattle.bson_model.specs.declared.options.KeyOrder.TheVariants.{AsGiven}
 use Rattle.bson_model.specs.OrderedWriting.{writes_value_in_order, writes_items_in_order, writes_pairs_in_order}
-use Rattle.bson_model.proofs.OfferedInOrder.{has_no_float, written_from, ordered_text}
+use Rattle.bson_model.proofs.OfferedInOrder.{has_no_float, text_in_order, written_from}
 use Rattle.bson_text.specs.OutputTexts.{IsFilteredText}
 use Rattle.bson_text.specs.TextOutput.{HasTokensAdded, HasValueTokens, HasPairTokens}
 use Rattle.bson_text.specs.TraversalResults.{ItemsWritten, PairsWritten}
@@ -103,17 +105,13 @@ code_sent s ps old mark now new begin (us, w, sent) ended = (
 
 -- ---- a whole text
 
-pub text_sent : (D : Doubles) (f : Form) (text written : List ℕ) (old new : TextWriter)
+pub text_sent : (D : Doubles) (f : Form) (text written : List ℕ) (old new : TextWriter) → IsUtf8 text
     → (v : Value) × HasMeaningInOrder D text v × HasValueTokens old v new → old.doubles ≡ D → old.form ≡ f
-    → old.json_writer.tokens ≡ [] → written ≡ print new.json_writer.tokens → IsFilteredText D f text written
-text_sent D f text written old new (v, meaning, (u, w, (d, g, before, is))) mode form none all =
+    → old.json_writer.tokens ≡ [] → written ≡ print new.json_writer.tokens → IsFilteredText AsGiven D f text written
+text_sent D f text written old new utf8 (v, meaning, (u, w, (d, g, before, is))) mode form none all =
     let writes : writes_value_in_order D f v ≡ Ok u =
     ap (λ e. writes_value_in_order e f v) (sym mode) ∙ ap (λ h. writes_value_in_order old.doubles h v) (sym form) ∙ w in
     let from = written_from D f v u writes in
-    record {
-      value = v;
-      meaning = meaning;
-      tree = u;
-      is_tree = ordered_text D f v u from meaning.read_form.0 meaning.within_type_range meaning.distinct;
-      compact = all ∙ ap print (is ∙ ap (λ l. l ++ tokens_of u) none) ∙ sym (text_is D f u (has_no_float D f v u from));
-    }
+    let compact : written ≡ tree_text D f u =
+    all ∙ ap print (is ∙ ap (λ l. l ++ tokens_of u) none) ∙ sym (text_is D f u (has_no_float D f v u from)) in
+    (v, (utf8, meaning), text_in_order D f v u written compact from meaning.within_type_range meaning.distinct)

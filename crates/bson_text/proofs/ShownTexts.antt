@@ -2,6 +2,7 @@
 use Rattle.std.proofs.Common.{◌≡◌, ℕ, ◌+◌, Bool, true, false, List, [], ◌∷◌, ◌++◌, codes, refl, sym, ap}
 use Rattle.std.proofs.Common.{◌∙◌, subst, append_assoc}
 use Rattle.std.specs.List.{flat_map}
+use Rattle.std.specs.Prelude.{IsUtf8}
 use Rattle.bson_scalar.specs.declared.form.Doubles.{Doubles}
 use Rattle.bson_model.specs.Displayed.{display_text, item_texts}
 use Rattle.bson_model.specs.declared.options.KeyOrder.{KeyOrder}
@@ -10,7 +11,8 @@ use Rattle.bson_model.specs.Sorted.{sorted, sorted_items}
 use Rattle.bson_model.specs.Value as model
 use Rattle.bson_model.specs.Value.{Value, Values, no_values, code_scope, document}
 use Rattle.bson_model.specs.OrderedTexts.{HasMeaningInOrder}
-use Rattle.bson_text.specs.OutputTexts.{IsShownTextArranged}
+use Rattle.bson_model.proofs.OfferedInOrder.{meant_by_default}
+use Rattle.bson_text.specs.OutputTexts.{IsShownText}
 use Rattle.bson_text.specs.DisplayOutput.{HasDisplayAdded, HasDisplayAfterSeparator, HasDisplayOfValue, separator_if}
 use Rattle.bson_text.specs.DisplayOutput.{arranged_items, arranged_value}
 use Rattle.bson_text.specs.TraversalResults.{ItemsWritten}
@@ -108,16 +110,13 @@ whole_shown old new v a (after, same, member_starts, shown) order first none =
     ∙ ap (λ b. separator_if b ++ display_text (arranged_value old.key_order v)) first
     ∙ ap (λ o. display_text (arranged_value o v)) order
 
-pub text_shown : (D : Doubles) (a : KeyOrder) (text : List ℕ) (old new : DisplayWriter)
+pub text_shown : (D : Doubles) (a : KeyOrder) (text : List ℕ) (old new : DisplayWriter) → IsUtf8 text
     → (v : Value) × HasMeaningInOrder D text v × HasDisplayOfValue old v new → old.key_order ≡ a → old.needs_comma ≡ false
-    → old.text.items ≡ [] → IsShownTextArranged D a text new.text.items
-text_shown D AsGiven text old new (v, meaning, added) order first none = record {
-  value = v;
-  meaning = meaning;
-  shown = whole_shown old new v AsGiven added order first none ∙ ap display_text (as_it_is v);
-}
-text_shown D Ascending text old new (v, meaning, added) order first none = record {
-  value = sorted v;
-  meaning = meaning.by_default;
-  shown = whole_shown old new v Ascending added order first none ∙ ap display_text (as_sorted v);
-}
+    → old.text.items ≡ [] → IsShownText a D text new.text.items
+text_shown D AsGiven text old new utf8 (v, meaning, added) order first none =
+    (v, (utf8, meaning), whole_shown old new v AsGiven added order first none ∙ ap display_text (as_it_is v))
+text_shown D Ascending text old new utf8 (v, meaning, added) order first none = (
+  sorted v,
+  meant_by_default D text v utf8 meaning,
+  whole_shown old new v Ascending added order first none ∙ ap display_text (as_sorted v),
+)

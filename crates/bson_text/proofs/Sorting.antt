@@ -1,13 +1,14 @@
 -- Texts that a writer of a text with ascending keys writes one after another.
 use Rattle.std.proofs.Common.{◌≡◌, ℕ, ◌+◌, Bool, true, false, List, [], ◌∷◌, ◌++◌, Result, Ok, Err, refl, sym, ap, ◌∙◌}
 use Rattle.std.proofs.Common.{subst, append_assoc, MatchResult}
+use Rattle.std.specs.Prelude.{IsUtf8}
 use Rattle.std.specs.Result.{IsErrAnd}
 use Rattle.json.specs.Print.{print}
 use Rattle.json.specs.Token.{Token}
 use Rattle.serde_json.specs.Data.{Data, Items, no_items, item, array, object}
 use Rattle.serde_json.specs.Written.{comma_if}
 use Rattle.bson_scalar.specs.Tokens.{tokens_of, code_tokens, AppendsTreeTokens}
-use Rattle.bson_scalar.specs.TreeText.{text_of}
+use Rattle.bson_scalar.specs.TreeText.{text_of, tree_text}
 use Rattle.bson_scalar.specs.Written.{WriteFault}
 use Rattle.bson_scalar.specs.declared.form.Doubles.{Doubles}
 use Rattle.bson_scalar.specs.declared.form.Form.{Form}
@@ -16,9 +17,11 @@ use Rattle.bson_model.specs.Sorted.{sorted, sorted_items, sorted_pairs}
 use Rattle.bson_model.specs.Value as model
 use Rattle.bson_model.specs.Value.{Value, Values, no_values, Pairs, code_scope, document}
 use Rattle.bson_model.specs.Writing.{writes_value_in, writes_items_in, writes_pairs_in, with_scope}
-use Rattle.bson_model.proofs.Offered.{has_no_float, has_text_in, in_range_in, read_tree, tree_is_in}
+use Rattle.bson_model.proofs.Offered.{canon_from_in, has_no_float, in_range_in, read_tree}
+use Rattle.bson_model.proofs.OfferedInOrder.{meant_by_default, sorted_text}
 use Rattle.bson_model.specs.OrderedTexts.{HasMeaningInOrder}
-use Rattle.bson_text.specs.OutputTexts.{IsSortedText}
+use Rattle.bson_model.specs.declared.options.KeyOrder.TheVariants.{Ascending}
+use Rattle.bson_text.specs.OutputTexts.{IsFilteredText}
 use Rattle.bson_text.specs.SortedOutput.{HasOutputAdded, HasOutputAfterComma, HasSortedValue, HasSortedPairs}
 use Rattle.bson_text.specs.TraversalResults.{ItemsWritten}
 use Rattle.bson_text.specs.declared.sorted_writer.SortedWriter.{SortedWriter}
@@ -124,21 +127,19 @@ code_added s ps old mark now new begin (ms, w, put) ended =
 
 -- ---- a whole text
 
-pub text_sorted : (D : Doubles) (f : Form) (text : List ℕ) (old new : SortedWriter)
+pub text_sorted : (D : Doubles) (f : Form) (text : List ℕ) (old new : SortedWriter) → IsUtf8 text
     → (v : Value) × HasMeaningInOrder D text v × HasSortedValue old v new → old.doubles ≡ D → old.form ≡ f
-    → old.needs_comma ≡ false → old.text.items ≡ [] → IsSortedText D f text new.text.items
-text_sorted D f text old new (v, meaning, (u, w, put)) mode form first none =
+    → old.needs_comma ≡ false → old.text.items ≡ [] → IsFilteredText Ascending D f text new.text.items
+text_sorted D f text old new utf8 (v, meaning, (u, w, put)) mode form first none =
     let (s, whole, meant) = meaning.by_default in
     let writes : writes_value_in D f (sorted v) ≡ Ok u =
     ap (λ E. writes_value_in E f (sorted v)) (sym mode) ∙ ap (λ g. writes_value_in old.doubles g (sorted v)) (sym form) ∙ w in
-    let within_type_range = in_range_in D meant.means (read_tree text s whole) in
-    record {
-      value = sorted v;
-      meaning = meaning.by_default;
-      tree = u;
-      is_tree = tree_is_in D f (sorted v) u writes within_type_range;
-      reads_again = λ plain. has_text_in D f (sorted v) u writes plain within_type_range;
-      compact = put.4 ∙ ap (λ l. l ++ (comma_if old.needs_comma ++ text_of u)) none
-          ∙ ap (λ b. comma_if b ++ text_of u) first
-          ∙ sym (text_is D f u (has_no_float D f (sorted v) u writes));
-    }
+    let compact : new.text.items ≡ tree_text D f u =
+    put.4 ∙ ap (λ l. l ++ (comma_if old.needs_comma ++ text_of u)) none
+    ∙ ap (λ b. comma_if b ++ text_of u) first
+    ∙ sym (text_is D f u (has_no_float D f (sorted v) u writes)) in (
+      sorted v,
+      meant_by_default D text v utf8 meaning,
+      sorted_text D f (sorted v) u new.text.items compact (canon_from_in D f (sorted v) u writes)
+          (in_range_in D meant.means (read_tree text s whole)),
+    )

@@ -9,6 +9,8 @@ use Rattle.serde_json.specs.Read.{max_depth}
 use Rattle.bson_scalar.specs.declared.form.Doubles.{Doubles}
 use Rattle.bson_model.specs.Value.{Value}
 use Rattle.bson_model.specs.OrderedTexts.{HasMeaningInOrder}
+use Rattle.bson_model.specs.declared.options.KeyOrder.{KeyOrder}
+use Rattle.bson_model.specs.declared.options.KeyOrder.TheVariants.{Ascending, AsGiven}
 use Rattle.bson_tokens.specs.PutMembers.{KeysAscendFrom}
 use Rattle.bson_text.specs.declared.traversal_error.TraversalError.{TraversalError}
 use Rattle.bson_text.specs.declared.traversal_error.TraversalError.TheVariants.{OutOfMemory, DuplicateKey, GaveUp, Syntax, Fault}
@@ -69,6 +71,11 @@ abbrev mutual
   MembersAreStreamable WriterSortsKeys json.no_members = ⊤
   MembersAreStreamable WriterSortsKeys (json.member member_key json_value json_members) =
       IsStreamable WriterSortsKeys json_value × MembersAreStreamable WriterSortsKeys json_members
+
+-- keys are sorted, so keys that do not ascend may be given up
+abbrev pub SortsKeys : KeyOrder → Type 0
+SortsKeys Ascending = ⊤
+SortsKeys AsGiven = ⊥
 
 -- A text is rejected for this reason. `WriterMayGiveUp` and `WriterSortsKeys` say what may be given up: any text, or keys that do not ascend.
 abbrev pub IsRejectedText : Doubles → (WriterMayGiveUp WriterSortsKeys : Type 0) → (text : List ℕ) → TraversalError

@@ -3,8 +3,7 @@ use Rattle.std.proofs.lemmas.Result.{err_from_is_err_and}
 use Rattle.bson_tokens.proofs.Offered.{if_ok}
 use Rattle.bson_convert.proofs.EitherOrder.{kept_ok_by, text_converts_by}
 use Rattle.bson_convert.proofs.Normalized.{accepted}
-use Rattle.bson_convert.specs.Convert.{IsRejectedIn}
-use Rattle.bson_convert.specs.InOrder.{IsConvertedTextBy}
+use Rattle.bson_convert.specs.Convert.{IsConvertedText, IsRejectedIn}
 use Rattle.bson_convert.specs.declared.error.Error.{Error}
 use Rattle.bson_convert.proofs.convert.convert_whole.Goals as goal
 
@@ -14,7 +13,7 @@ returns-clause-ok c =
     let mode = c.args.mode in
     let bytes = c.args.bytes.items in
     let text = c.in_ok-text.text.items in
-    let is = subst (λ b. IsConvertedTextBy o.key_order o mode b text) c.deref.ensures.value
+    let is = subst (λ b. IsConvertedText o.key_order o mode b text) c.deref.ensures.value
     (c.in_ok-text.ensures.ok c.deref.result.now c.in_ok-attempt.ensures.ok) in
     if_ok c.end_line.result c.end_line.ensures.ok
     (λ output line. text_converts_by o.key_order o mode bytes text output.items is line)

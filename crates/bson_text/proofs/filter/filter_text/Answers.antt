@@ -1,28 +1,27 @@
+use Rattle.std.proofs.Common.{◌≡◌, IfErr, IfOk, subst, sym}
 use Rattle.bson_scalar.specs.declared.form.Doubles.TheVariants.{Finite}
-use Rattle.std.proofs.lemmas.Result.{err_from_is_err_and}
-use Rattle.bson_text.proofs.TextDenials.{refused}
-use Rattle.std.proofs.Common.{◌≡◌, [], refl, ◌∙◌, sym, subst, arith, IsUtf8}
-use Rattle.json.specs.Print.{print}
-use Rattle.bson_text.specs.declared.text_writer.TextWriter.{TextWriter}
-use Rattle.bson_text.proofs.Sending.{text_sent}
+use Rattle.bson_text.specs.OutputTexts.{IsFilteredText}
+use Rattle.bson_text.specs.RejectedText.{IsRejectedText, SortsKeys}
 use Rattle.bson_text.proofs.filter.filter_text.Goals as goal
 
-pub returns : goal.returns
-returns c =
-    let D = c.args.doubles in
-    let f = c.args.form in
-    let old : TextWriter = record { alloc = c.args.alloc; doubles = D; form = f; json_writer = c.new.result } in
-    let new = c.in_ok-finished_writer.finished_writer in
-    let done = c.in_ok-finished_writer.ensures.ok in
-    let before : new.json_writer.before ≡ [] = done.2.2.2 ∙ c.new.ensures.before ∙ c.in_ok-with_capacity.ensures.items in
-    let written : c.into_inner.result.items ≡ print new.json_writer.tokens = grind (arith, before) in
-    record {
-      ok = text_sent D f c.args.text.now c.into_inner.result.items old new done refl refl c.new.ensures.tokens written;
-      utf8 = subst IsUtf8 (sym written) c.into_inner.ensures.utf8;
-      accepts = tt;
-    }
+pub returns-in-Ascending-clause-ok : goal.returns-in-Ascending-clause-ok
+returns-in-Ascending-clause-ok c =
+    subst (λ k. IfOk c.sort_text.result (λ w. IsFilteredText k c.args.options.doubles c.args.form c.args.text.now w.items))
+    (sym c.in-Ascending.is) c.sort_text.ensures.ok
 
-pub returns-in_err-finished_writer-clause-accepts : goal.returns-in_err-finished_writer-clause-accepts
-returns-in_err-finished_writer-clause-accepts c =
-    let p = err_from_is_err_and c.from_residual-in_err-finished_writer.result c.from_residual-in_err-finished_writer.ensures.1 in
-    rw (p.1, p.2) (refused c.args.doubles (c.args.doubles ≡ Finite) ⊥ c.args.text.now _ c.in_err-finished_writer.ensures.stops)
+pub returns-in-Ascending-clause-accepts : goal.returns-in-Ascending-clause-accepts
+returns-in-Ascending-clause-accepts c =
+    let D = c.args.options.doubles in
+    subst (λ k. IfErr c.sort_text.result (IsRejectedText D (D ≡ Finite) (SortsKeys k) c.args.text.now))
+    (sym c.in-Ascending.is) c.sort_text.ensures.accepts
+
+pub returns-in-AsGiven-clause-ok : goal.returns-in-AsGiven-clause-ok
+returns-in-AsGiven-clause-ok c =
+    subst (λ k. IfOk c.order_text.result (λ w. IsFilteredText k c.args.options.doubles c.args.form c.args.text.now w.items))
+    (sym c.in-AsGiven.is) c.order_text.ensures.ok
+
+pub returns-in-AsGiven-clause-accepts : goal.returns-in-AsGiven-clause-accepts
+returns-in-AsGiven-clause-accepts c =
+    let D = c.args.options.doubles in
+    subst (λ k. IfErr c.order_text.result (IsRejectedText D (D ≡ Finite) (SortsKeys k) c.args.text.now))
+    (sym c.in-AsGiven.is) c.order_text.ensures.accepts

@@ -1,8 +1,8 @@
-use Rattle.std.specs.Prelude.{⊤}
+use Rattle.std.specs.Prelude.{IsUtf8, ⊤}
 use Rattle.bson_scalar.specs.declared.form.Doubles.TheVariants.{Finite}
 use Rattle.std.proofs.lemmas.Result.{err_from_is_err_and}
 use Rattle.bson_text.proofs.TextDenials.{refused}
-use Rattle.std.proofs.Common.{◌≡◌, false, refl}
+use Rattle.std.proofs.Common.{◌≡◌, false, refl, arith}
 use Rattle.std.proofs.lemmas.Str.{IsUtf8-from_is_utf8}
 use Rattle.bson_text.specs.declared.sorted_writer.SortedWriter.{SortedWriter}
 use Rattle.bson_text.proofs.Sorting.{text_sorted}
@@ -15,6 +15,7 @@ invariant_of-writer c = record { utf8 = nothing_utf8 _ c.in_ok-with_capacity.ens
 pub returns : goal.returns
 returns c =
     let D = c.args.doubles in
+    let utf8 : IsUtf8 c.args.text.now = grind arith in
     let f = c.args.form in
     let old : SortedWriter = record {
       alloc = c.args.alloc;
@@ -28,7 +29,7 @@ returns c =
       utf8 = nothing_utf8 _ c.in_ok-with_capacity.ensures.items;
     } in
     record {
-      ok = text_sorted D f c.args.text.now old c.in_ok-finished_writer.finished_writer c.in_ok-finished_writer.ensures.ok refl refl refl
+      ok = text_sorted D f c.args.text.now old c.in_ok-finished_writer.finished_writer utf8 c.in_ok-finished_writer.ensures.ok refl refl refl
           c.in_ok-with_capacity.ensures.items;
       utf8 = IsUtf8-from_is_utf8 c.in_ok-finished_writer.finished_writer.text.items c.in_ok-finished_writer.finished_writer.utf8;
       accepts = tt;
