@@ -1,6 +1,6 @@
 -- Twice the length of a text is room enough for it.
 use Rattle.std.proofs.Common.{◌≡◌, ℕ, ◌+◌, ◌*◌, ◌<◌, ◌≤◌, pos, negsuc, codes, Bool, true, false, List, [], ◌∷◌, ◌++◌, length}
-use Rattle.std.proofs.Common.{Ok, refl, ap, ◌∙◌, arith, length-append}
+use Rattle.std.proofs.Common.{Ok, refl, sym, subst, ap, ◌∙◌, arith, length-append}
 use Rattle.std.proofs.lemmas.Fmt.{decimal_nonempty}
 use Rattle.json.specs.Print.{print, print_from, separator, ends, token_text, IsNumber}
 use Rattle.json.specs.Token.{Token, end_object, key, string}
@@ -9,6 +9,17 @@ use Rattle.json.specs.Word.{after_number}
 use Rattle.serde_json.specs.Data.{Num, unsigned, negative, float, Data, Items, no_items, item, Members, no_members, member}
 use Rattle.serde_json.specs.Data as tree
 use Rattle.bson_scalar.specs.TreeText.{number_text, json_of_items, json_of_members}
+use Rattle.bson_types.specs.Regex.{sorted_regex_options}
+use Rattle.bson_scalar.specs.Forms.{is_mongodb}
+use Rattle.bson_scalar.specs.Ids.{oid_tree, pointer_tree}
+use Rattle.bson_scalar.specs.OrderedScalars.{pair_object, writes_scalar_in_order}
+use Rattle.bson_scalar.specs.Regexes.{regex_tree}
+use Rattle.bson_scalar.specs.Scalar.{Scalar, db_pointer, regex, timestamp}
+use Rattle.bson_scalar.specs.Table.{key_of}
+use Rattle.bson_scalar.specs.Timestamps.{timestamp_tree}
+use Rattle.bson_scalar.specs.TreeParts.{natural, one_key_object}
+use Rattle.bson_scalar.specs.Written.{writes_scalar_in}
+use Rattle.bson_scalar.specs.declared.wrapper.Wrapper.TheVariants.{DbPointer, RegularExpression, Timestamp}
 use Rattle.bson_scalar.specs.Tokens.{tokens_of}
 use Rattle.bson_scalar.specs.declared.form.Doubles.{Doubles}
 use Rattle.bson_scalar.specs.declared.form.Form.{Form}
@@ -22,6 +33,7 @@ use Rattle.bson_model.specs.OrderedWriting.{writes_value_in_order, writes_items_
 use Rattle.bson_model.proofs.OfferedInOrder.{has_no_float, written_to}
 use Rattle.bson.specs.OutputCapacity.{value_capacity, values_capacity, pairs_capacity, written_tree_capacity, tree_capacity}
 use Rattle.bson.specs.Texts.{IsTextInOrder}
+use Rattle.bson.proofs.ScalarRoom.{scalar_room_is}
 
 -- ---- tokens: each has a byte
 
@@ -93,10 +105,45 @@ mutual
 
 -- ---- values
 
+-- two keys of a wrapper, the other way round
+regex_full : (b : Bool) (p o : List ℕ) → AreFull (tokens_of (regex_tree p o))
+    → AreFull (tokens_of (one_key_object (key_of RegularExpression) (pair_object b (codes "options") (tree.string o) (codes "pattern") (tree.string p))))
+regex_full true p o h =
+    (h.0, (h.1.0, (h.1.1.0, (h.1.1.1.1.1.0, (h.1.1.1.1.1.1.0, (h.1.1.1.0, (h.1.1.1.1.0, (h.1.1.1.1.1.1.1.0, (h.1.1.1.1.1.1.1.1.0, h.1.1.1.1.1.1.1.1.1)))))))))
+regex_full false p o h = h
+
+timestamp_full : (b : Bool) (s i : ℕ) → AreFull (tokens_of (timestamp_tree s i))
+    → AreFull (tokens_of (one_key_object (key_of Timestamp) (pair_object b (codes "i") (natural i) (codes "t") (natural s))))
+timestamp_full true s i h =
+    (h.0, (h.1.0, (h.1.1.0, (h.1.1.1.1.1.0, (h.1.1.1.1.1.1.0, (h.1.1.1.0, (h.1.1.1.1.0, (h.1.1.1.1.1.1.1.0, (h.1.1.1.1.1.1.1.1.0, h.1.1.1.1.1.1.1.1.1)))))))))
+timestamp_full false s i h = h
+
+pointer_full : (b : Bool) (s id : List ℕ) → AreFull (tokens_of (pointer_tree s id))
+    → AreFull (tokens_of (one_key_object (key_of DbPointer) (pair_object b (codes "$id") (oid_tree id) (codes "$ref") (tree.string s))))
+pointer_full true s id h =
+    (h.0, (h.1.0, (h.1.1.0, (h.1.1.1.1.1.1.1.1.0, (h.1.1.1.1.1.1.1.1.1.0, (h.1.1.1.0, (h.1.1.1.1.0, (h.1.1.1.1.1.0, (h.1.1.1.1.1.1.0, (h.1.1.1.1.1.1.1.0, (h.1.1.1.1.1.1.1.1.1.1.0, (h.1.1.1.1.1.1.1.1.1.1.1.0, h.1.1.1.1.1.1.1.1.1.1.1.1))))))))))))
+pointer_full false s id h = h
+
+module _ (D : Doubles) (f : Form) where
+  default_full : (x : Scalar) (t : Data) → writes_scalar_in D f x ≡ Ok t → NumbersInRange (scalar x) → AreFull (tokens_of t)
+  default_full x t h r = tree_full t (has_text_in D f (scalar x) t h refl r).is_tree
+
+  scalar_full : (x : Scalar) (t : Data) → writes_scalar_in_order D f x ≡ Ok t → NumbersInRange (scalar x) → AreFull (tokens_of t)
+  scalar_full (regex p o) t h r =
+      subst (λ u. AreFull (tokens_of u)) (sym (un_ok _ _ h))
+      (regex_full (is_mongodb f) p (sorted_regex_options o) (default_full (regex p o) _ refl r))
+  scalar_full (timestamp s i) t h r =
+      subst (λ u. AreFull (tokens_of u)) (sym (un_ok _ _ h))
+      (timestamp_full (is_mongodb f) s i (default_full (timestamp s i) _ refl r))
+  scalar_full (db_pointer s id) t h r =
+      subst (λ u. AreFull (tokens_of u)) (sym (un_ok _ _ h))
+      (pointer_full (is_mongodb f) s id (default_full (db_pointer s id) _ refl r))
+  scalar_full x t h r = default_full x t h r
+
 module _ (D : Doubles) (f : Form) where
   mutual
     value_full : (v : Value) (t : Data) → writes_value_in_order D f v ≡ Ok t → NumbersInRange v → AreFull (tokens_of t)
-    value_full (scalar x) t h r = tree_full t (has_text_in D f (scalar x) t h refl r).is_tree
+    value_full (scalar x) t h r = scalar_full D f x t h r
     value_full (code_scope s ps) t h r =
         let b = bind_ok (writes_pairs_in_order D f ps) _ t h in
         rw (un_ok _ _ b.2) (
@@ -144,7 +191,7 @@ module _ (D : Doubles) (f : Form) where
   -- the room for a value is that for the tokens of its tree
   mutual
     value_room_is : (v : Value) (t : Data) → writes_value_in_order D f v ≡ Ok t → value_capacity D f v ≡ tree_capacity t
-    value_room_is (scalar x) t h = ap written_tree_capacity h
+    value_room_is (scalar x) t h = scalar_room_is D f x t h
     value_room_is (code_scope s ps) t h =
         let b = bind_ok (writes_pairs_in_order D f ps) _ t h in
         let rest = pairs_room_is ps b.0 b.1 in

@@ -4,6 +4,8 @@ use Rattle.std.specs.Prelude.{ℕ, List, Result, Ok}
 use Rattle.serde_json.specs.Data.{Data, Items, no_items, item, Members, no_members, member, put}
 use Rattle.serde_json.specs.Data as tree
 use Rattle.bson_store.specs.AscendingOrder.{sorted_by_key}
+use Rattle.bson_scalar.specs.OrderedScalars.{writes_scalar_in_order}
+use Rattle.bson_scalar.specs.Scalar.{Scalar}
 use Rattle.bson_scalar.specs.Written.{writes_scalar_in, WriteFault, ◌>>=◌}
 use Rattle.bson_scalar.specs.declared.form.Doubles.{Doubles}
 use Rattle.bson_scalar.specs.declared.form.Form.{Form}
@@ -18,15 +20,21 @@ abbrev pub pairs_of_order : {X : Type 0} → (key_order : KeyOrder) → (pair_li
 pairs_of_order Ascending pair_list = sorted_by_key pair_list
 pairs_of_order AsGiven pair_list = pair_list
 
--- where a member goes among those of the pairs after it: only here the orders differ
+-- where a member goes among those of the pairs after it
 abbrev pub insert_member_in_order : (key_order : KeyOrder) → (key_bytes : List ℕ) → (value_tree : Data)
     → (member_list : Members) → Members
 insert_member_in_order Ascending key_bytes value_tree member_list = put key_bytes value_tree member_list
 insert_member_in_order AsGiven key_bytes value_tree member_list = member key_bytes value_tree member_list
 
+-- inside a wrapper too
+abbrev pub writes_scalar_in_key_order : KeyOrder → Doubles → Form → Scalar → Result Data WriteFault
+writes_scalar_in_key_order Ascending doubles form scalar_value = writes_scalar_in doubles form scalar_value
+writes_scalar_in_key_order AsGiven doubles form scalar_value = writes_scalar_in_order doubles form scalar_value
+
 abbrev mutual
   pub writes_in_key_order : KeyOrder → Doubles → Form → Value → Result Data WriteFault
-  writes_in_key_order key_order doubles form (scalar scalar_value) = writes_scalar_in doubles form scalar_value
+  writes_in_key_order key_order doubles form (scalar scalar_value) =
+      writes_scalar_in_key_order key_order doubles form scalar_value
   writes_in_key_order key_order doubles form (code_scope code_bytes pair_list) =
       writes_pairs_in_key_order key_order doubles form pair_list
       >>= λ member_list. Ok (with_scope code_bytes member_list)

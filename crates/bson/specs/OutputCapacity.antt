@@ -1,28 +1,30 @@
 -- The room that a text needs, and the values whose text is made in no other memory.
-use Rattle.std.specs.Prelude.{◌≡◌, ◌+◌, ◌<◌, ◌≤◌, ℕ, List, length, Bool, true, false, Result, MatchResult, Ok, Err}
+use Rattle.std.specs.Prelude.{◌≡◌, ◌+◌, ◌<◌, ◌≤◌, ℕ, List, length, Bool, not, true, false, Result, MatchResult, Ok, Err}
 use Rattle.json.specs.Print.{token_text}
 use Rattle.json.specs.Token.{key}
 use Rattle.json.specs.Tree.{room}
 use Rattle.serde_json.specs.Data.{Data}
-use Rattle.bson_scalar.specs.Scalar.{Scalar, regex, binary, date, decimal}
+use Rattle.bson_scalar.specs.Scalar.{Scalar, regex, binary, date, db_pointer, decimal, timestamp}
 use Rattle.bson_scalar.specs.Tokens.{tokens_of, code_tokens}
 use Rattle.bson_scalar.specs.Written.{WriteFault, writes_scalar_in}
 use Rattle.bson_scalar.specs.declared.form.Doubles.{Doubles}
 use Rattle.bson_scalar.specs.declared.form.Form.{Form}
-use Rattle.bson_scalar.specs.declared.form.Form.TheVariants.{Canonical, Relaxed}
+use Rattle.bson_scalar.specs.Forms.{is_mongodb, is_relaxed}
 use Rattle.bson_scalar.specs.declared.write_error.WriteError.{WriteError}
 use Rattle.bson_scalar.specs.declared.write_error.WriteError.TheVariants.{FiniteDouble, OutOfMemory}
 use Rattle.bson_model.specs.Value.{Value, scalar, code_scope, array, document, Values, no_values, value, Pairs}
 use Rattle.bson_model.specs.Value.{no_pairs, pair}
 
 -- A scalar is allocation-free if its text is made where it is written. The text of any other is first made in memory
--- of its own: base64, sorted options, the digits of a decimal, and in the relaxed form a date.
+-- of its own: base64, sorted options, the digits of a decimal, in a relaxed form a date, and in the layout of MongoDB's
+-- tools a timestamp and a pointer.
 abbrev pub is_allocation_free : Form → Scalar → Bool
 is_allocation_free form (regex pattern options) = false
 is_allocation_free form (binary subtype bytes) = false
 is_allocation_free form (decimal bytes) = false
-is_allocation_free Canonical (date millis) = true
-is_allocation_free Relaxed (date millis) = false
+is_allocation_free form (date millis) = not (is_relaxed form)
+is_allocation_free form (timestamp seconds increment) = not (is_mongodb form)
+is_allocation_free form (db_pointer namespace id) = not (is_mongodb form)
 is_allocation_free form scalar_value = true
 
 -- every scalar in the value is allocation-free

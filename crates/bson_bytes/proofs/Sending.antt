@@ -15,10 +15,10 @@ use Rattle.bson_scalar.specs.declared.form.Form.{Form}
 use Rattle.bson_scalar.specs.Normal.{writable_scalar_in}
 use Rattle.bson_scalar.specs.Scalar.{Scalar}
 use Rattle.bson_scalar.specs.Tokens.{AppendsTreeTokens}
-use Rattle.bson_scalar.specs.Written.{writes_scalar_in}
+use Rattle.bson_scalar.specs.OrderedScalars.{writes_scalar_in_order}
 use Rattle.bson_scalar.specs.declared.write_error.WriteError.{WriteError}
 use Rattle.bson_scalar.specs.declared.write_error.WriteError.TheVariants.{FiniteDouble, OutOfMemory}
-use Rattle.bson_scalar.proofs.Offered.{in_turn, writable_is}
+use Rattle.bson_scalar.proofs.Offered.{in_turn, order_writable_is}
 use Rattle.bson_model.specs.Normal.{PairsInRange, ItemsInRange}
 use Rattle.bson_model.specs.Value as model
 use Rattle.bson_model.specs.Value.{pair_keys, Value, Pairs, no_pairs, pair, document, code_scope}
@@ -184,8 +184,8 @@ code_given s ps start mid now new (f, x, d, is) (us, (w, r, a), sent) ended = (
 
 -- if finite doubles are written, every scalar is
 pub never_finite : (f : Form) (x : Scalar) (old new : List Token) (r : Result (Unit {0}) WriteError)
-    → writable_scalar_in Finite x ≡ true → AppendsTreeTokens r (writes_scalar_in Finite f x) old new → r ≡ Err FiniteDouble → ⊥
+    → writable_scalar_in Finite x ≡ true → AppendsTreeTokens r (writes_scalar_in_order Finite f x) old new → r ≡ Err FiniteDouble → ⊥
 never_finite f x old new (Ok done) some h e = cc
 never_finite f x old new (Err OutOfMemory) some h e = cc
 never_finite f x old new (Err FiniteDouble) some h e =
-    let is = sym (ap is_ok h) ∙ writable_is Finite f x ∙ some in cc
+    let is = sym (ap is_ok h) ∙ order_writable_is Finite f x ∙ some in cc

@@ -4,6 +4,7 @@ use Rattle.std.specs.Prelude.{is_ok, IsUtf8}
 use Rattle.std.specs.declared.alloc.Global.{Global}
 use Rattle.serde_json.specs.Data.{object}
 use Rattle.bson_scalar.specs.declared.form.Doubles.TheVariants.{Finite}
+use Rattle.bson_scalar.specs.Forms.{form_in}
 use Rattle.bson_scalar.specs.declared.form.Form.{Form}
 use Rattle.bson_scalar.proofs.Offered.{text_is}
 use Rattle.bson_model.specs.Normal.{writable_in}
@@ -34,19 +35,20 @@ text_written f v text t = sym (writable_is Finite f v) ∙ ap is_ok (written_to 
 
 -- a line of a dump in its own order, with finite doubles
 pub line_is : (run : Run) (f : Form) (bytes text line : List ℕ) → run.line ≡ Text f → run.options.doubles ≡ Finite
-    → run.options.key_order ≡ AsGiven → IsDocumentTextOf f run.depth bytes text → (line ≡ text ++ line_feed) × IsUtf8 line → IsLineOfDocument run bytes line
+    → run.options.key_order ≡ AsGiven → IsDocumentTextOf (form_in run.options.layout f) run.depth bytes text → (line ≡ text ++ line_feed) × IsUtf8 line → IsLineOfDocument run bytes line
 line_is run f bytes text line form finite given decoded is =
     let v = document decoded.pairs in
     let t = decoded.text_in_order in
+    let g = form_in run.options.layout f in
     record {
       pairs = decoded.pairs;
       read = decoded.read;
       written = subst (λ x. WritesLine run.options x decoded.pairs line) (sym form) (
-        subst (λ D. writable_in D v ≡ true) (sym finite) (text_written f v text t),
+        subst (λ D. writable_in D v ≡ true) (sym finite) (text_written g v text t),
         (
           text,
-          subst (λ order. IsTextInKeyOrder order run.options.doubles f v text) (sym given)
-              (subst (λ D. IsTextInOrder D f v text) (sym finite) t),
+          subst (λ order. IsTextInKeyOrder order run.options.doubles g v text) (sym given)
+              (subst (λ D. IsTextInOrder D g v text) (sym finite) t),
           is.0,
         ),
       );

@@ -9,6 +9,7 @@ use Rattle.bson_model.specs.declared.options.KeyOrder.TheVariants.{Ascending, As
 use Rattle.bson_model.specs.declared.options.Options.{Options}
 use Rattle.bson_scalar.specs.TreeText.{tree_text}
 use Rattle.bson_scalar.specs.declared.form.Doubles.{Doubles}
+use Rattle.bson_scalar.specs.Forms.{form_in}
 use Rattle.bson_scalar.specs.declared.form.Form.{Form}
 use Rattle.bson_model.specs.Value.{Pairs, Value, document}
 use Rattle.bson_bytes.proofs.Offered.{size_again}
@@ -45,7 +46,7 @@ one_text AsGiven D f v s t is are =
 one_write : (o : Options) (line : Line) (ps : Pairs) (a b : List ℕ) → WritesLine o line ps a → WritesLine o line ps b
     → a ≡ b
 one_write o (Text f) ps a b (w, (s, is, e)) (v, (t, are, g)) =
-    e ∙ ap (λ (x : List ℕ). x ++ line_feed) (one_text o.key_order o.doubles f (document ps) s t is are) ∙ sym g
+    e ∙ ap (λ (x : List ℕ). x ++ line_feed) (one_text o.key_order o.doubles (form_in o.layout f) (document ps) s t is are) ∙ sym g
 one_write o Shown ps a b h k = h ∙ sym k
 one_write o Nothing ps a b h k = h ∙ sym k
 

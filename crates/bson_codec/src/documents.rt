@@ -5,9 +5,9 @@ ghost use Rattle.bson_model.specs.Displayed.{display_text};
 ghost use Rattle.bson_model.specs.Value as model;
 ghost use Rattle.bson_bytes.specs.ReadDocuments.{IsReadAsDocument};
 ghost use Rattle.bson.specs.View.{document_view};
-ghost use Rattle.bson.specs.Doubles.TheVariants.{Special};
 ghost use Rattle.bson.specs.Form.TheVariants.{Canonical};
-ghost use Rattle.bson_model.specs.declared.options.KeyOrder.TheVariants.{AsGiven, Ascending};
+ghost use Rattle.bson_model.specs.NamedOptions.{default_options};
+ghost use Rattle.bson_model.specs.declared.options.KeyOrder.TheVariants.{AsGiven};
 ghost use Rattle.bson_codec.specs.DumpRuns.{BeginsWithLength, CompletedRun, EndsAt, IsLineOrSkip, IsConversionFault};
 ghost use Rattle.bson_codec.specs.DumpRuns.{IsJustifiedEnd, IsLineOfDocument, IsFaultOfDocument, IsRunEnd, IsReportFailure, IsLineFault};
 ghost use Rattle.bson_codec.specs.DumpRuns.{WritesLine, run_fault};
@@ -79,7 +79,7 @@ pub struct Run {
 impl Default for Run {
     fn default() -> Run
         ensures depth { result.depth ≡ DEPTH }
-        ensures options { (result.options.doubles ≡ Special) × (result.options.key_order ≡ Ascending) }
+        ensures options { result.options ≡ default_options }
         ensures line { result.line ≡ Text Canonical }
         ensures keep_going { result.keep_going ≡ false }
     {
@@ -285,7 +285,12 @@ fn ordered_line(alloc: Global, run: Run, form: Form, bytes: &[u8]) -> Result<Vec
     ensures fault { IfErr result (λ run_end_fault. IsConversionFault run_end_fault run bytes.now) }
 {
     match run.options.doubles {
-        Doubles::Finite => match decode_text(alloc, form, bytes, run.depth) {
+        Doubles::Finite => match decode_text(
+            alloc,
+            run.options.layout.form(form),
+            bytes,
+            run.depth,
+        ) {
             Ok(text) => end_line(text),
             Err(error) => Err(to_run_fault(error)),
         },

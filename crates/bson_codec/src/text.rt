@@ -12,6 +12,7 @@ use bson::Bson;
 use bson::extjson::{Doubles, Form, KeyOrder, Options, WriteError};
 use bson_bytes::stop::Stop;
 use bson_bytes::text_sink::document_text;
+use bson_scalar::form::Layout;
 use std::alloc::Global;
 
 /// Reads all of the bytes as a document (BSON 1.1), and returns its compact text in the form (MongoDB
@@ -56,6 +57,7 @@ fn decode_by_value(alloc: Global, form: Form, bytes: &[u8], depth: usize) -> Res
     let options = Options {
         doubles: Doubles::Finite,
         key_order: KeyOrder::AsGiven,
+        layout: Layout::Specified,
     };
     let document = from_slice(alloc, bytes, depth)?;
     match Bson::Document(document).into_text(alloc, options, form) {

@@ -2,6 +2,7 @@
 use Rattle.std.proofs.Common.{◌↔◌, ◌++◌, ℕ, List, Ok, refl}
 use Rattle.bson_scalar.specs.TreeText.{tree_text}
 use Rattle.bson_scalar.specs.declared.form.Form.{Form}
+use Rattle.bson_scalar.specs.Forms.{form_in}
 use Rattle.bson_scalar.specs.declared.form.Form.TheVariants as form
 use Rattle.bson_model.specs.Displayed.{display_text}
 use Rattle.bson_model.specs.Value.{Value}
@@ -52,8 +53,8 @@ module _ (o : Options) (bytes : List ℕ) where
 
   text_for : (k : KeyOrder) (mode : Mode) (v : Value) → HasTextMeaningInKeyOrder k o.doubles bytes v
       → (text : List ℕ) × IsTextForMode k o mode v text
-  text_for k Canonical v has = text_in k form.Canonical v has
-  text_for k Relaxed v has = text_in k form.Relaxed v has
+  text_for k Canonical v has = text_in k (form_in o.layout form.Canonical) v has
+  text_for k Relaxed v has = text_in k (form_in o.layout form.Relaxed) v has
   text_for k Show v has = (display_text v, refl)
 
   accepted_again : (k : KeyOrder) (mode : Mode) (output : List ℕ) → ConvertsBy k o mode bytes output → IsAccepted o bytes

@@ -5,6 +5,7 @@ use Rattle.std.proofs.lemmas.Str.{IsUtf8-append}
 use Rattle.json.proofs.Printed.Utf8.{IsUtf8-are_ascii}
 use Rattle.serde_json.specs.Data.{Data}
 use Rattle.bson_scalar.specs.TreeText.{tree_text}
+use Rattle.bson_scalar.specs.Forms.{form_in}
 use Rattle.bson_scalar.specs.declared.form.Form.TheVariants as form
 use Rattle.bson_model.specs.Normal.{normal_form}
 use Rattle.bson_model.specs.Written.{WrittenIn}
@@ -25,10 +26,10 @@ module _ (o : Options) where
   pub one : (bytes other : List ℕ) (a : IsCanonicalText o bytes) (b : IsCanonicalText o other)
       → normal_form a.value ≡ normal_form b.value → bytes ≡ other
   one bytes other a b e =
-      let written = subst (λ n. WrittenIn o.doubles form.Canonical n b.is_output.tree) (sym e) b.is_output.is_tree.written in
+      let written = subst (λ n. WrittenIn o.doubles (form_in o.layout form.Canonical) n b.is_output.tree) (sym e) b.is_output.is_tree.written in
       let same : b.is_output.tree ≡ a.is_output.tree = a.is_output.is_tree.one b.is_output.tree written in
       append_cancel_right bytes other newline
-      (a.is_output.line.text ∙ ap (λ t. tree_text o.doubles form.Canonical t ++ newline) (sym same)
+      (a.is_output.line.text ∙ ap (λ t. tree_text o.doubles (form_in o.layout form.Canonical) t ++ newline) (sym same)
       ∙ sym b.is_output.line.text)
 
   pub given : (bytes text : List ℕ) (tree : Data) → ConvertsIn o Canonical bytes (text ++ newline) → IsTextOf text tree

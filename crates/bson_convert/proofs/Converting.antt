@@ -2,6 +2,7 @@
 use Rattle.std.proofs.Common.{◌≡◌, ◌++◌, ℕ, List, sym, ap, ◌∙◌, subst}
 use Rattle.bson_scalar.specs.TreeText.{tree_text}
 use Rattle.bson_scalar.specs.declared.form.Form.{Form}
+use Rattle.bson_scalar.specs.Forms.{form_in}
 use Rattle.bson_scalar.specs.declared.form.Form.TheVariants as form
 use Rattle.bson_model.specs.Means.{MeansIn}
 use Rattle.bson_model.specs.Value.{Value}
@@ -20,8 +21,8 @@ module _ (o : Options) where
       y.line.text ∙ ap (λ t. tree_text o.doubles f t ++ newline) (x.is_tree.one y.tree y.is_tree.written) ∙ sym x.line.text
 
   output_one : (mode : Mode) (v : Value) (a b : List ℕ) → IsOutputIn o mode v a → IsOutputIn o mode v b → b ≡ a
-  output_one Canonical v a b x y = written_one form.Canonical v a b x y
-  output_one Relaxed v a b x y = written_one form.Relaxed v a b x y
+  output_one Canonical v a b x y = written_one (form_in o.layout form.Canonical) v a b x y
+  output_one Relaxed v a b x y = written_one (form_in o.layout form.Relaxed) v a b x y
   output_one Show v a b x y = y ∙ sym x
 
   pub converts_one : (mode : Mode) (bytes a b : List ℕ) → ConvertsIn o mode bytes a → ConvertsIn o mode bytes b → b ≡ a
@@ -32,8 +33,8 @@ module _ (o : Options) where
 
   text_output : (mode : Mode) (v : Value) (text output : List ℕ) → IsReadFormIn o.doubles v → IsTextForMode Ascending o mode v text
       → output ≡ text ++ newline → IsOutputIn o mode v output
-  text_output Canonical v text output p i l = is_written o form.Canonical v text output p i l
-  text_output Relaxed v text output p i l = is_written o form.Relaxed v text output p i l
+  text_output Canonical v text output p i l = is_written o (form_in o.layout form.Canonical) v text output p i l
+  text_output Relaxed v text output p i l = is_written o (form_in o.layout form.Relaxed) v text output p i l
   text_output Show v text output p i l = l ∙ ap (λ s. s ++ newline) i
 
   -- the text that the bytes are converted to, and a newline, is their output

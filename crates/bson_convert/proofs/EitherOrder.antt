@@ -4,6 +4,7 @@ use Rattle.std.proofs.lemmas.Option.{same_Some}
 use Rattle.std.specs.Prelude.{IsUtf8}
 use Rattle.bson_scalar.specs.TreeText.{tree_text}
 use Rattle.bson_scalar.specs.declared.form.Form.{Form}
+use Rattle.bson_scalar.specs.Forms.{form_in}
 use Rattle.bson_scalar.specs.declared.form.Form.TheVariants as form
 use Rattle.bson_model.specs.OrderedMeans.{MeansInOrder}
 use Rattle.bson_model.specs.OrderedTexts.{HasMeaningInOrder}
@@ -47,8 +48,8 @@ module _ (o : Options) where
       y.line ∙ ap (λ t. t ++ newline) texts ∙ sym x.line
 
   one_output : (mode : Mode) (v : Value) (a b : List ℕ) → IsOutputInOrder o mode v a → IsOutputInOrder o mode v b → b ≡ a
-  one_output Canonical v a b x y = one_line form.Canonical v a b x y
-  one_output Relaxed v a b x y = one_line form.Relaxed v a b x y
+  one_output Canonical v a b x y = one_line (form_in o.layout form.Canonical) v a b x y
+  one_output Relaxed v a b x y = one_line (form_in o.layout form.Relaxed) v a b x y
   one_output Show v a b x y = y ∙ sym x
 
   one_value : (text : List ℕ) (v w : Value) → HasMeaningInOrder o.doubles text v → HasMeaningInOrder o.doubles text w → w ≡ v

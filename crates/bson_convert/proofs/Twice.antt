@@ -5,6 +5,7 @@ use Rattle.serde_json.specs.Data.{Data}
 use Rattle.serde_json.specs.Read.{read}
 use Rattle.bson_scalar.specs.TreeText.{HasNoFloatIn, tree_text}
 use Rattle.bson_scalar.specs.declared.form.Form.{Form}
+use Rattle.bson_scalar.specs.Forms.{form_in}
 use Rattle.bson_scalar.specs.declared.form.Form.TheVariants as form
 use Rattle.bson_model.specs.Laws.{HasMeaningIn, IsTreeOfIn}
 use Rattle.bson_model.specs.Texts.{HasTextIn, IsTree}
@@ -72,7 +73,7 @@ module _ (o : Options) (f : Form) where
 pub output_kept : (o : Options) (mode : Mode) (bytes output : List ℕ) → ConvertsIn o mode bytes output → IsUtf8 output
     → IsFixedPointIn o mode output
 output_kept o Canonical bytes output x utf8 =
-    kept o form.Canonical Canonical bytes output x.tree x.value x.text x.meaning utf8 x.is_output (λ v w. w)
+    kept o (form_in o.layout form.Canonical) Canonical bytes output x.tree x.value x.text x.meaning utf8 x.is_output (λ v w. w)
 output_kept o Relaxed bytes output x utf8 =
-    kept o form.Relaxed Relaxed bytes output x.tree x.value x.text x.meaning utf8 x.is_output (λ v w. w)
+    kept o (form_in o.layout form.Relaxed) Relaxed bytes output x.tree x.value x.text x.meaning utf8 x.is_output (λ v w. w)
 output_kept o Show bytes output x utf8 = tt

@@ -5,6 +5,7 @@ use Rattle.json.specs.Json as json
 use Rattle.serde_json.specs.Data.{depth}
 use Rattle.serde_json.specs.Read.{max_depth}
 use Rattle.bson_scalar.specs.declared.form.Form.{Form}
+use Rattle.bson_scalar.specs.Forms.{form_in}
 use Rattle.bson_scalar.specs.declared.form.Form.TheVariants as form
 use Rattle.bson_model.specs.Normal.{as_read_back, normal_form}
 use Rattle.bson_model.specs.Value.{Value}
@@ -68,9 +69,9 @@ module _ (o : Options) (f : Form) where
 output_kept : (o : Options) (mode : Mode) (bytes output : List ℕ) → ConvertsInOrder o mode bytes output → IsUtf8 output
     → IsFixedPointInOrder o mode output
 output_kept o Canonical bytes output x utf8 =
-    is_kept o form.Canonical Canonical bytes output x.value x.meaning utf8 x.is_output (λ w line. line)
+    is_kept o (form_in o.layout form.Canonical) Canonical bytes output x.value x.meaning utf8 x.is_output (λ w line. line)
 output_kept o Relaxed bytes output x utf8 =
-    is_kept o form.Relaxed Relaxed bytes output x.value x.meaning utf8 x.is_output (λ w line. line)
+    is_kept o (form_in o.layout form.Relaxed) Relaxed bytes output x.value x.meaning utf8 x.is_output (λ w line. line)
 output_kept o Show bytes output x utf8 = tt
 
 pub kept_by : (k : KeyOrder) (o : Options) (mode : Mode) (bytes output : List ℕ) → ConvertsBy k o mode bytes output

@@ -6,6 +6,7 @@ use Rattle.bson_model.specs.NamedOptions.{default_options}
 use Rattle.bson_model.specs.declared.options.Options.{Options}
 use Rattle.bson_scalar.specs.TreeText.{tree_text}
 use Rattle.bson_scalar.specs.declared.form.Form.{Form}
+use Rattle.bson_scalar.specs.Forms.{form_in}
 use Rattle.bson_scalar.specs.declared.form.Form.TheVariants as form
 use Rattle.bson_model.specs.Means.{MeansIn}
 use Rattle.bson_model.specs.Displayed.{display_text}
@@ -44,8 +45,8 @@ pub record IsWrittenIn (options : Options) (output_form : Form) (value : Value) 
 
 -- that line, or the text that shows the value and a newline
 abbrev pub IsOutputIn : Options → Mode → Value → (output : List ℕ) → Type 0
-IsOutputIn options Canonical value output = IsWrittenIn options form.Canonical value output
-IsOutputIn options Relaxed value output = IsWrittenIn options form.Relaxed value output
+IsOutputIn options Canonical value output = IsWrittenIn options (form_in options.layout form.Canonical) value output
+IsOutputIn options Relaxed value output = IsWrittenIn options (form_in options.layout form.Relaxed) value output
 IsOutputIn options Show value output = output ≡ display_text value ++ newline
 
 -- ---- converting
@@ -68,8 +69,8 @@ pub record ConvertsToItself (options : Options) (output_form : Form) (mode : Mod
 
 -- an output in a form is that
 abbrev pub IsFixedPointIn : Options → Mode → (output : List ℕ) → Type 0
-IsFixedPointIn options Canonical output = ConvertsToItself options form.Canonical Canonical output
-IsFixedPointIn options Relaxed output = ConvertsToItself options form.Relaxed Relaxed output
+IsFixedPointIn options Canonical output = ConvertsToItself options (form_in options.layout form.Canonical) Canonical output
+IsFixedPointIn options Relaxed output = ConvertsToItself options (form_in options.layout form.Relaxed) Relaxed output
 IsFixedPointIn options Show output = Unit {0}
 
 -- what each fault says of the bytes
@@ -121,8 +122,8 @@ IsUncanonicalIn options fault bytes = IsRejectedIn options fault bytes
 -- a text of the value in the mode's form, or the one that shows it, with keys in the order
 abbrev pub IsTextForMode : KeyOrder → Options → Mode → Value → (text : List ℕ) → Type 0
 IsTextForMode key_order options Canonical value text =
-    IsTextInKeyOrder key_order options.doubles form.Canonical value text
-IsTextForMode key_order options Relaxed value text = IsTextInKeyOrder key_order options.doubles form.Relaxed value text
+    IsTextInKeyOrder key_order options.doubles (form_in options.layout form.Canonical) value text
+IsTextForMode key_order options Relaxed value text = IsTextInKeyOrder key_order options.doubles (form_in options.layout form.Relaxed) value text
 IsTextForMode key_order options Show value text = text ≡ display_text value
 
 -- a text for the mode, of the value that the bytes mean with keys in the order

@@ -5,6 +5,7 @@ use Rattle.serde_json.specs.Read.{max_depth}
 use Rattle.bson_scalar.specs.TreeText.{tree_text}
 use Rattle.bson_scalar.specs.declared.form.Doubles.{Doubles}
 use Rattle.bson_scalar.specs.declared.form.Form.{Form}
+use Rattle.bson_scalar.specs.Forms.{form_in}
 use Rattle.bson_scalar.specs.declared.form.Form.TheVariants as form
 use Rattle.bson_model.specs.Displayed.{display_text}
 use Rattle.bson_model.specs.Value.{Value}
@@ -25,8 +26,8 @@ pub record IsLineInOrder (doubles : Doubles) (output_form : Form) (value : Value
 
 -- that line, or the text that shows the value and a newline
 abbrev pub IsOutputInOrder : Options → Mode → Value → (output : List ℕ) → Type 0
-IsOutputInOrder options Canonical value output = IsLineInOrder options.doubles form.Canonical value output
-IsOutputInOrder options Relaxed value output = IsLineInOrder options.doubles form.Relaxed value output
+IsOutputInOrder options Canonical value output = IsLineInOrder options.doubles (form_in options.layout form.Canonical) value output
+IsOutputInOrder options Relaxed value output = IsLineInOrder options.doubles (form_in options.layout form.Relaxed) value output
 IsOutputInOrder options Show value output = output ≡ display_text value ++ newline
 
 -- the bytes are a text that means the value in the order of its keys, and this is the value's output
@@ -45,8 +46,8 @@ pub record ConvertsToItselfInOrder (options : Options) (output_form : Form) (mod
 
 -- an output in a form is that
 abbrev pub IsFixedPointInOrder : Options → Mode → (output : List ℕ) → Type 0
-IsFixedPointInOrder options Canonical output = ConvertsToItselfInOrder options form.Canonical Canonical output
-IsFixedPointInOrder options Relaxed output = ConvertsToItselfInOrder options form.Relaxed Relaxed output
+IsFixedPointInOrder options Canonical output = ConvertsToItselfInOrder options (form_in options.layout form.Canonical) Canonical output
+IsFixedPointInOrder options Relaxed output = ConvertsToItselfInOrder options (form_in options.layout form.Relaxed) Relaxed output
 IsFixedPointInOrder options Show output = Unit {0}
 
 -- ---- in either order

@@ -61,7 +61,7 @@ places_two k =
       places-end 0 10_000_000 (k % 100 * 1_000_000 % 10_000_000) refl,
     ) refl
 
-places_three : (k : ℕ) → places 3 1_000_000_000 (k * 1_000_000)
+pub places_three : (k : ℕ) → places 3 1_000_000_000 (k * 1_000_000)
     ≡ (48 + k / 100) ∷ (48 + k / 10 % 10) ∷ (48 + k % 10) ∷ []
 places_three k =
     let first : k * 1_000_000 / 100_000_000 ≡ k / 100 = omega arith in

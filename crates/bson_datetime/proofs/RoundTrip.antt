@@ -115,12 +115,12 @@ fraction_part-text (suc m) high =
     )
 
 -- whole milliseconds are left as they are
-int_div-whole : (ms : ℤ) → int_div (ms *ℤ pos 1_000_000) (pos 1_000_000) ≡ ms
+pub int_div-whole : (ms : ℤ) → int_div (ms *ℤ pos 1_000_000) (pos 1_000_000) ≡ ms
 int_div-whole (pos n) = omega (arith, signed_arith)
 int_div-whole (negsuc n) = omega (arith, signed_arith)
 
 -- the nanoseconds of a moment's parts
-epoch_nanos-moment : (at : DateTime)
+pub epoch_nanos-moment : (at : DateTime)
     → epoch_nanos (epoch_day at.date) (time_seconds at.time) at.time.subsec_nanosecond (pos 0) ≡ civil_nanos at
 epoch_nanos-moment at = omega (arith, signed_arith, civil_nanos-parts at)
 

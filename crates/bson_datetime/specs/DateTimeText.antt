@@ -28,6 +28,10 @@ thousandths_text number =
     ++ (if number % 100 == 0 then []
     else digit (number / 10 % 10) ++ (if number % 10 == 0 then [] else digit (number % 10)))
 
+-- all three digits of a fraction in thousandths
+abbrev pub three_digit_text : (number : ℕ) → List ℕ
+three_digit_text number = digit (number / 100) ++ digit (number / 10 % 10) ++ digit (number % 10)
+
 -- ---- RFC 3339
 
 -- `YYYY-MM-DDThh:mm:ssZ`, with a point and the fraction if it is not zero
@@ -40,6 +44,16 @@ civil_rfc3339_text civil =
 -- the RFC 3339 string of a date-time of the years 0000 to 9999
 unfoldable pub rfc3339_text : (millis : ℤ) → List ℕ
 rfc3339_text millis = civil_rfc3339_text (civil_of_millis millis)
+
+-- the same with three digits of a fraction that is not zero
+abbrev pub civil_rfc3339_millis_text : CivilDateTime → List ℕ
+civil_rfc3339_millis_text civil =
+    date_text civil ++ codes "T" ++ two_digit_text civil.hour ++ codes ":" ++ two_digit_text civil.minute ++ codes ":"
+    ++ two_digit_text civil.second
+    ++ (if civil.millisecond == 0 then [] else codes "." ++ three_digit_text civil.millisecond) ++ codes "Z"
+
+unfoldable pub rfc3339_millis_text : (millis : ℤ) → List ℕ
+rfc3339_millis_text millis = civil_rfc3339_millis_text (civil_of_millis millis)
 
 -- ---- `Display`
 

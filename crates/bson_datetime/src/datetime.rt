@@ -12,6 +12,7 @@ use crate::display::CivilText;
 use crate::error::Message;
 use crate::{Error, Result, rfc3339};
 use jiff::civil;
+use jiff_fmt::temporal::DateTimePrinter;
 use std::alloc::Global;
 use std::fmt;
 use std::marker::Model;
@@ -138,6 +139,7 @@ impl DateTime {
     ghost use Rattle.bson_datetime.specs.Rfc3339Parser.{parsed_rfc3339_millis};
     ghost use Rattle.bson_datetime.specs.Rfc3339Grammar.{DenotesDateTime};
     ghost use Rattle.bson_datetime.specs.DateTimeText.{rfc3339_text, civil_rfc3339_text};
+    ghost use Rattle.bson_datetime.specs.DateTimeText.{rfc3339_millis_text, civil_rfc3339_millis_text};
     ghost use Rattle.bson_datetime.specs.Errors.{IsCannotFormat, IsInvalidWithMessage, IsInvalidTimestamp};
     ghost use Rattle.bson_datetime.specs.Errors.{IsOutOfMemory};
 
@@ -166,6 +168,46 @@ impl DateTime {
             return Err(CANNOT_FORMAT);
         }
         match format!(in alloc; "{jiff_time}Z") {
+            Ok(text) => Ok(text),
+            Err(_) => Err(Error::OutOfMemory),
+        }
+    }
+
+    /// Writes the RFC 3339 string in UTC with milliseconds, for example `1998-02-12T00:01:00.500Z`: as
+    /// [`try_to_rfc3339_string`](DateTime::try_to_rfc3339_string), but a fraction has three digits.
+    ///
+    /// # Errors
+    ///
+    /// The errors of `try_to_rfc3339_string`.
+    ///
+    /// ```
+    /// let moment = DateTime::from_millis(500);
+    /// println!(rt; "{}", moment.try_to_rfc3339_millis_string(alloc)?)?; // 1970-01-01T00:00:00.500Z
+    /// println!(rt; "{}", moment.try_to_rfc3339_string(alloc)?)?; // 1970-01-01T00:00:00.5Z
+    /// ```
+    pub fn try_to_rfc3339_millis_string(self, alloc: Global) -> Result<String>
+        ensures ok { IfOk result (λ text. string_bytes text ≡ rfc3339_millis_text self) }
+        ensures fields { IfOk result
+            (λ text. (civil_time : CivilDateTime) → HasCivilTime self civil_time
+            → string_bytes text ≡ civil_rfc3339_millis_text civil_time) }
+        ensures reads_back { IfOk result (λ text. DenotesDateTime (string_bytes text) self) }
+        ensures in_years { OnOk result (IsRfc3339Millis self) }
+        ensures err { IfErr result (λ error. (IsCannotFormat error × ¬ (IsRfc3339Millis self)) ⊎ IsOutOfMemory error) }
+    {
+        let Some(jiff_time) = self.civil() else {
+            return Err(CANNOT_FORMAT);
+        };
+        if jiff_time.year() < 0 {
+            return Err(CANNOT_FORMAT);
+        }
+        let plain_time = jiff_time.to_plain();
+        if plain_time.time.subsec_nanosecond == 0 {
+            return self.try_to_rfc3339_string(alloc);
+        }
+        let printer = DateTimePrinter::new().precision(Some(3));
+        let text = printer.datetime_text(plain_time);
+        let text = text.as_str();
+        match format!(in alloc; "{text}Z") {
             Ok(text) => Ok(text),
             Err(_) => Err(Error::OutOfMemory),
         }

@@ -2,7 +2,7 @@
 use Rattle.std.proofs.Common.{ℕ, List, inl}
 use Rattle.serde_json.specs.Data.{Data, Items, Members}
 use Rattle.bson_scalar.specs.Scalar.{Scalar, double}
-use Rattle.bson_scalar.specs.Written.{WrittenScalarIn}
+use Rattle.bson_scalar.specs.OrderedScalars.{WrittenScalarInOrder}
 use Rattle.bson_scalar.specs.declared.form.Doubles.TheVariants.{Special, Finite}
 use Rattle.bson_scalar.specs.declared.form.Form.{Form}
 use Rattle.bson_scalar.specs.declared.form.Form.TheVariants.{Canonical}
@@ -40,7 +40,7 @@ mutual
 pub wider_text : (text : List ℕ) (v : Value) → HasMeaningInOrder Special text v → HasMeaningInOrder Finite text v
 wider_text text v m = text_means Finite text m.tree v m.tree_read (wider m.means)
 
-scalar_kept : (x : Scalar) (t : Data) → WrittenScalarIn Special Canonical x t → WrittenScalarIn Finite Canonical x t
+scalar_kept : (x : Scalar) (t : Data) → WrittenScalarInOrder Special Canonical x t → WrittenScalarInOrder Finite Canonical x t
 scalar_kept (double p) t h = (h.0, inl h.1, h.2)
 scalar_kept x t h = h
 

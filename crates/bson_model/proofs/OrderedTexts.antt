@@ -7,11 +7,12 @@ use Rattle.serde_json.specs.Written.{has_float, items_have_float, members_have_f
 use Rattle.bson_scalar.specs.TreeText.{HasNoFloatIn, tree_text}
 use Rattle.bson_scalar.specs.Normal.{normal_scalar, scalar_as_read_back}
 use Rattle.bson_scalar.specs.Scalar.{Scalar}
-use Rattle.bson_scalar.specs.Written.{writes_scalar_in}
+use Rattle.bson_scalar.specs.OrderedScalars.{writes_scalar_in_order}
 use Rattle.bson_scalar.specs.declared.form.Doubles.{Doubles}
 use Rattle.bson_scalar.specs.declared.form.Doubles.TheVariants.{Special, Finite}
+use Rattle.bson_scalar.specs.Forms.{is_relaxed}
 use Rattle.bson_scalar.specs.declared.form.Form.{Form}
-use Rattle.bson_scalar.specs.declared.form.Form.TheVariants.{Canonical, Relaxed}
+use Rattle.bson_scalar.specs.declared.form.Form.TheVariants.{Canonical, MongoDbCanonical, MongoDbRelaxed, Relaxed}
 use Rattle.bson_scalar.proofs.Offered as scalars
 use Rattle.bson_model.specs.Normal.{NumbersInRange, ItemsInRange, PairsInRange, normal_form, as_read_back, plain, map_scalars}
 use Rattle.bson_model.specs.Normal.{map_scalars_of_items, map_scalars_of_pairs}
@@ -26,8 +27,7 @@ use Rattle.bson_model.specs.OrderedWriting.{writes_value_in_order, writes_items_
 use Rattle.bson_model.specs.OrderedWritten.{WrittenInOrder, WrittenItemsInOrder, WrittenDocumentInOrder}
 use Rattle.bson_model.proofs.KeptTexts.{own_text}
 use Rattle.bson_model.proofs.OrderedMeansLaws.{one_in_order}
-use Rattle.bson_model.proofs.Scalars.{is_tree}
-use Rattle.bson_model.proofs.Settled.{tree_kept}
+use Rattle.bson_model.proofs.SortedScalars.{scalar_kept}
 use Rattle.bson_model.proofs.OrderedWriteLaws.{back_as_read, default_written, one_written, writable_has_tree, written_to}
 
 module _ (D : Doubles) where
@@ -41,7 +41,7 @@ module _ (D : Doubles) where
   mutual
     is_kept : (f : Form) (v : Value) (t : Data) → WrittenInOrder D f (normal_form v) t → NumbersInRange v → AllKeysDistinct v
         → IsTreeInOrder t
-    is_kept f (scalar x) t h r a = tree_kept t (is_tree D f x t h r)
+    is_kept f (scalar x) t h r a = scalar_kept D f x t h r
     is_kept f (code_scope s ps) t h r a =
         subst IsTreeInOrder (sym h.2) ((refl, (refl, tt)), (tt, (pairs_are_kept f ps h.0 h.1 r a, tt)))
     is_kept f (array vs) t h r a = subst IsTreeInOrder (sym h.2) (items_are_kept f vs h.0 h.1 r a)
@@ -63,10 +63,10 @@ module _ (D : Doubles) where
         subst (λ m. KeysDiffer m × MembersAreTreesInOrder m) (sym h.4)
         ((same_keys f k ps h.1 h.3 ∙ a.0, is.0), (is_kept f v h.0 h.2 r.0 a.1, is.1))
 
-module _ (D : Doubles) (f : Form) (other : (D ≡ Finite) × (f ≡ Relaxed) → ⊥) where
+module _ (D : Doubles) (f : Form) (other : (D ≡ Finite) × (is_relaxed f ≡ true) → ⊥) where
   mutual
     no_float : (v : Value) (t : Data) → WrittenInOrder D f (normal_form v) t → has_float t ≡ false
-    no_float (scalar x) t h = scalars.scalar_no_float D f x t (scalars.written_to D f x t h) other
+    no_float (scalar x) t h = scalars.order_no_float D f x t (scalars.order_written_to D f x t h) other
     no_float (code_scope s ps) t h =
         ap has_float h.2 ∙ or_from (members_have_float h.0) false (no_pairs_float ps h.0 h.1) refl
     no_float (array vs) t h = ap has_float h.2 ∙ no_items_float vs h.0 h.1
@@ -88,6 +88,8 @@ pub has_no_float : (D : Doubles) (f : Form) (v : Value) (t : Data) → WrittenIn
 has_no_float Special f v t h = no_float Special f (λ e. let never = e.0 in cc) v t h
 has_no_float Finite Canonical v t h = no_float Finite Canonical (λ e. let never = e.1 in cc) v t h
 has_no_float Finite Relaxed v t h = tt
+has_no_float Finite MongoDbCanonical v t h = no_float Finite MongoDbCanonical (λ e. let never = e.1 in cc) v t h
+has_no_float Finite MongoDbRelaxed v t h = tt
 
 module _ (D : Doubles) where
   -- ---- the normal form, settled, has the same ordered tree
@@ -95,7 +97,7 @@ module _ (D : Doubles) where
   mutual
     -- what keeps the tree of each scalar keeps the tree
     each_written : (f : Form) (g : Scalar → Scalar)
-        → ((x : Scalar) → writes_scalar_in D f (g x) ≡ writes_scalar_in D f x)
+        → ((x : Scalar) → writes_scalar_in_order D f (g x) ≡ writes_scalar_in_order D f x)
         → (v : Value) → writes_value_in_order D f (map_scalars g v) ≡ writes_value_in_order D f v
     each_written f g k (scalar x) = k x
     each_written f g k (code_scope s ps) = rw (each_pair f g k ps) refl
@@ -103,13 +105,13 @@ module _ (D : Doubles) where
     each_written f g k (document ps) = rw (each_pair f g k ps) refl
 
     each_item : (f : Form) (g : Scalar → Scalar)
-        → ((x : Scalar) → writes_scalar_in D f (g x) ≡ writes_scalar_in D f x)
+        → ((x : Scalar) → writes_scalar_in_order D f (g x) ≡ writes_scalar_in_order D f x)
         → (vs : Values) → writes_items_in_order D f (map_scalars_of_items g vs) ≡ writes_items_in_order D f vs
     each_item f g k no_values = refl
     each_item f g k (value v vs) = rw (each_written f g k v, each_item f g k vs) refl
 
     each_pair : (f : Form) (g : Scalar → Scalar)
-        → ((x : Scalar) → writes_scalar_in D f (g x) ≡ writes_scalar_in D f x)
+        → ((x : Scalar) → writes_scalar_in_order D f (g x) ≡ writes_scalar_in_order D f x)
         → (ps : Pairs) → writes_pairs_in_order D f (map_scalars_of_pairs g ps) ≡ writes_pairs_in_order D f ps
     each_pair f g k no_pairs = refl
     each_pair f g k (pair l v ps) = rw (each_written f g k v, each_pair f g k ps) refl
@@ -117,8 +119,8 @@ module _ (D : Doubles) where
   pub as_read_written : (f : Form) (v : Value) → writes_value_in_order D f (as_read_back f (normal_form v)) ≡ writes_value_in_order D f v
   as_read_written f v =
       subst (λ w. writes_value_in_order D f w ≡ writes_value_in_order D f v) (as_read_each f (normal_form v))
-      (each_written f (scalar_as_read_back f) (scalars.as_read_written D f) (normal_form v)
-      ∙ each_written f normal_scalar (scalars.nf_written D f) v)
+      (each_written f (scalar_as_read_back f) (scalars.order_as_read_written D f) (normal_form v)
+      ∙ each_written f normal_scalar (scalars.order_nf_written D f) v)
 
   -- ---- its text
 

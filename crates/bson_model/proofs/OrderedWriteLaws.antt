@@ -10,7 +10,8 @@ use Rattle.bson_scalar.specs.Means.{MeansScalarIn}
 use Rattle.bson_scalar.specs.Normal.{normal_scalar, scalar_as_read_back}
 use Rattle.bson_scalar.specs.Scalar.{Scalar}
 use Rattle.bson_scalar.specs.Table.{wrapper_of, has_wrapper}
-use Rattle.bson_scalar.specs.Written.{WrittenScalarIn, WriteFault, ◌>>=◌}
+use Rattle.bson_scalar.specs.OrderedScalars.{WrittenScalarInOrder}
+use Rattle.bson_scalar.specs.Written.{WriteFault, ◌>>=◌}
 use Rattle.bson_scalar.specs.declared.form.Doubles.{Doubles}
 use Rattle.bson_scalar.specs.declared.form.Form.{Form}
 use Rattle.bson_scalar.proofs.Offered as scalars
@@ -27,8 +28,8 @@ use Rattle.bson_model.specs.OrderedMeans.{MeansInOrder, MeansItemsInOrder, Means
 use Rattle.bson_model.specs.OrderedMeans as means
 use Rattle.bson_model.specs.OrderedWriting.{writes_value_in_order, writes_items_in_order, writes_pairs_in_order}
 use Rattle.bson_model.specs.OrderedWritten.{WrittenInOrder, WrittenItemsInOrder, WrittenDocumentInOrder}
-use Rattle.bson_model.proofs.Scalars.{is_tree, reads_back}
-use Rattle.bson_model.proofs.Settled.{settled}
+use Rattle.bson_model.proofs.Scalars.{reads_back}
+use Rattle.bson_model.proofs.SortedScalars.{scalar_sorted}
 
 module _ (D : Doubles) where
   -- ---- the function and the grammar
@@ -36,7 +37,7 @@ module _ (D : Doubles) where
   mutual
     pub written_from : (f : Form) (v : Value) (t : Data) → writes_value_in_order D f v ≡ Ok t
         → WrittenInOrder D f (normal_form v) t
-    written_from f (scalar x) t h = scalars.written_from D f x t h
+    written_from f (scalar x) t h = scalars.order_written_from D f x t h
     written_from f (code_scope s ps) t h =
         let b = bind_ok (writes_pairs_in_order D f ps) _ t h in (b.0, pairs_from f ps b.0 b.1, un_ok _ _ b.2)
     written_from f (array vs) t h =
@@ -63,7 +64,7 @@ module _ (D : Doubles) where
   mutual
     pub written_to : (f : Form) (v : Value) (t : Data) → WrittenInOrder D f (normal_form v) t
         → writes_value_in_order D f v ≡ Ok t
-    written_to f (scalar x) t h = scalars.written_to D f x t h
+    written_to f (scalar x) t h = scalars.order_written_to D f x t h
     written_to f (code_scope s ps) t h = rw (pairs_to f ps h.0 h.1) (ap Ok (sym h.2))
     written_to f (array vs) t h = rw (items_to f vs h.0 h.1) (ap Ok (sym h.2))
     written_to f (document ps) t h = rw (pairs_to f ps h.0 h.1) (ap Ok (sym h.2))
@@ -96,7 +97,7 @@ module _ (D : Doubles) where
 
   mutual
     pub writable_is : (f : Form) (v : Value) → is_ok (writes_value_in_order D f v) ≡ writable_in D v
-    writable_is f (scalar x) = scalars.writable_is D f x
+    writable_is f (scalar x) = scalars.order_writable_is D f x
     writable_is f (code_scope s ps) = ok_bind (writes_pairs_in_order D f ps) (with_scope s) ∙ pairs_writable f ps
     writable_is f (array vs) = ok_bind (writes_items_in_order D f vs) tree.array ∙ items_writable f vs
     writable_is f (document ps) = ok_bind (writes_pairs_in_order D f ps) tree.object ∙ pairs_writable f ps
@@ -123,16 +124,10 @@ module _ (D : Doubles) where
 
   -- ---- with the order forgotten
 
-  -- the tree of a scalar has no order to forget
-  scalar_settled : (f : Form) (x : Scalar) (t : Data) → WrittenScalarIn D f (normal_scalar x) t → NumbersInRange (scalar x)
-      → tree_sorted_by_key t ≡ t
-  scalar_settled f x t h r = settled t (is_tree D f x t h r)
-
   mutual
     pub default_written : (f : Form) (v : Value) (t : Data) → WrittenInOrder D f (normal_form v) t → NumbersInRange v
         → WrittenIn D f (normal_form v) (tree_sorted_by_key t)
-    default_written f (scalar x) t h r =
-        subst (WrittenScalarIn D f (normal_scalar x)) (sym (scalar_settled f x t h r)) h
+    default_written f (scalar x) t h r = scalar_sorted D f x t h r
     default_written f (code_scope s ps) t h r =
         (members_sorted_by_key h.0, default_pairs f ps h.0 h.1 r, ap tree_sorted_by_key h.2)
     default_written f (array vs) t h r = (items_sorted_by_key h.0, default_items f vs h.0 h.1 r, ap tree_sorted_by_key h.2)
@@ -176,11 +171,11 @@ module _ (D : Doubles) where
       let q = and_parts _ _ p in
       ap has_wrapper h.4 ∙ or_from _ _ (no_wrapper (wrapper_of k) q.0) (keys_plain f ps h.1 h.3 q.1)
 
-  scalar_back : (f : Form) (x : Scalar) (t : Data) → WrittenScalarIn D f (normal_scalar x) t → NumbersInRange (scalar x)
-      → MeansInOrder D t (scalar (scalar_as_read_back f (normal_scalar x)))
+  scalar_back : (f : Form) (x : Scalar) (t : Data) → WrittenScalarInOrder D f (normal_scalar x) t
+      → NumbersInRange (scalar x) → MeansInOrder D t (scalar (scalar_as_read_back f (normal_scalar x)))
   scalar_back f x t h r =
-      let y = scalar_as_read_back f (normal_scalar x) in
-      means.scalar t y (subst (λ u. MeansScalarIn D u y) (sym (scalar_settled f x t h r)) (reads_back D f x t h r))
+      means.scalar t (scalar_as_read_back f (normal_scalar x))
+      (reads_back D f x (tree_sorted_by_key t) (scalar_sorted D f x t h r) r)
 
   mutual
     back : (f : Form) (v : Value) (t : Data) → WrittenInOrder D f (normal_form v) t → plain v ≡ true → NumbersInRange v

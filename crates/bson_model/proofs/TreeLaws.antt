@@ -8,14 +8,14 @@ use lib.Signed.{mag}
 use Rattle.serde_json.specs.Data.{Data, Items, no_items, item, Members, no_members, member, put}
 use Rattle.serde_json.specs.Data as tree
 use Rattle.serde_json.specs.Find.{of_integer}
-use Rattle.bson_scalar.specs.Dates.{is_in_years_1970_to_9999, relaxed_date_tree}
+use Rattle.bson_scalar.specs.Dates.{is_in_years_1970_to_9999, mongodb_date_tree, relaxed_date_tree}
 use Rattle.bson_scalar.specs.Normal.{ScalarInRange}
 use Rattle.bson_scalar.specs.Scalar.{Scalar, null, undefined, min_key, max_key, boolean, double, int32, int64, text}
 use Rattle.bson_scalar.specs.Scalar.{symbol, code, regex, timestamp, binary, object_id, date, decimal, db_pointer}
 use Rattle.bson_scalar.specs.TreeParts.{two_key_object}
 use Rattle.bson_scalar.specs.Written.{writes_scalar_in, int32_form, int64_form, date_form}
 use Rattle.bson_scalar.specs.declared.form.Form.{Form}
-use Rattle.bson_scalar.specs.declared.form.Form.TheVariants.{Canonical, Relaxed}
+use Rattle.bson_scalar.specs.declared.form.Form.TheVariants.{Canonical, MongoDbCanonical, MongoDbRelaxed, Relaxed}
 use Rattle.bson_scalar.proofs.Offered.{IsDoubleTree, double_tree_of, pattern_is_double}
 use Rattle.bson_model.specs.Texts.{IsBelowMemberKeys, MemberKeysAscend, IsTree, ItemsAreTrees, MembersAreTrees}
 use Rattle.bson_model.specs.Value.{Value, scalar, code_scope, array, document, Values, no_values, value, Pairs}
@@ -77,10 +77,14 @@ whole_is (negsuc n) h = h
 int32_is : (f : Form) (z : ℤ) → FitsSigned w32 z → IsTree (int32_form f z)
 int32_is Canonical z r = ((tt, tt), (tt, tt))
 int32_is Relaxed z r = whole_is z (let small : mag z < 2 ^ 31 = r.sfits in omega arith)
+int32_is MongoDbCanonical z r = ((tt, tt), (tt, tt))
+int32_is MongoDbRelaxed z r = whole_is z (let small : mag z < 2 ^ 31 = r.sfits in omega arith)
 
 int64_is : (f : Form) (z : ℤ) → FitsSigned w64 z → IsTree (int64_form f z)
 int64_is Canonical z r = ((tt, tt), (tt, tt))
 int64_is Relaxed z r = whole_is z r.sfits
+int64_is MongoDbCanonical z r = ((tt, tt), (tt, tt))
+int64_is MongoDbRelaxed z r = whole_is z r.sfits
 
 long_date_is : (z : ℤ) → IsTree (date_form Canonical z)
 long_date_is z = ((tt, tt), (((tt, tt), (tt, tt)), tt))
@@ -89,9 +93,15 @@ recent_is : (b : Bool) (z : ℤ) → is_in_years_1970_to_9999 z ≡ b → IsTree
 recent_is true z e = rw e ((tt, tt), (tt, tt))
 recent_is false z e = rw e (long_date_is z)
 
+millis_is : (b : Bool) (z : ℤ) → is_in_years_1970_to_9999 z ≡ b → IsTree (mongodb_date_tree z)
+millis_is true z e = rw e ((tt, tt), (tt, tt))
+millis_is false z e = rw e (long_date_is z)
+
 date_is : (f : Form) (z : ℤ) → IsTree (date_form f z)
 date_is Canonical z = long_date_is z
 date_is Relaxed z = recent_is _ z refl
+date_is MongoDbCanonical z = long_date_is z
+date_is MongoDbRelaxed z = millis_is _ z refl
 
 double_is : (D : Doubles) (f : Form) (p : ℕ) (t : Data) → p < 2 ^ 64 → IsDoubleTree D f p t → IsTree t
 double_is D f p t r (inl (s, has, is)) = rw is ((tt, tt), (tt, tt))

@@ -1,10 +1,11 @@
 -- Normal and narrowed forms, and what a value may be.
-use Rattle.std.specs.Prelude.{◌&&◌, Bool, true, is_none}
+use Rattle.std.specs.Prelude.{◌&&◌, Bool, true, if◌then◌else◌, is_none}
 use Rattle.bson_scalar.specs.Scalar.{Scalar}
 use Rattle.bson_scalar.specs.Normal.{normal_scalar, scalar_as_read_back, writable_scalar_in, ScalarInRange}
 use Rattle.bson_scalar.specs.Table.{wrapper_of}
 use Rattle.bson_scalar.specs.declared.form.Form.{Form}
-use Rattle.bson_scalar.specs.declared.form.Form.TheVariants.{Canonical, Relaxed}
+use Rattle.bson_scalar.specs.Forms.{is_relaxed}
+use Rattle.bson_scalar.specs.declared.form.Form.TheVariants.{Relaxed}
 use Rattle.bson_model.specs.Value.{Value, scalar, code_scope, array, document, Values, no_values, value, Pairs}
 use Rattle.bson_model.specs.Value.{no_pairs, pair}
 use Rattle.bson_scalar.specs.declared.form.Doubles.{Doubles}
@@ -40,8 +41,7 @@ narrowed_form bson_value = map_scalars (scalar_as_read_back Relaxed) bson_value
 
 -- the value as it is read back from its tree
 abbrev pub as_read_back : Form → (bson_value : Value) → Value
-as_read_back Canonical bson_value = bson_value
-as_read_back Relaxed bson_value = narrowed_form bson_value
+as_read_back form bson_value = if is_relaxed form then narrowed_form bson_value else bson_value
 
 -- ---- what a value may be
 

@@ -3,7 +3,8 @@
 use Rattle.std.specs.Prelude.{Result, Ok}
 use Rattle.serde_json.specs.Data.{Data, Items, no_items, item, Members, no_members, member}
 use Rattle.serde_json.specs.Data as tree
-use Rattle.bson_scalar.specs.Written.{writes_scalar_in, WriteFault, ◌>>=◌}
+use Rattle.bson_scalar.specs.OrderedScalars.{writes_scalar_in_order}
+use Rattle.bson_scalar.specs.Written.{WriteFault, ◌>>=◌}
 use Rattle.bson_scalar.specs.declared.form.Doubles.{Doubles}
 use Rattle.bson_scalar.specs.declared.form.Form.{Form}
 use Rattle.bson_model.specs.Value.{Value, scalar, code_scope, array, document, Values, no_values, value, Pairs}
@@ -12,7 +13,7 @@ use Rattle.bson_model.specs.Writing.{with_scope}
 
 abbrev mutual
   pub writes_value_in_order : Doubles → Form → Value → Result Data WriteFault
-  writes_value_in_order doubles form (scalar scalar_value) = writes_scalar_in doubles form scalar_value
+  writes_value_in_order doubles form (scalar scalar_value) = writes_scalar_in_order doubles form scalar_value
   writes_value_in_order doubles form (code_scope code_text pair_list) =
       writes_pairs_in_order doubles form pair_list >>= λ member_list. Ok (with_scope code_text member_list)
   writes_value_in_order doubles form (array value_list) =

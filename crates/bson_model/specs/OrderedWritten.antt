@@ -2,17 +2,17 @@
 use Rattle.std.specs.Prelude.{◌≡◌, codes}
 use Rattle.serde_json.specs.Data.{Data, Items, no_items, item, Members, no_members, member}
 use Rattle.serde_json.specs.Data as tree
+use Rattle.bson_scalar.specs.OrderedScalars.{WrittenScalarInOrder}
 use Rattle.bson_scalar.specs.TreeParts.{two_key_object}
-use Rattle.bson_scalar.specs.Written.{WrittenScalarIn}
 use Rattle.bson_scalar.specs.declared.form.Doubles.{Doubles}
 use Rattle.bson_scalar.specs.declared.form.Form.{Form}
 use Rattle.bson_model.specs.Value.{Value, scalar, code_scope, array, document, Values, no_values, value, Pairs}
 use Rattle.bson_model.specs.Value.{no_pairs, pair}
 
 abbrev mutual
-  -- the value, in normal form, has this tree; inside a wrapper the order is the one of Extended JSON
+  -- the value, in normal form, has this tree; inside a wrapper the order is the one of the form
   pub WrittenInOrder : Doubles → Form → Value → Data → Type 0
-  WrittenInOrder doubles form (scalar scalar_value) json_tree = WrittenScalarIn doubles form scalar_value json_tree
+  WrittenInOrder doubles form (scalar scalar_value) json_tree = WrittenScalarInOrder doubles form scalar_value json_tree
   WrittenInOrder doubles form (code_scope code_text pair_list) json_tree = (member_list : Members)
       × WrittenDocumentInOrder doubles form pair_list member_list
       × (json_tree ≡ two_key_object (codes "$code") (tree.string code_text) (codes "$scope") (tree.object member_list))

@@ -2,7 +2,7 @@
 ghost use Rattle.std.specs.Prelude.{◌≡◌};
 ghost use Rattle.bson_model.specs.NamedOptions.{default_options, mongodb_options};
 
-use bson_scalar::form::Doubles;
+use bson_scalar::form::{Doubles, Layout};
 
 /// The order of the keys of documents, at every depth.
 ///
@@ -54,16 +54,20 @@ pub struct Options {
     pub doubles: Doubles,
     /// The order of the keys of what is read or written.
     pub key_order: KeyOrder,
+    /// How the two forms are laid out.
+    pub layout: Layout,
 }
 
 impl Options {
-    /// Returns the options of MongoDB's own tools: finite doubles have a text, and keys are as given.
+    /// Returns the options of MongoDB's own tools: finite doubles have a text, keys are as given, and the
+    /// two forms have the tools' layout.
     pub fn mongodb() -> Options
         ensures { result ≡ mongodb_options }
     {
         Options {
             doubles: Doubles::Finite,
             key_order: KeyOrder::AsGiven,
+            layout: Layout::MongoDb,
         }
     }
 }
@@ -75,6 +79,7 @@ impl Default for Options {
         Options {
             doubles: Doubles::Special,
             key_order: KeyOrder::Ascending,
+            layout: Layout::Specified,
         }
     }
 }

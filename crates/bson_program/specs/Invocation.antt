@@ -37,6 +37,8 @@ use Rattle.bson_program.specs.declared.arguments.ExpectedArg.{ExpectedArg}
 use Rattle.bson_program.specs.declared.arguments.ExpectedArg.TheVariants.{AnyArg, OutputFile, IndentWidth, JobCount, Operand}
 use Rattle.bson.specs.Doubles.{Doubles}
 use Rattle.bson.specs.Doubles.TheVariants.{Finite, Special}
+use Rattle.bson_scalar.specs.declared.form.Layout.{Layout}
+use Rattle.bson_scalar.specs.declared.form.Layout.TheVariants.{Specified, MongoDb}
 use Rattle.bson.specs.KeyOrder.{KeyOrder}
 use Rattle.bson.specs.KeyOrder.TheVariants.{Ascending, AsGiven}
 use Rattle.bson.specs.Options.{Options}
@@ -61,6 +63,11 @@ requested_preprocessing rejects_duplicates is_legacy =
 abbrev pub accepted_doubles : (is_strict : Bool) → Doubles
 accepted_doubles true = Special
 accepted_doubles false = Finite
+
+-- the layout of the specification, or that of MongoDB's tools
+abbrev pub requested_layout : (is_strict : Bool) → Layout
+requested_layout true = Specified
+requested_layout false = MongoDb
 
 -- keys keep their order, unless they are sorted, the run is strict, or it has digests or a comparison
 abbrev pub requested_key_order : (purpose : Purpose) → (sorts_keys is_strict : Bool) → KeyOrder
@@ -305,6 +312,7 @@ abbrev pub requested_options : ArgsSoFar → Options
 requested_options args_so_far = record {
   doubles = accepted_doubles args_so_far.is_strict;
   key_order = requested_key_order args_so_far.purpose args_so_far.sorts_keys args_so_far.is_strict;
+  layout = requested_layout args_so_far.is_strict;
 }
 
 -- the files, or the standard stream if there is none

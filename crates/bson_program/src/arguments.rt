@@ -10,8 +10,8 @@ use crate::invocation::{
     Command, Flag, Input, InvalidUsage, Invocation, Purpose, Request, STDIO, UsageError,
 };
 use crate::option_effects::{
-    accepted_doubles, option_without_value, requested_key_order, requested_preprocessing, set_flag,
-    with_criterion,
+    accepted_doubles, option_without_value, requested_key_order, requested_layout,
+    requested_preprocessing, set_flag, with_criterion,
 };
 use crate::option_values::{input_files, output_file_in, parse_count, starts_as_option};
 use bson::extjson::Options;
@@ -372,6 +372,7 @@ impl ArgsSoFar {
             options: Options {
                 doubles: accepted_doubles(is_strict),
                 key_order: requested_key_order(purpose, sorts_keys, is_strict),
+                layout: requested_layout(is_strict),
             },
             on_refusal: if keeps_going {
                 OnRefusal::KeepGoing

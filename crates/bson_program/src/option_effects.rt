@@ -1,13 +1,14 @@
 //! The effects of the options: the output, the preprocessing, which doubles have a text, the order of
 //! keys, and that an option occurs once.
 ghost use Rattle.std.specs.Prelude.{◌≡◌, true, if◌then◌else◌};
-ghost use Rattle.bson_program.specs.Invocation.{option_without_value, accepted_doubles, with_criterion, requested_key_order, requested_preprocessing};
+ghost use Rattle.bson_program.specs.Invocation.{option_without_value, accepted_doubles, with_criterion, requested_key_order, requested_layout, requested_preprocessing};
 
 use crate::arguments::{ExpectedArg, ParsedArg};
 use crate::invocation::{Flag, Purpose, UsageError};
 use bson::extjson::{Doubles, KeyOrder};
 use bson_model::options::DuplicateKeys;
 use bson_run::task::{Criterion, Output, Preprocessing};
+use bson_scalar::form::Layout;
 
 /// Sets what an option sets, unless it occurs twice.
 pub fn set_flag(is_set: &mut bool, flag: Flag) -> ParsedArg
@@ -42,6 +43,17 @@ pub fn accepted_doubles(is_strict: bool) -> Doubles
         Doubles::Special
     } else {
         Doubles::Finite
+    }
+}
+
+/// Returns how output is laid out: as the specification says, or as MongoDB's tools do.
+pub fn requested_layout(is_strict: bool) -> Layout
+    ensures { result ≡ requested_layout is_strict }
+{
+    if is_strict {
+        Layout::Specified
+    } else {
+        Layout::MongoDb
     }
 }
 

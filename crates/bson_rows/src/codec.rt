@@ -167,6 +167,7 @@ fn write_dump(alloc: Global, text: &str, output_line: &mut RowOutput) -> RowResu
     let options = Options {
         doubles: Doubles::Finite,
         key_order,
+        ..Options::default()
     };
     let run_settings = Run {
         options,

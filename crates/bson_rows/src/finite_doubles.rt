@@ -17,7 +17,7 @@ use std::alloc::Global;
 fn finite_doubles_options() -> Options {
     Options {
         doubles: Doubles::Finite,
-        key_order: KeyOrder::Ascending,
+        ..Options::default()
     }
 }
 

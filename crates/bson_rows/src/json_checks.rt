@@ -31,7 +31,7 @@ pub(crate) fn write_is_canonical(
 ) -> RowResult {
     let options = Options {
         doubles: Doubles::Finite,
-        key_order: KeyOrder::Ascending,
+        ..Options::default()
     };
     let Ok(is_canonical) = is_canonical_text(alloc, options, text.as_bytes()) else {
         return Err(RowError::OutOfMemory);
@@ -47,7 +47,7 @@ pub(crate) fn write_canonical_check(
 ) -> RowResult {
     let options = Options {
         doubles: Doubles::Finite,
-        key_order: KeyOrder::Ascending,
+        ..Options::default()
     };
     match check_canonical(alloc, options, text.as_bytes()) {
         Ok(()) => output_line.write_str("canonical"),

@@ -49,8 +49,8 @@ pub(crate) fn run_call(
 
 fn special_doubles_options() -> Options {
     Options {
-        doubles: Doubles::Special,
         key_order: KeyOrder::AsGiven,
+        ..Options::default()
     }
 }
 

@@ -17,6 +17,7 @@ use Rattle.bson_tree.proofs.Offered.{one_path}
 use Rattle.bson_tree.specs.Place.{FaultAtIn, path_of}
 use Rattle.bson_tree.specs.declared.place.Place.{Place}
 use Rattle.bson_scalar.specs.TreeText.{tree_text}
+use Rattle.bson_scalar.specs.Forms.{form_in}
 use Rattle.bson_scalar.specs.declared.form.Form.TheVariants as form
 use Rattle.bson_convert.specs.Convert.{ConvertsIn, IsAccepted, IsOutputIn, IsRejectedIn, newline}
 use Rattle.bson_convert.proofs.Offered.{no_difference, one_difference}
@@ -127,10 +128,10 @@ module _ (o : Options) where
   one_output : (mode : Mode) (v : Value) (a b : List ℕ) → IsOutputIn o mode v a → IsOutputIn o mode v b → a ≡ b
   one_output Canonical v a b x y =
       x.line.text
-      ∙ ap (λ t. tree_text o.doubles form.Canonical t ++ newline) (y.is_tree.one x.tree x.is_tree.written)
+      ∙ ap (λ t. tree_text o.doubles (form_in o.layout form.Canonical) t ++ newline) (y.is_tree.one x.tree x.is_tree.written)
       ∙ sym y.line.text
   one_output Relaxed v a b x y =
-      x.line.text ∙ ap (λ t. tree_text o.doubles form.Relaxed t ++ newline) (y.is_tree.one x.tree x.is_tree.written)
+      x.line.text ∙ ap (λ t. tree_text o.doubles (form_in o.layout form.Relaxed) t ++ newline) (y.is_tree.one x.tree x.is_tree.written)
       ∙ sym y.line.text
   one_output Show v a b x y = x ∙ sym y
 
@@ -148,12 +149,12 @@ module _ (o : Options) where
   one_output_in_order Canonical v a b x y =
       let trees = y.is_text.only_tree x.is_text.tree x.is_text.written in
       let texts : x.text ≡ y.text =
-      x.is_text.compact ∙ ap (tree_text o.doubles form.Canonical) trees ∙ sym y.is_text.compact in
+      x.is_text.compact ∙ ap (tree_text o.doubles (form_in o.layout form.Canonical)) trees ∙ sym y.is_text.compact in
       x.line ∙ ap (λ t. t ++ newline) texts ∙ sym y.line
   one_output_in_order Relaxed v a b x y =
       let trees = y.is_text.only_tree x.is_text.tree x.is_text.written in
       let texts : x.text ≡ y.text =
-      x.is_text.compact ∙ ap (tree_text o.doubles form.Relaxed) trees ∙ sym y.is_text.compact in
+      x.is_text.compact ∙ ap (tree_text o.doubles (form_in o.layout form.Relaxed)) trees ∙ sym y.is_text.compact in
       x.line ∙ ap (λ t. t ++ newline) texts ∙ sym y.line
   one_output_in_order Show v a b x y = x ∙ sym y
 

@@ -8,7 +8,7 @@ use Rattle.serde_json.specs.Read.{max_depth, of_json, read}
 use Rattle.bson_model.specs.OrderedTrees.{tree_of_json, read_in_order}
 use Rattle.bson_scalar.specs.TreeText.{tree_text}
 use Rattle.bson_scalar.specs.declared.form.Form.{Form}
-use Rattle.bson_scalar.specs.declared.form.Form.TheVariants.{Canonical, Relaxed}
+use Rattle.bson_scalar.specs.declared.form.Form.TheVariants.{Canonical, MongoDbCanonical, MongoDbRelaxed, Relaxed}
 use Rattle.bson_model.specs.Value.{Value}
 use Rattle.bson_model.specs.declared.options.KeyOrder.{KeyOrder}
 use Rattle.bson_model.specs.declared.options.KeyOrder.TheVariants.{Ascending, AsGiven}
@@ -17,7 +17,7 @@ use Rattle.bson_convert.specs.Convert.{IsConvertedText, IsOutputIn, IsWrittenIn,
 use Rattle.bson_convert.specs.declared.error.Error.{Error}
 use Rattle.bson_convert.proofs.Offered.{again, again_in_order, line_read, parsed_whole, read_then, text_converts_by, tokens_then, whole}
 use Rattle.bson_convert.specs.InOrder.{IsLineInOrder, IsOutputInOrder}
-use Rattle.bson_run.specs.Indent.{mode_of, ConvertsIndented, IsIndentedOutput, IsFixedPointIndented}
+use Rattle.bson_run.specs.Indent.{indented_form, mode_of, ConvertsIndented, IsIndentedOutput, IsFixedPointIndented}
 
 module _ (n : ℕ) (text output : List ℕ) (is : IsIndentedOutput n text output) where
   -- where the text is read, the layout has its tokens
@@ -33,17 +33,17 @@ module _ (n : ℕ) (text output : List ℕ) (is : IsIndentedOutput n text output
   alike of t h = ap (λ ts. option_and_then of (whole (json_value max_depth ts))) (tokens_alike of t h) ∙ h
 
 module _ (o : Options) (f : Form) (n : ℕ) (bytes output : List ℕ) (utf8 : IsUtf8 output) where
-  laid_again : (x : ConvertsIndented Ascending o f n bytes output) → IsWrittenIn o f x.converts.value (x.text ++ newline)
-      → ((v : Value) → IsWrittenIn o f v (x.text ++ newline) → IsOutputIn o (mode_of f) v (x.text ++ newline))
+  laid_again : (x : ConvertsIndented Ascending o f n bytes output) → IsWrittenIn o (indented_form o f) x.converts.value (x.text ++ newline)
+      → ((v : Value) → IsWrittenIn o (indented_form o f) v (x.text ++ newline) → IsOutputIn o (mode_of f) v (x.text ++ newline))
       → IsFixedPointIndented Ascending o f n output
   laid_again x w of =
-      let a = again o f bytes (x.text ++ newline) x.converts.tree x.converts.value x.converts.text x.converts.meaning w in
+      let a = again o (indented_form o f) bytes (x.text ++ newline) x.converts.tree x.converts.value x.converts.text x.converts.meaning w in
       record {
         tree = w.tree;
-        indented_text = subst (λ s. IsIndentedOutput n s output) (append_cancel_right x.text (tree_text o.doubles f w.tree) newline w.line.text)
+        indented_text = subst (λ s. IsIndentedOutput n s output) (append_cancel_right x.text (tree_text o.doubles (indented_form o f) w.tree) newline w.line.text)
             x.is_output;
         again = λ shallow.
-            let read_text = sym (read_then x.text) ∙ ap read w.line.text ∙ read_then (tree_text o.doubles f w.tree)
+            let read_text = sym (read_then x.text) ∙ ap read w.line.text ∙ read_then (tree_text o.doubles (indented_form o f) w.tree)
             ∙ w.line.read_again shallow in
             record {
               text = x.text;
@@ -62,8 +62,8 @@ module _ (o : Options) (f : Form) (n : ℕ) (bytes output : List ℕ) (utf8 : Is
 
 module _ (o : Options) (f : Form) (n : ℕ) (bytes output : List ℕ) (utf8 : IsUtf8 output) where
   laid_again_in_order : (x : ConvertsIndented AsGiven o f n bytes output)
-      → (line : IsLineInOrder o.doubles f x.converts.value (x.text ++ newline))
-      → ((v : Value) → IsLineInOrder o.doubles f v (x.text ++ newline) → IsOutputInOrder o (mode_of f) v (x.text ++ newline))
+      → (line : IsLineInOrder o.doubles (indented_form o f) x.converts.value (x.text ++ newline))
+      → ((v : Value) → IsLineInOrder o.doubles (indented_form o f) v (x.text ++ newline) → IsOutputInOrder o (mode_of f) v (x.text ++ newline))
       → IsFixedPointIndented AsGiven o f n output
   laid_again_in_order x line of =
       let texts : x.text ≡ line.text = append_cancel_right x.text line.text newline line.line in
@@ -71,11 +71,11 @@ module _ (o : Options) (f : Form) (n : ℕ) (bytes output : List ℕ) (utf8 : Is
         tree = line.is_text.tree;
         indented_text = subst (λ s. IsIndentedOutput n s output) (texts ∙ line.is_text.compact) x.is_output;
         again = λ shallow.
-            let read_text = ap read_in_order texts ∙ line_read o f bytes (x.text ++ newline) x.converts.value x.converts.meaning
+            let read_text = ap read_in_order texts ∙ line_read o (indented_form o f) bytes (x.text ++ newline) x.converts.value x.converts.meaning
             line shallow in
             record {
               text = x.text;
-              converts = again_in_order o f (mode_of f) bytes (x.text ++ newline) output x.converts.value x.converts.meaning line
+              converts = again_in_order o (indented_form o f) (mode_of f) bytes (x.text ++ newline) output x.converts.value x.converts.meaning line
                   of utf8 (alike n x.text output x.is_output tree_of_json line.is_text.tree read_text);
               is_output = x.is_output;
             };
@@ -89,10 +89,18 @@ laid_kept Ascending o Canonical n bytes output x utf8 =
     laid_again o Canonical n bytes output utf8 x x.converts.is_output (λ v w. w)
 laid_kept Ascending o Relaxed n bytes output x utf8 =
     laid_again o Relaxed n bytes output utf8 x x.converts.is_output (λ v w. w)
+laid_kept Ascending o MongoDbCanonical n bytes output x utf8 =
+    laid_again o MongoDbCanonical n bytes output utf8 x x.converts.is_output (λ v w. w)
+laid_kept Ascending o MongoDbRelaxed n bytes output x utf8 =
+    laid_again o MongoDbRelaxed n bytes output utf8 x x.converts.is_output (λ v w. w)
 laid_kept AsGiven o Canonical n bytes output x utf8 =
     laid_again_in_order o Canonical n bytes output utf8 x x.converts.is_output (λ v line. line)
 laid_kept AsGiven o Relaxed n bytes output x utf8 =
     laid_again_in_order o Relaxed n bytes output utf8 x x.converts.is_output (λ v line. line)
+laid_kept AsGiven o MongoDbCanonical n bytes output x utf8 =
+    laid_again_in_order o MongoDbCanonical n bytes output utf8 x x.converts.is_output (λ v line. line)
+laid_kept AsGiven o MongoDbRelaxed n bytes output x utf8 =
+    laid_again_in_order o MongoDbRelaxed n bytes output utf8 x x.converts.is_output (λ v line. line)
 
 module _ (k : KeyOrder) (o : Options) (f : Form) (n : ℕ) (bytes text : List ℕ)
     (is : IsConvertedText k o (mode_of f) bytes text) where

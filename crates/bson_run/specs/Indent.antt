@@ -13,6 +13,7 @@ use Rattle.serde_json.specs.Read.{max_depth}
 use Rattle.bson_scalar.specs.TreeText.{tree_text}
 use Rattle.bson_model.specs.declared.options.KeyOrder.{KeyOrder}
 use Rattle.bson_model.specs.declared.options.Options.{Options}
+use Rattle.bson_scalar.specs.Forms.{form_in}
 use Rattle.bson_scalar.specs.declared.form.Form.{Form}
 use Rattle.bson_scalar.specs.declared.form.Form.TheVariants as form
 use Rattle.bson_convert.specs.Convert.{newline}
@@ -76,6 +77,15 @@ pub record IsIndentedOutput (spaces : ℕ) (text output : List ℕ) : Type 0 whe
 abbrev pub mode_of : Form → Mode
 mode_of form.Canonical = Canonical
 mode_of form.Relaxed = Relaxed
+mode_of form.MongoDbCanonical = Canonical
+mode_of form.MongoDbRelaxed = Relaxed
+
+-- the form that is written in the mode of a form
+abbrev pub indented_form : Options → Form → Form
+indented_form options form.Canonical = form_in options.layout form.Canonical
+indented_form options form.Relaxed = form_in options.layout form.Relaxed
+indented_form options form.MongoDbCanonical = form_in options.layout form.Canonical
+indented_form options form.MongoDbRelaxed = form_in options.layout form.Relaxed
 
 -- the bytes are converted to a text, of which this is the layout
 pub record ConvertsIndented (key_order : KeyOrder) (options : Options) (output_form : Form) (spaces : ℕ)
@@ -88,7 +98,7 @@ pub record ConvertsIndented (key_order : KeyOrder) (options : Options) (output_f
 pub record IsFixedPointIndented (key_order : KeyOrder) (options : Options) (output_form : Form) (spaces : ℕ)
     (output : List ℕ) : Type 0 where
   pub tree : Data
-  pub indented_text : IsIndentedOutput spaces (tree_text options.doubles output_form tree) output
+  pub indented_text : IsIndentedOutput spaces (tree_text options.doubles (indented_form options output_form) tree) output
   pub again : depth tree ≤ max_depth → ConvertsIndented key_order options output_form spaces output output
 
 -- ---- for private clauses

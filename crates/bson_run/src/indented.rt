@@ -58,6 +58,8 @@ fn mode_of(form: Form) -> Mode
     match form {
         Form::Canonical => Mode::Canonical,
         Form::Relaxed => Mode::Relaxed,
+        Form::MongoDbCanonical => Mode::Canonical,
+        Form::MongoDbRelaxed => Mode::Relaxed,
     }
 }
 

@@ -5,8 +5,8 @@ use Rattle.std.proofs.lemmas.Bool.{and_parts}
 use Rattle.std.proofs.lemmas.Bool.Decides.{nat_tests}
 use Rattle.jiff.proofs.SpanFacts.{signed_arith}
 use Rattle.bson_datetime.specs.Rfc3339Parser.{parsed_rfc3339_millis, IsRfc3339Millis}
-use Rattle.bson_datetime.specs.DateTimeText.{rfc3339_text}
-use Rattle.bson_datetime.proofs.Offered.{denotes-names, named_moment-rfc}
+use Rattle.bson_datetime.specs.DateTimeText.{rfc3339_millis_text, rfc3339_text}
+use Rattle.bson_datetime.proofs.Offered.{denotes-names, named_moment-millis, named_moment-rfc}
 use Rattle.serde_json.specs.Data.{Data}
 use Rattle.serde_json.specs.Data as tree
 use Rattle.bson_scalar.specs.Dates.{is_in_years_1970_to_9999}
@@ -40,3 +40,6 @@ recent_in_years z h = let p = and_parts (int_le (pos 0) z) (int_le z (pos 253_40
 
 pub recent_denoted : (z : ℤ) → is_in_years_1970_to_9999 z ≡ true → parsed_rfc3339_millis (rfc3339_text z) ≡ Some z
 recent_denoted z h = named_moment-rfc z (recent_in_years z h)
+
+pub millis_denoted : (z : ℤ) → is_in_years_1970_to_9999 z ≡ true → parsed_rfc3339_millis (rfc3339_millis_text z) ≡ Some z
+millis_denoted z h = named_moment-millis z (recent_in_years z h)

@@ -21,4 +21,5 @@ pub mod DateLaws
 pub mod WrittenDoubles
 pub mod TreeTexts
 pub mod ScalarLaws
+pub mod OrderedScalars
 pub mod Offered

@@ -14,7 +14,7 @@ use Rattle.bson_scalar.specs.TreeParts.{one_key_object, two_key_object}
 use Rattle.bson_types.specs.BinarySubtypes.{subtype_byte, subtype_of}
 use Rattle.bson_decimal.specs.DecimalBits.{canonical_decimal}
 use Rattle.bson_decimal.proofs.Offered.{display_text-canon, parses-form}
-use Rattle.bson_scalar.specs.Dates.{is_in_years_1970_to_9999, relaxed_date_tree}
+use Rattle.bson_scalar.specs.Dates.{is_in_years_1970_to_9999, mongodb_date_tree, relaxed_date_tree}
 use lib.Signed.{mag}
 use Rattle.bson_scalar.specs.Decimals.{decimal_tree}
 use Rattle.bson_scalar.specs.Doubles.{normal_double}
@@ -33,8 +33,9 @@ use Rattle.bson_scalar.specs.Written.{WrittenScalarIn, WriteFault, writes_scalar
 use Rattle.bson_scalar.specs.Written.{int64_form, date_form}
 use Rattle.bson_scalar.specs.declared.form.Doubles.{Doubles}
 use Rattle.bson_scalar.specs.declared.form.Doubles.TheVariants.{Special, Finite}
+use Rattle.bson_scalar.specs.Forms.{is_relaxed}
 use Rattle.bson_scalar.specs.declared.form.Form.{Form}
-use Rattle.bson_scalar.specs.declared.form.Form.TheVariants.{Canonical, Relaxed}
+use Rattle.bson_scalar.specs.declared.form.Form.TheVariants.{Canonical, MongoDbCanonical, MongoDbRelaxed, Relaxed}
 use Rattle.bson_scalar.specs.declared.wrapper.Wrapper.{Wrapper}
 use Rattle.bson_scalar.specs.declared.wrapper.Wrapper.TheVariants.{Oid, Symbol, RegularExpression, NumberInt}
 use Rattle.bson_scalar.specs.declared.wrapper.Wrapper.TheVariants.{NumberLong, NumberDouble, NumberDecimal, Binary}
@@ -45,7 +46,7 @@ use Rattle.bson_scalar.proofs.IntText.{fits_true, int_of_some}
 use Rattle.bson_scalar.proofs.BinaryLaws.{binary_from, uuid_from, bytes_to, bytes_again, byte_again, subtype_byte-of}
 use Rattle.bson_datetime.proofs.Offered.{denotes-names}
 use Rattle.bson_types.proofs.Offered.{hyphenated_to, sized_to, sorted_regex_options-again}
-use Rattle.bson_scalar.proofs.DateLaws.{date_from, recent_denoted}
+use Rattle.bson_scalar.proofs.DateLaws.{date_from, millis_denoted, recent_denoted}
 use Rattle.bson_scalar.proofs.DecimalLaws.{decimal_from, decimal_of-some, decimal_of-display_text, canon-again}
 use Rattle.bson_scalar.proofs.DoubleLaws.{nan_form-again}
 use Rattle.bson_scalar.proofs.DoubleModes.{in_each, double_from, double_to, finite_to, finite_form, double_form_in}
@@ -58,7 +59,7 @@ use Rattle.bson_scalar.proofs.LoneLaws.{min_key_from, max_key_from, undefined_fr
 use Rattle.bson_scalar.proofs.RegexLaws.{regex_from}
 use Rattle.bson_scalar.proofs.TextLaws.{symbol_from, code_from}
 use Rattle.bson_scalar.proofs.TimestampLaws.{timestamp_from, natural_again}
-use Rattle.bson_scalar.proofs.WrittenDoubles.{IsDoubleTree, double_tree_of, double_normal, double_ok, number_back}
+use Rattle.bson_scalar.proofs.WrittenDoubles.{IsDoubleTree, double_tree_of, double_normal, double_ok, number_back, un_ok}
 use Rattle.bson_scalar.proofs.WrittenDoubles.{double_from as double_from_tree, double_to as double_to_tree}
 
 -- ---- what is read is the meaning
@@ -225,9 +226,6 @@ finite_range (means.nearest_to_number n p none is) = (pattern_finite _ p is).0
 
 -- ---- what is written is the grammar's one tree
 
-un_ok : {A : Type 0} (x y : A) → ◌≡◌ {A = Result A WriteFault} (Ok x) (Ok y) → y ≡ x
-un_ok x y h = cc
-
 decimal_same : (b : List ℕ) → decimal_tree (canonical_decimal b) ≡ decimal_tree b
 decimal_same b = ap (λ s. one_key_object (codes "$numberDecimal") (tree.string s)) (display_text-canon b)
 
@@ -283,19 +281,29 @@ wider z r = record { sfits = (let small : mag z < 2 ^ 31 = r.sfits in omega arit
 
 int32_back : (m : Doubles) (f : Form) (z : ℤ) → FitsSigned w32 z → scalar_read_in m (int32_form f z) ≡ Ok (int32 z)
 int32_back m Canonical z r = rw (int32_again z r) refl
+int32_back m MongoDbCanonical z r = rw (int32_again z r) refl
 int32_back m Relaxed z r = number_again m z (wider z r) ∙ ap (λ b. Ok (cond b (int32 z) (int64 z))) (fits_true 31 z r.sfits)
+int32_back m MongoDbRelaxed z r = number_again m z (wider z r) ∙ ap (λ b. Ok (cond b (int32 z) (int64 z))) (fits_true 31 z r.sfits)
 
 int64_back : (m : Doubles) (f : Form) (z : ℤ) → FitsSigned w64 z → scalar_read_in m (int64_form f z) ≡ Ok (int64_as_read_back f z)
 int64_back m Canonical z r = rw (int64_again z r) refl
+int64_back m MongoDbCanonical z r = rw (int64_again z r) refl
 int64_back m Relaxed z r = number_again m z r
+int64_back m MongoDbRelaxed z r = number_again m z r
 
 recent_back : (m : Doubles) (b : Bool) (z : ℤ) → is_in_years_1970_to_9999 z ≡ b → FitsSigned w64 z → scalar_read_in m (relaxed_date_tree z) ≡ Ok (date z)
 recent_back m true z e r = rw e (rw (recent_denoted z e) refl)
 recent_back m false z e r = rw e (rw (int64_again z r) refl)
 
+millis_back : (m : Doubles) (b : Bool) (z : ℤ) → is_in_years_1970_to_9999 z ≡ b → FitsSigned w64 z → scalar_read_in m (mongodb_date_tree z) ≡ Ok (date z)
+millis_back m true z e r = rw e (rw (millis_denoted z e) refl)
+millis_back m false z e r = rw e (rw (int64_again z r) refl)
+
 date_back : (m : Doubles) (f : Form) (z : ℤ) → FitsSigned w64 z → scalar_read_in m (date_form f z) ≡ Ok (date z)
 date_back m Canonical z r = rw (int64_again z r) refl
+date_back m MongoDbCanonical z r = rw (int64_again z r) refl
 date_back m Relaxed z r = recent_back m _ z refl r
+date_back m MongoDbRelaxed z r = millis_back m _ z refl r
 
 double_back : (m : Doubles) (f : Form) (p : ℕ) (t : Data) → p < 2 ^ 64 → IsDoubleTree m f p t
     → scalar_read_in m t ≡ Ok (double (normal_double p))
@@ -336,7 +344,9 @@ narrow_at false z e = rw e refl
 
 int64_twice : (f : Form) (z : ℤ) → scalar_as_read_back f (int64_as_read_back f z) ≡ int64_as_read_back f z
 int64_twice Canonical z = refl
+int64_twice MongoDbCanonical z = refl
 int64_twice Relaxed z = narrow_at _ z refl
+int64_twice MongoDbRelaxed z = narrow_at _ z refl
 
 pub as_read_again : (f : Form) (x : Scalar) → scalar_as_read_back f (scalar_as_read_back f x) ≡ scalar_as_read_back f x
 as_read_again f (int64 z) = int64_twice f z
@@ -347,14 +357,25 @@ pub as_read_canonical : (x : Scalar) → scalar_as_read_back Canonical x ≡ x
 as_read_canonical (int64 z) = refl
 as_read_canonical x = refl
 
-narrow_number : (m : Doubles) (b : Bool) (z : ℤ)
-    → writes_scalar_in m Relaxed (cond b (int32 z) (int64 z)) ≡ Ok (tree.number (of_integer z))
-narrow_number m true z = refl
-narrow_number m false z = refl
+pub as_read_mongodb : (x : Scalar) → scalar_as_read_back MongoDbCanonical x ≡ x
+as_read_mongodb (int64 z) = refl
+as_read_mongodb x = refl
+
+-- the relaxed forms are read back alike
+pub as_read_relaxed : (x : Scalar) → scalar_as_read_back MongoDbRelaxed x ≡ scalar_as_read_back Relaxed x
+as_read_relaxed (int64 z) = refl
+as_read_relaxed x = refl
+
+narrow_number : (m : Doubles) (f : Form) (b : Bool) (z : ℤ) → is_relaxed f ≡ true
+    → writes_scalar_in m f (cond b (int32 z) (int64 z)) ≡ Ok (tree.number (of_integer z))
+narrow_number m f true z is = rw is refl
+narrow_number m f false z is = rw is refl
 
 int64_written : (m : Doubles) (f : Form) (z : ℤ) → writes_scalar_in m f (int64_as_read_back f z) ≡ Ok (int64_form f z)
 int64_written m Canonical z = refl
-int64_written m Relaxed z = narrow_number m _ z
+int64_written m MongoDbCanonical z = refl
+int64_written m Relaxed z = narrow_number m Relaxed _ z refl
+int64_written m MongoDbRelaxed z = narrow_number m MongoDbRelaxed _ z refl
 
 -- what reads back has the same tree
 pub as_read_written : (m : Doubles) (f : Form) (x : Scalar) → writes_scalar_in m f (scalar_as_read_back f x) ≡ writes_scalar_in m f x
@@ -369,23 +390,33 @@ whole_none (negsuc n) = refl
 
 int32_none : (f : Form) (z : ℤ) → has_float (int32_form f z) ≡ false
 int32_none Canonical z = refl
+int32_none MongoDbCanonical z = refl
 int32_none Relaxed z = whole_none z
+int32_none MongoDbRelaxed z = whole_none z
 
 int64_none : (f : Form) (z : ℤ) → has_float (int64_form f z) ≡ false
 int64_none Canonical z = refl
+int64_none MongoDbCanonical z = refl
 int64_none Relaxed z = whole_none z
+int64_none MongoDbRelaxed z = whole_none z
 
 recent_none : (b : Bool) (z : ℤ) → is_in_years_1970_to_9999 z ≡ b → has_float (relaxed_date_tree z) ≡ false
 recent_none true z e = rw e refl
 recent_none false z e = rw e refl
 
+millis_none : (b : Bool) (z : ℤ) → is_in_years_1970_to_9999 z ≡ b → has_float (mongodb_date_tree z) ≡ false
+millis_none true z e = rw e refl
+millis_none false z e = rw e refl
+
 date_none : (f : Form) (z : ℤ) → has_float (date_form f z) ≡ false
 date_none Canonical z = refl
+date_none MongoDbCanonical z = refl
 date_none Relaxed z = recent_none _ z refl
+date_none MongoDbRelaxed z = millis_none _ z refl
 
 -- (but of a finite double in the relaxed form of the mode `Finite`)
 pub scalar_no_float : (m : Doubles) (f : Form) (x : Scalar) (t : Data) → writes_scalar_in m f x ≡ Ok t
-    → ((m ≡ Finite) × (f ≡ Relaxed) → ⊥) → has_float t ≡ false
+    → ((m ≡ Finite) × (is_relaxed f ≡ true) → ⊥) → has_float t ≡ false
 scalar_no_float m f (double p) t h other =
     elim (double_tree_of m f p t h) [
       | inl (s, has, is) ↦ rw is refl

@@ -34,7 +34,7 @@ use Rattle.bson_scalar.specs.TreeText.{IsDouble, HasNoFloatIn, tree_text}
 use Rattle.bson_scalar.specs.declared.form.Doubles.{Doubles}
 use Rattle.bson_scalar.specs.declared.form.Doubles.TheVariants.{Special, Finite}
 use Rattle.bson_scalar.specs.declared.form.Form.{Form}
-use Rattle.bson_scalar.specs.declared.form.Form.TheVariants.{Canonical, Relaxed}
+use Rattle.bson_scalar.specs.declared.form.Form.TheVariants.{Canonical, MongoDbCanonical, MongoDbRelaxed, Relaxed}
 use Rattle.bson_scalar.proofs.FiniteDoubles.{bits_finite, finite_text_to, some_of}
 use Rattle.bson_scalar.proofs.ShortestText.{finite_text-some, finite_text_is}
 
@@ -154,4 +154,6 @@ compact_is t h = sym (print-outline t) ∙ ap (λ j. print (json_tokens j)) (sym
 pub text_is : (D : Doubles) (f : Form) (t : Data) → HasNoFloatIn D f t → tree_text D f t ≡ own.text_of t
 text_is Special f t h = compact_is t h
 text_is Finite Canonical t h = compact_is t h
+text_is Finite MongoDbCanonical t h = compact_is t h
 text_is Finite Relaxed t h = refl
+text_is Finite MongoDbRelaxed t h = refl

@@ -16,8 +16,9 @@ use Rattle.bson_scalar.specs.Written.{WriteFault, number_tree, special_double_tr
 use Rattle.bson_scalar.specs.Written.{WrittenDoubleIn}
 use Rattle.bson_scalar.specs.declared.form.Doubles.{Doubles}
 use Rattle.bson_scalar.specs.declared.form.Doubles.TheVariants.{Special, Finite}
+use Rattle.bson_scalar.specs.Forms.{is_relaxed}
 use Rattle.bson_scalar.specs.declared.form.Form.{Form}
-use Rattle.bson_scalar.specs.declared.form.Form.TheVariants.{Canonical, Relaxed}
+use Rattle.bson_scalar.specs.declared.form.Form.TheVariants.{Canonical, MongoDbCanonical, MongoDbRelaxed, Relaxed}
 use Rattle.bson_scalar.proofs.DoubleLaws.{double_text-form, special_is}
 use Rattle.bson_scalar.proofs.DoubleModes.{text_is, text_to, text_form, has_text}
 use Rattle.bson_scalar.proofs.FiniteDoubles.{finite_normal}
@@ -26,9 +27,9 @@ use Rattle.bson_scalar.proofs.FiniteDoubles.{finite_normal}
 abbrev pub IsDoubleTree : Doubles → Form → ℕ → Data → Type 0
 IsDoubleTree m f p t =
     ((s : List ℕ) × (double_text_in m p ≡ Some s) × (t ≡ double_tree s))
-    ⊎ ((m ≡ Finite) × (f ≡ Relaxed) × (is_finite p ≡ true) × (t ≡ number_tree p))
+    ⊎ ((m ≡ Finite) × (is_relaxed f ≡ true) × (is_finite p ≡ true) × (t ≡ number_tree p))
 
-un_ok : {A : Type 0} (x y : A) → ◌≡◌ {A = Result A WriteFault} (Ok x) (Ok y) → y ≡ x
+pub un_ok : {A : Type 0} (x y : A) → ◌≡◌ {A = Result A WriteFault} (Ok x) (Ok y) → y ≡ x
 un_ok x y h = cc
 
 wrapped_from : (o : Option (List ℕ)) (t : Data) → special_double_tree o ≡ Ok t
@@ -52,7 +53,9 @@ relaxed_from false p t is h =
 pub double_tree_of : (m : Doubles) (f : Form) (p : ℕ) (t : Data) → double_writes_in m f p ≡ Ok t → IsDoubleTree m f p t
 double_tree_of Special f p t h = inl (wrapped_from (double_text p) t h)
 double_tree_of Finite Canonical p t h = inl (wrapped_from (double_text_in Finite p) t h)
+double_tree_of Finite MongoDbCanonical p t h = inl (wrapped_from (double_text_in Finite p) t h)
 double_tree_of Finite Relaxed p t h = relaxed_from (is_finite p) p t refl h
+double_tree_of Finite MongoDbRelaxed p t h = relaxed_from (is_finite p) p t refl h
 
 -- ---- the function and the relation
 
@@ -65,13 +68,19 @@ pub double_from : (m : Doubles) (f : Form) (p : ℕ) (t : Data) → double_write
 double_from Special f p t h = wrapped_from (double_text p) t h
 double_from Finite Canonical p t h =
     let w = wrapped_from (double_text_in Finite p) t h in (w.0, text_is Finite p w.0 w.1, w.2)
+double_from Finite MongoDbCanonical p t h =
+    let w = wrapped_from (double_text_in Finite p) t h in (w.0, text_is Finite p w.0 w.1, w.2)
 double_from Finite Relaxed p t h = relation_at (is_finite p) p t refl h
+double_from Finite MongoDbRelaxed p t h = relation_at (is_finite p) p t refl h
 
 pub double_to : (m : Doubles) (f : Form) (p : ℕ) (t : Data) → WrittenDoubleIn m f p t → double_writes_in m f p ≡ Ok t
 double_to Special f p t h = wrapped_to (double_text p) h.0 t h.1 h.2
 double_to Finite Canonical p t h = wrapped_to (double_text_in Finite p) h.0 t (text_to Finite p h.0 h.1) h.2
+double_to Finite MongoDbCanonical p t h = wrapped_to (double_text_in Finite p) h.0 t (text_to Finite p h.0 h.1) h.2
 double_to Finite Relaxed p t (inl h) = rw h.0 (ap Ok (sym h.1))
+double_to Finite MongoDbRelaxed p t (inl h) = rw h.0 (ap Ok (sym h.1))
 double_to Finite Relaxed p t (inr h) = rw h.0 (let w = h.1 in wrapped_to (double_text p) w.0 t w.1 w.2)
+double_to Finite MongoDbRelaxed p t (inr h) = rw h.0 (let w = h.1 in wrapped_to (double_text p) w.0 t w.1 w.2)
 
 -- ---- a double is written as its normal form is
 
@@ -91,7 +100,9 @@ pub double_normal : (m : Doubles) (f : Form) (p : ℕ)
     → double_writes_in m f (normal_double p) ≡ double_writes_in m f p
 double_normal Special f p = ap special_double_tree (double_text-form p)
 double_normal Finite Canonical p = ap special_double_tree (text_form Finite p)
+double_normal Finite MongoDbCanonical p = ap special_double_tree (text_form Finite p)
 double_normal Finite Relaxed p = normal_at (is_finite p) p refl
+double_normal Finite MongoDbRelaxed p = normal_at (is_finite p) p refl
 
 -- ---- which doubles are written
 
@@ -115,7 +126,9 @@ relaxed_ok false p is = wrapped_ok (double_text p) ∙ special_is p ∙ rw is (s
 pub double_ok : (m : Doubles) (f : Form) (p : ℕ) → is_ok (double_writes_in m f p) ≡ is_writable m p
 double_ok Special f p = wrapped_ok (double_text p) ∙ special_is p
 double_ok Finite Canonical p = wrapped_ok (double_text_in Finite p) ∙ has_text Finite p
+double_ok Finite MongoDbCanonical p = wrapped_ok (double_text_in Finite p) ∙ has_text Finite p
 double_ok Finite Relaxed p = relaxed_ok (is_finite p) p refl
+double_ok Finite MongoDbRelaxed p = relaxed_ok (is_finite p) p refl
 
 -- ---- a number is read as the double
 

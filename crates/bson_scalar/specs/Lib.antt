@@ -19,8 +19,10 @@ pub mod Dates
 pub mod Means
 pub mod Reading
 pub mod Normal
+pub mod Forms
 pub mod TreeText
 pub mod Written
+pub mod OrderedScalars
 pub mod Tokens
 pub mod View
 pub mod ElementType

@@ -1,5 +1,5 @@
 -- Normal and narrowed forms, and what a scalar may be.
-use Rattle.std.specs.Prelude.{◌≡◌, ◌⊎◌, ◌<◌, ◌^◌, ℤ, length, Bool, true, FitsSigned}
+use Rattle.std.specs.Prelude.{◌≡◌, ◌⊎◌, ◌<◌, ◌^◌, ℤ, length, Bool, true, if◌then◌else◌, FitsSigned}
 use Rattle.std.specs.Int.{w32, w64}
 use Rattle.bson_types.specs.BinarySubtypes.{subtype_byte, subtype_of}
 use Rattle.bson_decimal.specs.DecimalBits.{canonical_decimal, decoded_decimal, is_decimal_nan}
@@ -10,7 +10,7 @@ use Rattle.bson_types.specs.Regex.{sorted_regex_options}
 use Rattle.bson_scalar.specs.declared.form.Doubles.{Doubles}
 use Rattle.bson_scalar.specs.declared.form.Doubles.TheVariants.{Special}
 use Rattle.bson_scalar.specs.declared.form.Form.{Form}
-use Rattle.bson_scalar.specs.declared.form.Form.TheVariants.{Canonical, Relaxed}
+use Rattle.bson_scalar.specs.Forms.{is_relaxed}
 use Rattle.bson_scalar.specs.Scalar.{Scalar, double, int32, int64, regex, timestamp, binary, object_id, date, decimal}
 use Rattle.bson_scalar.specs.Scalar.{db_pointer}
 
@@ -25,8 +25,7 @@ normal_scalar scalar_value = scalar_value
 
 -- an Int64 as its tree in this form reads back
 abbrev pub int64_as_read_back : Form → (integer : ℤ) → Scalar
-int64_as_read_back Canonical integer = int64 integer
-int64_as_read_back Relaxed integer = narrowest_int integer
+int64_as_read_back form integer = if is_relaxed form then narrowest_int integer else int64 integer
 
 -- a scalar as its tree in this form reads back: narrowed if the form is the relaxed one
 abbrev pub scalar_as_read_back : Form → Scalar → Scalar

@@ -1,5 +1,5 @@
 -- The compact text of a tree that is written. A float in it is a finite double, and its text is its shortest decimal.
-use Rattle.std.specs.Prelude.{◌≡◌, ℕ, List, [], decimal, true, false, to_bits, unwrap_or}
+use Rattle.std.specs.Prelude.{◌≡◌, ℕ, List, [], decimal, Bool, true, false, if◌then◌else◌, to_bits, unwrap_or}
 use Rattle.std.specs.Float.{Float, binary64, float_is_finite}
 use Rattle.std.specs.Fmt.{signed_decimal}
 use lib.Ieee.{fits}
@@ -14,7 +14,7 @@ use Rattle.bson_scalar.specs.Shortest.{finite_double_text}
 use Rattle.bson_scalar.specs.declared.form.Doubles.{Doubles}
 use Rattle.bson_scalar.specs.declared.form.Doubles.TheVariants.{Special, Finite}
 use Rattle.bson_scalar.specs.declared.form.Form.{Form}
-use Rattle.bson_scalar.specs.declared.form.Form.TheVariants.{Canonical, Relaxed}
+use Rattle.bson_scalar.specs.Forms.{is_relaxed}
 
 -- the float is a finite double
 abbrev pub IsDouble : Float → Type 0
@@ -56,13 +56,18 @@ text_of json_tree = print (tokens_of json_tree)
 
 -- ---- in each of the two modes and forms
 
--- but in the relaxed form of the mode `Finite` no float is written
+-- whether floats are written: in a relaxed form of the mode `Finite`
+abbrev pub writes_floats : Doubles → Form → Bool
+writes_floats Special form = false
+writes_floats Finite form = is_relaxed form
+
+abbrev pub HasNoFloatUnless : (has_floats : Bool) → Data → Type 0
+HasNoFloatUnless false json_tree = has_float json_tree ≡ false
+HasNoFloatUnless true json_tree = Unit {0}
+
 abbrev pub HasNoFloatIn : Doubles → Form → Data → Type 0
-HasNoFloatIn Special form json_tree = has_float json_tree ≡ false
-HasNoFloatIn Finite Canonical json_tree = has_float json_tree ≡ false
-HasNoFloatIn Finite Relaxed json_tree = Unit {0}
+HasNoFloatIn doubles form json_tree = HasNoFloatUnless (writes_floats doubles form) json_tree
 
 abbrev pub tree_text : Doubles → Form → Data → List ℕ
-tree_text Special form json_tree = compact_text json_tree
-tree_text Finite Canonical json_tree = compact_text json_tree
-tree_text Finite Relaxed json_tree = text_of json_tree
+tree_text doubles form json_tree =
+    if writes_floats doubles form then text_of json_tree else compact_text json_tree

@@ -1,5 +1,5 @@
 -- The tree of a scalar in each of the two forms (MongoDB Extended JSON v2).
-use Rattle.std.specs.Prelude.{◌≡◌, ◌⊎◌, ℕ, ℤ, List, true, false, Option, Some, None, Result, Ok, Err, from_bits}
+use Rattle.std.specs.Prelude.{◌≡◌, ◌⊎◌, ℕ, ℤ, List, Bool, true, false, Option, Some, None, Result, Ok, Err, from_bits}
 use Rattle.std.specs.Prelude.{if◌then◌else◌}
 use Rattle.std.specs.Float.{binary64}
 use Rattle.bson_double.specs.FiniteDoubles.{is_finite}
@@ -7,7 +7,8 @@ use Rattle.serde_json.specs.Data.{Data, float}
 use Rattle.serde_json.specs.Data as tree
 use Rattle.serde_json.specs.Find.{of_integer}
 use Rattle.bson_scalar.specs.Binaries.{binary_tree}
-use Rattle.bson_scalar.specs.Dates.{date_tree, relaxed_date_tree}
+use Rattle.bson_scalar.specs.Dates.{date_tree, mongodb_date_tree, relaxed_date_tree}
+use Rattle.bson_scalar.specs.Forms.{is_relaxed}
 use Rattle.bson_scalar.specs.Decimals.{decimal_tree}
 use Rattle.bson_scalar.specs.Doubles.{double_tree, double_text, IsDoubleTextIn, double_text_in}
 use Rattle.bson_scalar.specs.Ids.{oid_tree, pointer_tree}
@@ -22,37 +23,41 @@ use Rattle.bson_scalar.specs.Scalar.{symbol, code, regex, timestamp, binary, obj
 use Rattle.bson_scalar.specs.declared.form.Doubles.{Doubles}
 use Rattle.bson_scalar.specs.declared.form.Doubles.TheVariants.{Special, Finite}
 use Rattle.bson_scalar.specs.declared.form.Form.{Form}
-use Rattle.bson_scalar.specs.declared.form.Form.TheVariants.{Canonical, Relaxed}
+use Rattle.bson_scalar.specs.declared.form.Form.TheVariants.{MongoDbRelaxed, Relaxed}
 use Rattle.bson_scalar.specs.declared.write_error.WriteError.{WriteError}
 use Rattle.bson_scalar.specs.declared.write_error.WriteError.TheVariants.{FiniteDouble, OutOfMemory}
 
 -- the trees that differ between the forms
 abbrev pub int32_form : Form → (integer : ℤ) → Data
-int32_form Canonical integer = int32_tree integer
-int32_form Relaxed integer = tree.number (of_integer integer)
+int32_form written_form integer =
+    if is_relaxed written_form then tree.number (of_integer integer) else int32_tree integer
 
 abbrev pub int64_form : Form → (integer : ℤ) → Data
-int64_form Canonical integer = int64_tree integer
-int64_form Relaxed integer = tree.number (of_integer integer)
+int64_form written_form integer =
+    if is_relaxed written_form then tree.number (of_integer integer) else int64_tree integer
 
 abbrev pub date_form : Form → (integer : ℤ) → Data
-date_form Canonical integer = date_tree integer
 date_form Relaxed integer = relaxed_date_tree integer
+date_form MongoDbRelaxed integer = mongodb_date_tree integer
+date_form _ integer = date_tree integer
 
 -- the JSON number of a finite double
 abbrev pub number_tree : (pattern : ℕ) → Data
 number_tree pattern = tree.number (float (from_bits binary64 pattern))
 
--- a finite double is a JSON number in the relaxed form of the mode `Finite`
-abbrev pub WrittenDoubleIn : Doubles → Form → (pattern : ℕ) → Data → Type 0
-WrittenDoubleIn Special written_form pattern json_tree = (text_bytes : List ℕ)
-    × IsDoubleTextIn Special pattern text_bytes × (json_tree ≡ double_tree text_bytes)
-WrittenDoubleIn Finite Canonical pattern json_tree = (text_bytes : List ℕ) × IsDoubleTextIn Finite pattern text_bytes
+-- the tree of a double of the mode `Finite`: in a relaxed form a finite one is a JSON number
+abbrev pub WrittenFiniteDouble : (in_relaxed_form : Bool) → (pattern : ℕ) → Data → Type 0
+WrittenFiniteDouble false pattern json_tree = (text_bytes : List ℕ) × IsDoubleTextIn Finite pattern text_bytes
     × (json_tree ≡ double_tree text_bytes)
-WrittenDoubleIn Finite Relaxed pattern json_tree =
+WrittenFiniteDouble true pattern json_tree =
     ((is_finite pattern ≡ true) × (json_tree ≡ number_tree pattern))
     ⊎ ((is_finite pattern ≡ false)
     × ((text_bytes : List ℕ) × (double_text pattern ≡ Some text_bytes) × (json_tree ≡ double_tree text_bytes)))
+
+abbrev pub WrittenDoubleIn : Doubles → Form → (pattern : ℕ) → Data → Type 0
+WrittenDoubleIn Special written_form pattern json_tree = (text_bytes : List ℕ)
+    × IsDoubleTextIn Special pattern text_bytes × (json_tree ≡ double_tree text_bytes)
+WrittenDoubleIn Finite written_form pattern json_tree = WrittenFiniteDouble (is_relaxed written_form) pattern json_tree
 
 -- the scalar, in normal form, has this tree in the written form
 abbrev pub WrittenScalarIn : Doubles → Form → Scalar → Data → Type 0
@@ -99,11 +104,14 @@ or_finite_double_fault None = Err finite
 abbrev pub special_double_tree : (optional_text : Option (List ℕ)) → Result Data WriteFault
 special_double_tree optional_text = or_finite_double_fault optional_text >>= λ text_bytes. Ok (double_tree text_bytes)
 
+abbrev pub finite_double_writes : (in_relaxed_form : Bool) → (pattern : ℕ) → Result Data WriteFault
+finite_double_writes false pattern = special_double_tree (double_text_in Finite pattern)
+finite_double_writes true pattern =
+    if is_finite pattern then Ok (number_tree pattern) else special_double_tree (double_text pattern)
+
 abbrev pub double_writes_in : Doubles → Form → (pattern : ℕ) → Result Data WriteFault
 double_writes_in Special written_form pattern = special_double_tree (double_text pattern)
-double_writes_in Finite Canonical pattern = special_double_tree (double_text_in Finite pattern)
-double_writes_in Finite Relaxed pattern =
-    if is_finite pattern then Ok (number_tree pattern) else special_double_tree (double_text pattern)
+double_writes_in Finite written_form pattern = finite_double_writes (is_relaxed written_form) pattern
 
 abbrev pub writes_scalar_in : Doubles → Form → Scalar → Result Data WriteFault
 writes_scalar_in doubles written_form null = Ok tree.null

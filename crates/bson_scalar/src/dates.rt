@@ -5,8 +5,8 @@ ghost use Rattle.std.specs.Prelude.{◌≡◌, IfOk, OnOk, FitsSigned, codes, po
 ghost use Rattle.std.specs.Int.{w64};
 ghost use Rattle.serde_json.specs.View.{view};
 ghost use Rattle.bson_datetime.specs.Rfc3339Parser.{parsed_rfc3339_millis};
-ghost use Rattle.bson_datetime.specs.DateTimeText.{rfc3339_text};
-ghost use Rattle.bson_scalar.specs.Dates.{date_tree, relaxed_date_tree};
+ghost use Rattle.bson_datetime.specs.DateTimeText.{rfc3339_millis_text, rfc3339_text};
+ghost use Rattle.bson_scalar.specs.Dates.{date_tree, mongodb_date_tree, relaxed_date_tree};
 ghost use Rattle.bson_scalar.specs.Faults.{IsReadResult, or_wrong_shape};
 ghost use Rattle.bson_scalar.specs.Reading.{date_millis_of, date_read};
 ghost use Rattle.bson_scalar.specs.Written.{date_form};
@@ -77,6 +77,19 @@ fn date_text(alloc: Global, date: DateTime) -> Result<String, AllocError>
     }
 }
 
+// The same with three digits of the fraction.
+fn millis_date_text(alloc: Global, date: DateTime) -> Result<String, AllocError>
+    requires from_1970 { pos 0 ≤ℤ date }
+    requires until_9999 { date ≤ℤ pos 253_402_300_799_999 }
+    ensures { IfOk result (λ written_text. string_bytes written_text ≡ rfc3339_millis_text date) }
+{
+    match date.try_to_rfc3339_millis_string(alloc) {
+        Ok(text) => Ok(text),
+        Err(bson_datetime::Error::OutOfMemory) => Err(AllocError),
+        Err(_) => unreachable!(),
+    }
+}
+
 // Writes the tree of a date in the canonical form: its milliseconds.
 fn write_date_millis<S: Sink>(date: DateTime, sink: &mut S) -> Result<S::Tree, AllocError>
     ensures written { IfOk result (λ written_tree. S.wrote_tree sink.old (date_tree date) written_tree sink.new) }
@@ -105,6 +118,25 @@ fn write_relaxed_date<S: Sink>(
     }
 }
 
+// The same as MongoDB's tools write it.
+fn write_mongodb_date<S: Sink>(
+    alloc: Global,
+    date: DateTime,
+    sink: &mut S,
+) -> Result<S::Tree, AllocError>
+    ensures written { IfOk result
+        (λ written_tree. S.wrote_tree sink.old (mongodb_date_tree date) written_tree sink.new) }
+    ensures before { S.before sink.new ≡ S.before sink.old }
+{
+    let millis = date.timestamp_millis();
+    if 0 <= millis && millis <= LAST_RELAXED_MILLIS {
+        let millis_date = millis_date_text(alloc, date)?;
+        write_owned_text_object("$date", millis_date, sink)
+    } else {
+        write_date_millis(date, sink)
+    }
+}
+
 // Writes the tree of a moment in a form.
 pub(crate) fn write_date<S: Sink>(
     alloc: Global,
@@ -118,6 +150,8 @@ pub(crate) fn write_date<S: Sink>(
 {
     match form {
         Form::Canonical => write_date_millis(date, sink),
+        Form::MongoDbCanonical => write_date_millis(date, sink),
         Form::Relaxed => write_relaxed_date(alloc, date, sink),
+        Form::MongoDbRelaxed => write_mongodb_date(alloc, date, sink),
     }
 }

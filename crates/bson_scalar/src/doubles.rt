@@ -223,9 +223,9 @@ pub(crate) fn write_double<S: Sink>(
         (double_writes_in doubles form pattern) }
     ensures before { S.before sink.new ≡ S.before sink.old }
 {
-    match (doubles, form) {
+    match (doubles, form.is_relaxed()) {
         (Doubles::Special, _) => write_special_double(pattern, sink),
-        (Doubles::Finite, Form::Canonical) => write_canonical_double(pattern, sink),
-        (Doubles::Finite, Form::Relaxed) => write_relaxed_double(pattern, sink),
+        (Doubles::Finite, false) => write_canonical_double(pattern, sink),
+        (Doubles::Finite, true) => write_relaxed_double(pattern, sink),
     }
 }

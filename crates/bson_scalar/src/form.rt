@@ -1,6 +1,8 @@
 //! The two forms of Extended JSON, and which doubles have a text.
+ghost use Rattle.std.specs.Prelude.{◌≡◌};
 
-/// One of the two forms of MongoDB Extended JSON v2. Each tree of either form is read.
+/// One of the two forms of MongoDB Extended JSON v2, as its specification lays it out or as MongoDB's
+/// tools do. Each tree of a form is read.
 ///
 /// ```
 /// let (count, options) = (Bson::Int32(5), Options::default());
@@ -16,6 +18,82 @@ pub enum Form {
     /// Plain integers, and dates as texts from 1970 to the end of the year 9999. An Int64 that
     /// fits an i32 reads back as an Int32.
     Relaxed,
+    /// The canonical form as MongoDB's tools write it: `t` before `i`, `pattern` before `options`,
+    /// `$ref` before `$id`.
+    MongoDbCanonical,
+    /// The relaxed form as MongoDB's tools write it: in addition a fraction of a second has three
+    /// digits.
+    MongoDbRelaxed,
+}
+
+impl Form {
+    ghost use Rattle.bson_scalar.specs.Forms.{is_mongodb, is_relaxed};
+
+    /// Returns whether the form has numbers as they are.
+    pub fn is_relaxed(self) -> bool
+        ensures { result ≡ is_relaxed self }
+    {
+        match self {
+            Form::Canonical => false,
+            Form::Relaxed => true,
+            Form::MongoDbCanonical => false,
+            Form::MongoDbRelaxed => true,
+        }
+    }
+
+    /// Returns whether the form is laid out as by MongoDB's tools.
+    pub fn is_mongodb(self) -> bool
+        ensures { result ≡ is_mongodb self }
+    {
+        match self {
+            Form::Canonical => false,
+            Form::Relaxed => false,
+            Form::MongoDbCanonical => true,
+            Form::MongoDbRelaxed => true,
+        }
+    }
+}
+
+/// How the two forms are laid out. Each layout is read.
+///
+/// ```
+/// let bytes = br#"{"$timestamp": {"t": 1, "i": 2}}"#;
+/// let value = Bson::from_text(alloc, Options::default(), bytes)?;
+/// let options = Options {
+///     key_order: KeyOrder::AsGiven,
+///     ..Options::default()
+/// };
+/// let specified = value.to_text(alloc, options, Form::Relaxed)?;
+/// println!(rt; "{specified}")?; // {"$timestamp":{"i":2,"t":1}}
+/// let options = Options {
+///     layout: Layout::MongoDb,
+///     ..options
+/// };
+/// let mongodb = value.to_text(alloc, options, Form::Relaxed)?;
+/// println!(rt; "{mongodb}")?; // {"$timestamp":{"t":1,"i":2}}
+/// ```
+#[derive(Clone, Copy, Debug, Drop, PartialEq, Eq)]
+pub enum Layout {
+    /// Keys of a wrapper ascend, and a fraction of a second has no zeros at its end.
+    Specified,
+    /// As MongoDB's tools write them: a fraction of a second has three digits, and with keys as given
+    /// `t` is before `i`, `pattern` before `options`, and `$ref` before `$id`.
+    MongoDb,
+}
+
+impl Layout {
+    ghost use Rattle.bson_scalar.specs.Forms.{form_in};
+
+    /// Returns the form in this layout.
+    pub fn form(self, form: Form) -> Form
+        ensures { result ≡ form_in self form }
+    {
+        match (self, form) {
+            (Layout::MongoDb, Form::Canonical) => Form::MongoDbCanonical,
+            (Layout::MongoDb, Form::Relaxed) => Form::MongoDbRelaxed,
+            (_, form) => form,
+        }
+    }
 }
 
 /// Which doubles are read and written. Zeros, infinities and NaNs are in each.

@@ -62,9 +62,10 @@ pub(crate) fn write_int32<S: Sink>(
         (λ written_tree. S.wrote_tree sink.old (int32_form form number) written_tree sink.new) }
     ensures before { S.before sink.new ≡ S.before sink.old }
 {
-    match form {
-        Form::Canonical => write_numeral_object("$numberInt", number as i64, sink),
-        Form::Relaxed => sink.integer(number as i64),
+    if form.is_relaxed() {
+        sink.integer(number as i64)
+    } else {
+        write_numeral_object("$numberInt", number as i64, sink)
     }
 }
 
@@ -78,8 +79,9 @@ pub(crate) fn write_int64<S: Sink>(
         (λ written_tree. S.wrote_tree sink.old (int64_form form number) written_tree sink.new) }
     ensures before { S.before sink.new ≡ S.before sink.old }
 {
-    match form {
-        Form::Canonical => write_numeral_object("$numberLong", number, sink),
-        Form::Relaxed => sink.integer(number),
+    if form.is_relaxed() {
+        sink.integer(number)
+    } else {
+        write_numeral_object("$numberLong", number, sink)
     }
 }

@@ -24,6 +24,7 @@ mod ids;
 mod ints;
 pub mod key_hash;
 pub mod laws;
+mod mongodb_layout;
 mod object_writer;
 pub mod read;
 mod regexes;

@@ -5,6 +5,7 @@ ghost use Rattle.serde_json.specs.View.{view};
 ghost use Rattle.bson_types.specs.BinarySubtypes.{subtype_byte};
 ghost use Rattle.bson_scalar.specs.Binaries.{binary_tree};
 ghost use Rattle.bson_scalar.specs.Normal.{ScalarInRange};
+ghost use Rattle.bson_scalar.specs.OrderedScalars.{writes_scalar_in_order};
 ghost use Rattle.bson_scalar.specs.Tokens.{tokens_of, IsSinkResult, AppendsTreeTokens};
 ghost use Rattle.bson_scalar.specs.View.{scalar_view};
 ghost use Rattle.bson_scalar.specs.Written.{IsWriteResult, writes_scalar_in};
@@ -17,6 +18,7 @@ use crate::doubles::write_double;
 use crate::form::{Doubles, Form};
 use crate::ids::{write_oid, write_pointer};
 use crate::ints::{write_int32, write_int64};
+use crate::mongodb_layout::{print_pointer, print_regex, print_timestamp};
 use crate::regexes::write_regex;
 use crate::scalar::Scalar;
 use crate::sink::{Sink, Trees};
@@ -106,6 +108,32 @@ pub fn print_scalar_in(
     ensures within_type_range { OnOk result (ScalarInRange (scalar_view value)) }
 {
     write_scalar_to(alloc, doubles, form, value, sink)
+}
+
+/// Writes the tree of a scalar as [`print_scalar_in`] does, with the keys of its wrapper in the order of
+/// the form.
+///
+/// # Errors
+///
+/// The errors of `print_scalar_in`.
+pub fn print_scalar_in_order(
+    alloc: Global,
+    doubles: Doubles,
+    form: Form,
+    value: Scalar,
+    sink: &mut Writer,
+) -> Result<(), WriteError>
+    ensures printed { AppendsTreeTokens result
+        (writes_scalar_in_order doubles form (scalar_view value)) sink.old.tokens sink.new.tokens }
+    ensures before { sink.new.before ≡ sink.old.before }
+    ensures within_type_range { OnOk result (ScalarInRange (scalar_view value)) }
+{
+    match (form.is_mongodb(), value) {
+        (true, Scalar::RegularExpression(regex)) => Ok(print_regex(alloc, regex, sink)?),
+        (true, Scalar::Timestamp(timestamp)) => Ok(print_timestamp(timestamp, sink)?),
+        (true, Scalar::DbPointer(pointer)) => Ok(print_pointer(alloc, pointer, sink)?),
+        (_, value) => print_scalar_in(alloc, doubles, form, value, sink),
+    }
 }
 
 /// Writes the tree of a binary, as `write_scalar_in` makes it, without the tree.

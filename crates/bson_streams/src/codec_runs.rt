@@ -62,6 +62,7 @@ pub(crate) fn run_dump(
         options: Options {
             doubles: Doubles::Finite,
             key_order,
+            ..Options::default()
         },
         line,
         keep_going: on_refusal == OnRefusal::KeepGoing,

@@ -3,6 +3,7 @@ ghost use Rattle.std.specs.Prelude.{◌≡◌, IfOk, IfErr, IsUtf8, ⊤};
 ghost use Rattle.bson_model.specs.declared.options.KeyOrder.TheVariants.{Ascending, AsGiven};
 ghost use Rattle.bson_text.specs.OutputTexts.{IsFilteredText, IsShownText};
 ghost use Rattle.bson_text.specs.RejectedText.{IsRejectedText, SortsKeys};
+ghost use Rattle.bson_scalar.specs.Forms.{form_in};
 ghost use Rattle.bson_scalar.specs.declared.form.Doubles.TheVariants.{Finite};
 
 use crate::display_writer::DisplayWriter;
@@ -23,7 +24,7 @@ const FRAGMENT_CAPACITY: usize = 64;
 const MEMBER_STARTS_CAPACITY: usize = 16;
 
 /// Writes the compact text of the value that the text denotes in the form, with the keys of each
-/// document in the key order of the options, at every depth. It is written as the text is read,
+/// document in the key order and the layout of the options, at every depth. It is written as the text is read,
 /// with no value in memory. With ascending keys the last value of a duplicate key wins.
 ///
 /// # Errors
@@ -43,11 +44,12 @@ pub fn filter_text(
     text: &str,
     scratch: &mut Scratch,
 ) -> Result<Vec<u8>, TraversalError>
-    ensures ok { IfOk result (λ written. IsFilteredText options.key_order options.doubles form text.now written.items) }
+    ensures ok { IfOk result (λ written. IsFilteredText options.key_order options.doubles (form_in options.layout form) text.now written.items) }
     ensures utf8 { IfOk result (λ written. IsUtf8 written.items) }
     ensures accepts { IfErr result
         (IsRejectedText options.doubles (options.doubles ≡ Finite) (SortsKeys options.key_order) text.now) }
 {
+    let form = options.layout.form(form);
     match options.key_order {
         KeyOrder::Ascending => sort_text(alloc, options.doubles, form, text, scratch),
         KeyOrder::AsGiven => order_text(alloc, options.doubles, form, text, scratch),

@@ -7,6 +7,7 @@ use Rattle.bson.specs.Doubles.{Doubles}
 use Rattle.bson.specs.Doubles.TheVariants.{Special, Finite}
 use Rattle.bson.specs.Form.{Form}
 use Rattle.bson.specs.Form.TheVariants as form
+use Rattle.bson_scalar.specs.Forms.{form_in}
 use Rattle.bson.specs.OrderedTexts.{HasMeaningInOrder}
 use Rattle.bson.specs.TextMeaning.{HasTextMeaningIn}
 use Rattle.bson.specs.TextMeaning as meaning
@@ -86,34 +87,35 @@ module _ (o : Options) (bytes text : List ℕ) (given : o.key_order ≡ AsGiven)
   under_options f v is =
       subst (λ k. IsTextInKeyOrder k o.doubles f v text) (sym given) (subst (λ D. IsTextInOrder D f v text) (sym finite) is)
 
-  in_form : (mode : Mode) (f : Form) → form_of_mode mode ≡ Some f → IsDocumentTextOf f depth bytes text → Decodes o mode bytes text
+  in_form : (mode : Mode) (f : Form) → form_of_mode mode ≡ Some f
+      → IsDocumentTextOf (form_in o.layout f) depth bytes text → Decodes o mode bytes text
   in_form Canonical f is it =
       let same : f ≡ form.Canonical = cc in
       record {
         pairs = it.pairs;
         read = it.read;
-        written = under_options form.Canonical (document it.pairs)
-            (subst (λ g. IsTextInOrder Finite g (document it.pairs) text) same it.text_in_order);
+        written = under_options (form_in o.layout form.Canonical) (document it.pairs)
+            (subst (λ g. IsTextInOrder Finite (form_in o.layout g) (document it.pairs) text) same it.text_in_order);
       }
   in_form Relaxed f is it =
       let same : f ≡ form.Relaxed = cc in
       record {
         pairs = it.pairs;
         read = it.read;
-        written = under_options form.Relaxed (document it.pairs)
-            (subst (λ g. IsTextInOrder Finite g (document it.pairs) text) same it.text_in_order);
+        written = under_options (form_in o.layout form.Relaxed) (document it.pairs)
+            (subst (λ g. IsTextInOrder Finite (form_in o.layout g) (document it.pairs) text) same it.text_in_order);
       }
   in_form Show f is it = absurd cc
 
 by_options : (o : Options) (order : KeyOrder) (D : Doubles) (mode : Mode) (f : Form) (bytes text : List ℕ)
-    → o.key_order ≡ order → o.doubles ≡ D → streaming_form_in_order order D mode ≡ Some f → IsDocumentTextOf f depth bytes text
-    → Decodes o mode bytes text
+    → o.key_order ≡ order → o.doubles ≡ D → streaming_form_in_order order D mode ≡ Some f
+    → IsDocumentTextOf (form_in o.layout f) depth bytes text → Decodes o mode bytes text
 by_options o Ascending D mode f bytes text given is form it = absurd cc
 by_options o AsGiven Special mode f bytes text given is form it = absurd cc
 by_options o AsGiven Finite mode f bytes text given is form it = in_form o bytes text given is mode f form it
 
 pub directly : (o : Options) (mode : Mode) (f : Form) (bytes text : List ℕ) → streaming_form o mode ≡ Some f
-    → IsDocumentTextOf f depth bytes text → Decodes o mode bytes text
+    → IsDocumentTextOf (form_in o.layout f) depth bytes text → Decodes o mode bytes text
 directly o mode f bytes text given it = by_options o o.key_order o.doubles mode f bytes text refl refl given it
 
 -- ---- texts

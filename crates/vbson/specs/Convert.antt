@@ -6,6 +6,7 @@ use Rattle.bson_model.specs.Fault.{MeansNothingIn, fault_of_in}
 use Rattle.bson_tree.specs.declared.place.Reason.{Reason}
 use Rattle.bson_tree.specs.declared.place.Reason.TheVariants.{BadObjectId, WrongShape}
 use Rattle.bson.specs.Doubles.TheVariants.{Special, Finite}
+use Rattle.bson_scalar.specs.declared.form.Layout.TheVariants.{Specified}
 use Rattle.bson.specs.TextMeaning.{IsNotJsonText, IsTextOf}
 use Rattle.bson_model.specs.declared.options.Options.{Options}
 use Rattle.bson_convert.specs.Convert.{newline}
@@ -37,6 +38,7 @@ abbrev pub options_of_call : CallOptions → Options
 options_of_call options = record {
   doubles = if options.doubles == 1 then Finite else Special;
   key_order = key_order_of options;
+  layout = Specified;
 }
 
 -- the output is the line that the input is converted to in the mode that was selected, with a NUL in place of its

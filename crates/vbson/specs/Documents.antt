@@ -4,6 +4,7 @@ use Rattle.bson.specs.Doubles.{Doubles}
 use Rattle.bson.specs.Doubles.TheVariants.{Special, Finite}
 use Rattle.bson.specs.Form.{Form}
 use Rattle.bson.specs.Form.TheVariants as form
+use Rattle.bson_scalar.specs.Forms.{form_in}
 use Rattle.bson.specs.Texts.{IsTextInKeyOrder}
 use Rattle.bson_model.specs.declared.options.Options.{Options}
 use Rattle.bson_codec.specs.Canonical.{NoBytesCause, nul_in_key, nul_in_regex, too_long}
@@ -34,9 +35,9 @@ IsOneDocument bytes = (pairs : Pairs) × IsReadAsDocument depth bytes pairs
 -- the text of the document in the mode; what is shown has the document's own order in any case
 abbrev pub IsTextOfDocument : Options → Mode → Pairs → (text : List ℕ) → Type 0
 IsTextOfDocument options Canonical pairs text =
-    IsTextInKeyOrder options.key_order options.doubles form.Canonical (document pairs) text
+    IsTextInKeyOrder options.key_order options.doubles (form_in options.layout form.Canonical) (document pairs) text
 IsTextOfDocument options Relaxed pairs text =
-    IsTextInKeyOrder options.key_order options.doubles form.Relaxed (document pairs) text
+    IsTextInKeyOrder options.key_order options.doubles (form_in options.layout form.Relaxed) (document pairs) text
 IsTextOfDocument options Show pairs text = text ≡ display_text (document pairs)
 
 -- the document has no text in the mode

@@ -69,7 +69,7 @@ fn decode_document(
     ensures error_status { IfErr result (λ status. IsDecodeFailure options mode status bytes.now) }
 {
     match streaming_form(options, mode) {
-        Some(form) => decode_streaming(alloc, form, bytes),
+        Some(form) => decode_streaming(alloc, options.layout.form(form), bytes),
         None => decode_by_value(alloc, options, mode, bytes),
     }
 }

@@ -7,6 +7,7 @@ ghost use Rattle.vbson.specs.Reading.{duplicate_keys_of, preprocessing_of};
 use bson::extjson::{Doubles, KeyOrder, Options};
 use bson_codec::de::DuplicateKeys;
 use bson_run::task::Preprocessing;
+use bson_scalar::form::Layout;
 
 /// Finite doubles are read and written.
 pub const DOUBLES_FINITE: u32 = 1;
@@ -80,6 +81,7 @@ pub fn options_of(options: CallOptions) -> Options
     Options {
         doubles,
         key_order: key_order_of(options),
+        layout: Layout::Specified,
     }
 }
 

@@ -2,6 +2,7 @@
 ghost use Rattle.std.specs.Prelude.{◌≡◌, ◌-◌, ◌*◌, ◌<◌, ◌≤◌, ◌++◌, ℕ, List, length, IfOk, IfErr, OnOk, OnErr, Err, true, false};
 ghost use Rattle.std.specs.Prelude.{string_bytes, vec_capacity, vec_len};
 ghost use Rattle.serde_json.specs.View.{view};
+ghost use Rattle.bson_scalar.specs.Forms.{form_in};
 ghost use Rattle.bson_scalar.specs.declared.form.Form.TheVariants.{Canonical, Relaxed};
 ghost use Rattle.bson_scalar.specs.declared.write_error.WriteError.{WriteError};
 ghost use Rattle.bson_model.specs.Texts.{ReadsAgain, ReadsAgainIn};
@@ -179,7 +180,7 @@ impl Bson {
     /// ```
     pub fn to_text(&self, alloc: Global, options: Options, form: Form) -> Result<String, WriteError>
         ensures text { IfOk result
-            (λ text. IsTextInKeyOrder options.key_order options.doubles form (bson_view self.now) (string_bytes text)) }
+            (λ text. IsTextInKeyOrder options.key_order options.doubles (form_in options.layout form) (bson_view self.now) (string_bytes text)) }
         ensures within_type_range { OnOk result (NumbersInRange (bson_view self.now)) }
         ensures distinct { OnOk result (AllKeysDistinct (bson_view self.now)) }
         ensures writable { OnOk result (writable_in options.doubles (bson_view self.now) ≡ true) }
@@ -187,7 +188,7 @@ impl Bson {
             → writable_in options.doubles (bson_view self.now) ≡ false }
         ensures possible_errors { IfErr result (IsWriteErrorIn options.doubles) }
     {
-        text_of(alloc, options, form, self)
+        text_of(alloc, options, options.layout.form(form), self)
     }
 
     /// Writes the text of [`Bson::to_text`], and drops the value.
@@ -202,7 +203,7 @@ impl Bson {
         form: Form,
     ) -> Result<String, WriteError>
         ensures text { IfOk result
-            (λ text. IsTextInKeyOrder options.key_order options.doubles form (bson_view self) (string_bytes text)) }
+            (λ text. IsTextInKeyOrder options.key_order options.doubles (form_in options.layout form) (bson_view self) (string_bytes text)) }
         ensures within_type_range { OnOk result (NumbersInRange (bson_view self)) }
         ensures distinct { OnOk result (AllKeysDistinct (bson_view self)) }
         ensures writable { OnOk result (writable_in options.doubles (bson_view self) ≡ true) }
@@ -222,7 +223,8 @@ impl Bson {
     /// - a binary;
     /// - a decimal;
     /// - a regular expression;
-    /// - in the relaxed form, a date.
+    /// - in the relaxed form, a date;
+    /// - with `Layout::MongoDb`, a timestamp and a pointer.
     ///
     /// # Errors
     ///
@@ -244,16 +246,16 @@ impl Bson {
         form: Form,
         output: &mut Vec<u8>,
     ) -> Result<(), WriteError>
-        ensures text { IfOk result (λ _. (text : List ℕ) × IsTextInOrder options.doubles form (bson_view self.now) text
+        ensures text { IfOk result (λ _. (text : List ℕ) × IsTextInOrder options.doubles (form_in options.layout form) (bson_view self.now) text
             × (output.new.items ≡ output.old.items ++ text)) }
         ensures unchanged { OnErr result (output.new.items ≡ output.old.items) }
 
         // With enough room memory is never wanting.
-        ensures room { IsAllocationFree form (bson_view self.now) → result ≡ Err WriteError.OutOfMemory
-            → vec_capacity output.old - vec_len output.old < value_capacity options.doubles form (bson_view self.now) }
-        ensures capacity_bound { (text : List ℕ) → IsTextInOrder options.doubles form (bson_view self.now) text
+        ensures room { IsAllocationFree (form_in options.layout form) (bson_view self.now) → result ≡ Err WriteError.OutOfMemory
+            → vec_capacity output.old - vec_len output.old < value_capacity options.doubles (form_in options.layout form) (bson_view self.now) }
+        ensures capacity_bound { (text : List ℕ) → IsTextInOrder options.doubles (form_in options.layout form) (bson_view self.now) text
             → NumbersInRange (bson_view self.now)
-            → value_capacity options.doubles form (bson_view self.now) ≤ 2 * length text }
+            → value_capacity options.doubles (form_in options.layout form) (bson_view self.now) ≤ 2 * length text }
         ensures within_type_range { OnOk result (NumbersInRange (bson_view self.now)) }
         ensures distinct { OnOk result (AllKeysDistinct (bson_view self.now)) }
         ensures writable { OnOk result (writable_in options.doubles (bson_view self.now) ≡ true) }
@@ -261,6 +263,12 @@ impl Bson {
             → writable_in options.doubles (bson_view self.now) ≡ false }
         ensures possible_errors { IfErr result (IsWriteErrorIn options.doubles) }
     {
-        append_text(alloc, options.doubles, form, self, output)
+        append_text(
+            alloc,
+            options.doubles,
+            options.layout.form(form),
+            self,
+            output,
+        )
     }
 }

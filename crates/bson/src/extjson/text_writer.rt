@@ -10,7 +10,7 @@ ghost use Rattle.bson_scalar.specs.Written.{writes_scalar_in};
 ghost use Rattle.bson_model.specs.Normal.{NumbersInRange, ItemsInRange, PairsInRange};
 ghost use Rattle.bson_model.specs.DistinctKeys.{AllKeysDistinct, ItemKeysDistinct, PairKeysDistinct};
 ghost use Rattle.bson_store.specs.Pairs.{HasDistinctKeys};
-ghost use Rattle.bson.specs.KeyOrders.{pairs_of_order, writes_in_key_order, writes_items_in_key_order, writes_pairs_in_key_order};
+ghost use Rattle.bson.specs.KeyOrders.{pairs_of_order, writes_in_key_order, writes_items_in_key_order, writes_pairs_in_key_order, writes_scalar_in_key_order};
 ghost use Rattle.bson.specs.Texts.{AppendsPrintedTokens, ReturnsWrittenText, AppendsText, IsWriteErrorIn};
 ghost use Rattle.bson.specs.IsScalar.{IsScalar};
 ghost use Rattle.bson.specs.OutputCapacity.{is_allocation_free as is_scalar_allocation_free, IsAllocationFree, ValuesAreAllocationFree, PairsAreAllocationFree};
@@ -28,7 +28,7 @@ use crate::scalar::scalar_ref;
 use bson_model::options::{KeyOrder, Options};
 use bson_scalar::form::{Doubles, Form};
 use bson_scalar::scalar_ref::ScalarRef;
-use bson_scalar::write::{print_scalar_in, put_binary};
+use bson_scalar::write::{print_scalar_in, print_scalar_in_order, put_binary};
 use bson_scalar::write_error::WriteError;
 use bson_store::small::Iter;
 use bson_types::binary::Binary;
@@ -141,7 +141,7 @@ fn print(
         // (these two are written from where they are: no other scalar has large memory of its own)
         Bson::String(text) => Ok(writer.string(text.as_str())?),
         Bson::Binary(binary) => Ok(put_binary(alloc, binary, writer)?),
-        value => print_scalar(alloc, doubles, form, value, writer),
+        value => print_scalar(alloc, doubles, key_order, form, value, writer),
     }
 }
 
@@ -149,14 +149,14 @@ fn print(
 fn print_scalar(
     alloc: Global,
     doubles: Doubles,
+    key_order: KeyOrder,
     form: Form,
     value: &Bson,
     writer: &mut Writer,
 ) -> Result<(), WriteError>
     requires { IsScalar (bson_view value.now) }
-    ensures printed { (any_key_order : Order)
-        → AppendsPrintedTokens (λ json_tree. json_tree) result
-        (writes_in_key_order any_key_order doubles form (bson_view value.now))
+    ensures printed { AppendsPrintedTokens (λ json_tree. json_tree) result
+        (writes_in_key_order key_order doubles form (bson_view value.now))
         writer.old.tokens writer.new.tokens }
     ensures before { writer.new.before ≡ writer.old.before }
     ensures within_type_range { OnOk result (NumbersInRange (bson_view value.now)) }
@@ -168,19 +168,21 @@ fn print_scalar(
 {
     // (the prover plans the loans in a `ScalarRef` only where these types are named)
     let _borrowed_types: Option<(&Regex, &Binary, &DbPointer)> = None;
-    print_scalar_ref(alloc, doubles, form, &scalar_ref(value), writer)
+    print_scalar_ref(alloc, doubles, key_order, form, &scalar_ref(value), writer)
 }
 
 // The same by reference. If the scalar is not direct, its text is first made in memory of its own.
 fn print_scalar_ref(
     alloc: Global,
     doubles: Doubles,
+    key_order: KeyOrder,
     form: Form,
     scalar: &ScalarRef<'_>,
     writer: &mut Writer,
 ) -> Result<(), WriteError>
     ensures printed { AppendsTreeTokens result
-        (writes_scalar_in doubles form (scalar_of scalar.now)) writer.old.tokens writer.new.tokens }
+        (writes_scalar_in_key_order key_order doubles form (scalar_of scalar.now)) writer.old.tokens
+        writer.new.tokens }
     ensures before { writer.new.before ≡ writer.old.before }
     ensures within_type_range { OnOk result (ScalarInRange (scalar_of scalar.now)) }
     ensures possible_errors { IfErr result (IsWriteErrorIn doubles) }
@@ -192,7 +194,11 @@ fn print_scalar_ref(
     if is_allocation_free(form, scalar) {
         print_without_allocation(doubles, form, scalar, writer)
     } else {
-        print_scalar_in(alloc, doubles, form, scalar.to_owned(alloc)?, writer)
+        let scalar = scalar.to_owned(alloc)?;
+        match key_order {
+            KeyOrder::Ascending => print_scalar_in(alloc, doubles, form, scalar, writer),
+            KeyOrder::AsGiven => print_scalar_in_order(alloc, doubles, form, scalar, writer),
+        }
     }
 }
 

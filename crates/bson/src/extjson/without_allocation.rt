@@ -1,5 +1,5 @@
 //! Scalars that are written without a tree, so with no memory except that of the output.
-ghost use Rattle.std.specs.Prelude.{◌≡◌, ◌<◌, ◌^◌, ◌++◌, ℕ, List, true, option_map, OnOk, IsTrue, FitsSigned};
+ghost use Rattle.std.specs.Prelude.{◌≡◌, ◌<◌, ◌^◌, ◌++◌, ℕ, List, not, true, option_map, OnOk, IsTrue, FitsSigned};
 ghost use Rattle.std.specs.Fmt.{signed_decimal};
 ghost use Rattle.std.specs.Int.{w64};
 ghost use Rattle.json.specs.Tree.{room};
@@ -19,7 +19,8 @@ ghost use Rattle.bson_scalar.specs.TreeParts.{one_key_object, natural};
 ghost use Rattle.bson_scalar.specs.Timestamps.{timestamp_tree};
 ghost use Rattle.bson_scalar.specs.Tokens.{code_tokens, tokens_of, AppendsTreeTokens};
 ghost use Rattle.bson_scalar.specs.View.{scalar_of};
-ghost use Rattle.bson_scalar.specs.Written.{double_writes_in, int32_form, int64_form, number_tree};
+ghost use Rattle.bson_scalar.specs.Forms.{is_relaxed};
+ghost use Rattle.bson_scalar.specs.Written.{date_form, double_writes_in, int32_form, int64_form, number_tree};
 ghost use Rattle.bson_scalar.specs.Written.{special_double_tree, writes_scalar_in};
 ghost use Rattle.bson_scalar.specs.declared.form.Doubles.TheVariants.{Finite};
 ghost use Rattle.bson_scalar.specs.declared.form.Form.TheVariants.{Canonical, Relaxed};
@@ -44,7 +45,9 @@ pub(crate) fn is_allocation_free(form: Form, scalar: &ScalarRef<'_>) -> bool
         ScalarRef::RegularExpression(_) => false,
         ScalarRef::Binary(_) => false,
         ScalarRef::Decimal128(_) => false,
-        ScalarRef::DateTime(_) => form == Form::Canonical,
+        ScalarRef::DateTime(_) => !form.is_relaxed(),
+        ScalarRef::Timestamp(_) => !form.is_mongodb(),
+        ScalarRef::DbPointer(_) => !form.is_mongodb(),
         _ => true,
     }
 }
@@ -64,25 +67,24 @@ pub(crate) fn print_without_allocation(
     ensures room { StaysWithinCapacityOrStops result writer.old.spare writer.new.spare
         (written_tree_capacity (writes_scalar_in doubles form (scalar_of scalar.now))) }
 {
-    let written = match *scalar {
-        ScalarRef::Null => writer.null(),
-        ScalarRef::Undefined => put_undefined(writer),
-        ScalarRef::MinKey => put_wrapper_of_one("$minKey", writer),
-        ScalarRef::MaxKey => put_wrapper_of_one("$maxKey", writer),
-        ScalarRef::Boolean(truth) => writer.boolean(truth),
-        ScalarRef::Double(pattern) => return put_double(doubles, form, pattern, writer),
-        ScalarRef::Int32(integer) => put_int32(form, integer, writer),
-        ScalarRef::Int64(integer) => put_int64(form, integer, writer),
-        ScalarRef::String(text) => writer.string(text),
-        ScalarRef::Symbol(text) => put_text("$symbol", text, writer),
-        ScalarRef::JavaScriptCode(code) => put_text("$code", code, writer),
-        ScalarRef::Timestamp(timestamp) => put_timestamp(timestamp, writer),
-        ScalarRef::ObjectId(id) => put_object_id(id, writer),
-        ScalarRef::DateTime(date) => put_millis(date, writer),
-        ScalarRef::DbPointer(pointer) => put_pointer(pointer, writer),
+    match *scalar {
+        ScalarRef::Null => Ok(writer.null()?),
+        ScalarRef::Undefined => Ok(put_undefined(writer)?),
+        ScalarRef::MinKey => Ok(put_wrapper_of_one("$minKey", writer)?),
+        ScalarRef::MaxKey => Ok(put_wrapper_of_one("$maxKey", writer)?),
+        ScalarRef::Boolean(truth) => Ok(writer.boolean(truth)?),
+        ScalarRef::Double(pattern) => put_double(doubles, form, pattern, writer),
+        ScalarRef::Int32(integer) => Ok(put_int32(form, integer, writer)?),
+        ScalarRef::Int64(integer) => Ok(put_int64(form, integer, writer)?),
+        ScalarRef::String(text) => Ok(writer.string(text)?),
+        ScalarRef::Symbol(text) => Ok(put_text("$symbol", text, writer)?),
+        ScalarRef::JavaScriptCode(code) => Ok(put_text("$code", code, writer)?),
+        ScalarRef::Timestamp(timestamp) => Ok(put_timestamp(timestamp, writer)?),
+        ScalarRef::ObjectId(id) => Ok(put_object_id(id, writer)?),
+        ScalarRef::DateTime(date) => Ok(put_date(form, date, writer)?),
+        ScalarRef::DbPointer(pointer) => Ok(put_pointer(pointer, writer)?),
         _ => unreachable!(),
-    };
-    Ok(written?)
+    }
 }
 
 // Writes the part of the text of code with its scope that is before the scope.
@@ -156,9 +158,10 @@ fn put_int32(form: Form, number: i32, writer: &mut Writer) -> Result<(), AllocEr
     ensures room { StaysWithinCapacity result writer.old.spare writer.new.spare
         (tree_capacity (int32_form form number)) }
 {
-    match form {
-        Form::Canonical => put_quoted_i64("$numberInt", number as i64, writer),
-        Form::Relaxed => put_integer(number as i64, writer),
+    if form.is_relaxed() {
+        put_integer(number as i64, writer)
+    } else {
+        put_quoted_i64("$numberInt", number as i64, writer)
     }
 }
 
@@ -168,9 +171,10 @@ fn put_int64(form: Form, number: i64, writer: &mut Writer) -> Result<(), AllocEr
     ensures room { StaysWithinCapacity result writer.old.spare writer.new.spare
         (tree_capacity (int64_form form number)) }
 {
-    match form {
-        Form::Canonical => put_quoted_i64("$numberLong", number, writer),
-        Form::Relaxed => put_integer(number, writer),
+    if form.is_relaxed() {
+        put_integer(number, writer)
+    } else {
+        put_quoted_i64("$numberLong", number, writer)
     }
 }
 
@@ -201,6 +205,17 @@ fn put_timestamp(timestamp: Timestamp, writer: &mut Writer) -> Result<(), AllocE
     writer.u64(timestamp.time as u64)?;
     writer.end_object()?;
     writer.end_object()
+}
+
+// A moment in a form that is not relaxed.
+fn put_date(form: Form, date: DateTime, writer: &mut Writer) -> Result<(), AllocError>
+    requires { not (is_relaxed form) ≡ true }
+    ensures put { OnOk result (writer.new.tokens ≡ writer.old.tokens ++ tokens_of (date_form form date)) }
+    ensures before { writer.new.before ≡ writer.old.before }
+    ensures within_type_range { OnOk result (FitsSigned w64 date) }
+    ensures room { StaysWithinCapacity result writer.old.spare writer.new.spare (tree_capacity (date_form form date)) }
+{
+    put_millis(date, writer)
 }
 
 // A moment as its milliseconds.
@@ -363,9 +378,9 @@ fn put_double(
     ensures room { StaysWithinCapacityOrStops result writer.old.spare writer.new.spare
         (written_tree_capacity (double_writes_in doubles form pattern)) }
 {
-    match (doubles, form) {
+    match (doubles, form.is_relaxed()) {
         (Doubles::Special, _) => put_special_double(pattern, writer),
-        (Doubles::Finite, Form::Canonical) => put_canonical_double(pattern, writer),
-        (Doubles::Finite, Form::Relaxed) => put_relaxed_double(pattern, writer),
+        (Doubles::Finite, false) => put_canonical_double(pattern, writer),
+        (Doubles::Finite, true) => put_relaxed_double(pattern, writer),
     }
 }

@@ -1,4 +1,4 @@
-use Rattle.std.proofs.Common.{◌≡◌, ◌⊎◌, ◌++◌, List, ℕ, Some, IsUtf8}
+use Rattle.std.proofs.Common.{◌≡◌, ◌⊎◌, ◌++◌, List, ℕ, Some, IsUtf8, subst}
 use Rattle.std.proofs.lemmas.Result.{IfErr-weaker, IfOk-weaker}
 use Rattle.bson_codec.specs.DocumentText.{IsDocumentTextOf}
 use Rattle.bson_convert.specs.Convert.{newline}
@@ -14,9 +14,9 @@ returns-in-Some-clause-ok c =
     let bytes = c.args.bytes.now in
     let given : streaming_form o mode ≡ Some f = cc in
     IfOk-weaker c.decode_streaming.result
-    (λ line. (text : List ℕ) × IsDocumentTextOf f depth bytes text × IsUtf8 text × (line.items ≡ text ++ newline))
+    (λ line. (text : List ℕ) × IsDocumentTextOf c.form.result depth bytes text × IsUtf8 text × (line.items ≡ text ++ newline))
     (λ line. (text : List ℕ) × Decodes o mode bytes text × IsUtf8 text × (line.items ≡ text ++ newline))
-    (λ line is. (is.0, directly o mode f bytes is.0 given is.1, is.2, is.3))
+    (λ line is. (is.0, directly o mode f bytes is.0 given (subst (λ g. IsDocumentTextOf g depth bytes is.0) c.form.ensures is.1), is.2, is.3))
     c.decode_streaming.ensures.ok
 
 pub returns-in-Some-clause-error_status : goal.returns-in-Some-clause-error_status

@@ -28,6 +28,7 @@ use Rattle.bson.proofs.Printed.{stops_more, ranged_more, distinct_more, code_wit
 use Rattle.bson.proofs.Sizes.{NoLarger, walk_larger, next_smaller, rest_larger}
 use Rattle.bson.proofs.Room.{after, ValuesCost, values_cost_here, PairsCost, key_cost, ordered_cost, pairs_cost_here}
 use Rattle.bson.proofs.Room.{pairs_cost_more}
+use Rattle.bson.proofs.KeyOrders.{binary_alike, text_alike}
 use Rattle.bson.proofs.extjson.text_writer.+print.Goals as goal
 
 pub print-returns-in_ok-string-in-String-clause-printed : goal.print-returns-in_ok-string-in-String-clause-printed
@@ -38,7 +39,7 @@ print-returns-in_ok-string-in-String-clause-printed t c =
     let seen : bson_view (bson_form.String c.in-String.text) ≡ scalar (text (string_bytes c.in-String.text)) =
     search (rules, bson_form.the_lemmas) in
     let written = ap (λ v. writes_in_key_order o D f (bson_view v)) c.in-String.is ∙ ap (writes_in_key_order o D f) seen
-    ∙ ap (λ r. Ok (string r)) (sym c.as_str.ensures.value) in
+    ∙ text_alike o D f (string_bytes c.in-String.text) ∙ ap (λ r. Ok (string r)) (sym c.as_str.ensures.value) in
     (string c.as_str.result.now, written, c.in_ok-string-in-String.ensures.ok)
 
 pub print-returns-in_ok-put_binary-in-Binary-clause-printed :
@@ -52,7 +53,7 @@ print-returns-in_ok-put_binary-in-Binary-clause-printed t c =
     search (rules, bson_form.the_lemmas) in (
       binary_tree b.subtype b.bytes.items,
       ap (λ v. writes_in_key_order o D f (bson_view v)) c.in-Binary.is
-          ∙ ap (writes_in_key_order o D f) seen,
+          ∙ ap (writes_in_key_order o D f) seen ∙ binary_alike o D f b.subtype b.bytes.items,
       c.in_ok-put_binary-in-Binary.ensures.put,
     )
 

@@ -4,17 +4,17 @@ use Rattle.bson_scalar.specs.View.{scalar_of}
 use Rattle.bson_scalar.specs.Written.{writes_scalar_in}
 use Rattle.bson_model.specs.Normal.{NumbersInRange}
 use Rattle.bson_model.specs.DistinctKeys.{AllKeysDistinct}
-use Rattle.bson.specs.KeyOrders.{writes_in_key_order}
+use Rattle.bson.specs.KeyOrders.{writes_in_key_order, writes_scalar_in_key_order}
 use Rattle.bson.specs.OutputCapacity.{IsAllocationFree, StaysWithinCapacityOrStops, value_capacity}
 use Rattle.bson.specs.Texts.{AppendsPrintedTokens}
 use Rattle.bson.proofs.Direct.{prints_put, holds_on_ok}
 use Rattle.bson.proofs.extjson.text_writer.print_scalar.Goals as goal
 
 pub returns-clause-printed : goal.returns-clause-printed
-returns-clause-printed c = λ o.
-    subst (λ v. AppendsPrintedTokens (λ t. t) c.print_scalar_ref.result (writes_in_key_order o c.args.doubles c.args.form v) c.args.writer.now.tokens
+returns-clause-printed c =
+    subst (λ v. AppendsPrintedTokens (λ t. t) c.print_scalar_ref.result (writes_in_key_order c.args.key_order c.args.doubles c.args.form v) c.args.writer.now.tokens
     c.print_scalar_ref.new.writer.tokens) c.scalar_ref.ensures
-    (prints_put c.print_scalar_ref.result (writes_scalar_in c.args.doubles c.args.form (scalar_of c.scalar_ref.result))
+    (prints_put c.print_scalar_ref.result (writes_scalar_in_key_order c.args.key_order c.args.doubles c.args.form (scalar_of c.scalar_ref.result))
     c.args.writer.now.tokens c.print_scalar_ref.new.writer.tokens c.print_scalar_ref.ensures.printed)
 
 pub returns-clause-within_type_range : goal.returns-clause-within_type_range
