@@ -8,6 +8,6 @@ use Rattle.bson_model.specs.declared.options.Options.{Options}
 abbrev pub default_options : Options
 default_options = record { doubles = Special; key_order = Ascending; layout = Specified }
 
--- what MongoDB's own tools do
+-- what libbson and PyMongo do
 abbrev pub mongodb_options : Options
 mongodb_options = record { doubles = Finite; key_order = AsGiven; layout = MongoDb }

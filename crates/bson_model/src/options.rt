@@ -59,8 +59,8 @@ pub struct Options {
 }
 
 impl Options {
-    /// Returns the options of MongoDB's own tools: finite doubles have a text, keys are as given, and the
-    /// two forms have the tools' layout.
+    /// Returns the options of libbson and PyMongo: finite doubles have a text, keys are as given, and the
+    /// two forms have their layout.
     pub fn mongodb() -> Options
         ensures { result ≡ mongodb_options }
     {

@@ -21,5 +21,6 @@ pub mod DateLaws
 pub mod WrittenDoubles
 pub mod TreeTexts
 pub mod ScalarLaws
+pub mod NoFloats
 pub mod OrderedScalars
 pub mod Offered

@@ -13,7 +13,8 @@ use Rattle.bson_scalar.specs.Written.{writes_scalar_in}
 use Rattle.bson_scalar.specs.declared.form.Doubles.{Doubles}
 use Rattle.bson_scalar.specs.declared.form.Doubles.TheVariants.{Finite}
 use Rattle.bson_scalar.specs.declared.form.Form.{Form}
-use Rattle.bson_scalar.proofs.ScalarLaws.{as_read_written, nf_written, scalar_no_float, writable_is, written_from, written_to}
+use Rattle.bson_scalar.proofs.NoFloats.{scalar_no_float}
+use Rattle.bson_scalar.proofs.ScalarLaws.{as_read_written, nf_written, writable_is, written_from, written_to}
 use Rattle.bson_scalar.proofs.WrittenDoubles.{un_ok}
 
 pub order_written_from : (m : Doubles) (f : Form) (x : Scalar) (t : Data) → writes_scalar_in_order m f x ≡ Ok t

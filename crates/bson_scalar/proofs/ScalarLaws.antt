@@ -1,5 +1,5 @@
 -- One lemma a law, for all scalars.
-use Rattle.std.proofs.Common.{◌≡◌, ◌<◌, ◌^◌, ℕ, ℤ, pos, negsuc, List, [], ◌∷◌, Bool, true, false, ◌&&◌, cond, Option}
+use Rattle.std.proofs.Common.{◌≡◌, ◌<◌, ◌^◌, ℕ, ℤ, List, [], ◌∷◌, Bool, true, false, ◌&&◌, cond, Option}
 use Rattle.std.proofs.Common.{Some, None, Result, Ok, Err, inl, inr, refl, sym, ap, ◌∙◌, subst, w32, w64, arith}
 use Rattle.std.specs.Prelude.{FitsSigned, is_ok, codes}
 use Rattle.std.specs.Str.{bytes_eq}
@@ -8,7 +8,6 @@ use Rattle.hex.specs.Hex.{encode_lower}
 use Rattle.serde_json.specs.Data.{Data, no_members, member}
 use Rattle.serde_json.specs.Data as tree
 use Rattle.serde_json.specs.Find.{of_integer}
-use Rattle.serde_json.specs.Written.{has_float}
 use Rattle.bson_types.specs.Base64.{padded_base64}
 use Rattle.bson_scalar.specs.TreeParts.{one_key_object, two_key_object}
 use Rattle.bson_types.specs.BinarySubtypes.{subtype_byte, subtype_of}
@@ -381,48 +380,3 @@ int64_written m MongoDbRelaxed z = narrow_number m MongoDbRelaxed _ z refl
 pub as_read_written : (m : Doubles) (f : Form) (x : Scalar) → writes_scalar_in m f (scalar_as_read_back f x) ≡ writes_scalar_in m f x
 as_read_written m f (int64 z) = int64_written m f z
 as_read_written m f x = refl
-
--- ---- no float is written, so that a tree's compact text is known
-
-whole_none : (z : ℤ) → has_float (tree.number (of_integer z)) ≡ false
-whole_none (pos n) = refl
-whole_none (negsuc n) = refl
-
-int32_none : (f : Form) (z : ℤ) → has_float (int32_form f z) ≡ false
-int32_none Canonical z = refl
-int32_none MongoDbCanonical z = refl
-int32_none Relaxed z = whole_none z
-int32_none MongoDbRelaxed z = whole_none z
-
-int64_none : (f : Form) (z : ℤ) → has_float (int64_form f z) ≡ false
-int64_none Canonical z = refl
-int64_none MongoDbCanonical z = refl
-int64_none Relaxed z = whole_none z
-int64_none MongoDbRelaxed z = whole_none z
-
-recent_none : (b : Bool) (z : ℤ) → is_in_years_1970_to_9999 z ≡ b → has_float (relaxed_date_tree z) ≡ false
-recent_none true z e = rw e refl
-recent_none false z e = rw e refl
-
-millis_none : (b : Bool) (z : ℤ) → is_in_years_1970_to_9999 z ≡ b → has_float (mongodb_date_tree z) ≡ false
-millis_none true z e = rw e refl
-millis_none false z e = rw e refl
-
-date_none : (f : Form) (z : ℤ) → has_float (date_form f z) ≡ false
-date_none Canonical z = refl
-date_none MongoDbCanonical z = refl
-date_none Relaxed z = recent_none _ z refl
-date_none MongoDbRelaxed z = millis_none _ z refl
-
--- (but of a finite double in the relaxed form of the mode `Finite`)
-pub scalar_no_float : (m : Doubles) (f : Form) (x : Scalar) (t : Data) → writes_scalar_in m f x ≡ Ok t
-    → ((m ≡ Finite) × (is_relaxed f ≡ true) → ⊥) → has_float t ≡ false
-scalar_no_float m f (double p) t h other =
-    elim (double_tree_of m f p t h) [
-      | inl (s, has, is) ↦ rw is refl
-      | inr (finite_doubles, relaxed, finite, is) ↦ absurd (other (finite_doubles, relaxed))
-    ]
-scalar_no_float m f (int32 z) t h other = rw (un_ok _ _ h) (int32_none f z)
-scalar_no_float m f (int64 z) t h other = rw (un_ok _ _ h) (int64_none f z)
-scalar_no_float m f (date z) t h other = rw (un_ok _ _ h) (date_none f z)
-scalar_no_float m f x t h other = rw (un_ok _ _ h) refl

@@ -22,7 +22,7 @@ relaxed_date_tree millis =
     if is_in_years_1970_to_9999 millis then one_key_object (key_of Date) (tree.string (rfc3339_text millis))
     else date_tree millis
 
--- the same with three digits of a fraction, as MongoDB's tools write it
+-- the same with three digits of a fraction, as Extended JSON v2 recommends
 abbrev pub mongodb_date_tree : (millis : ℤ) → Data
 mongodb_date_tree millis =
     if is_in_years_1970_to_9999 millis then one_key_object (key_of Date) (tree.string (rfc3339_millis_text millis))

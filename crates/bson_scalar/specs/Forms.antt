@@ -18,7 +18,7 @@ is_relaxed Relaxed = true
 is_relaxed MongoDbCanonical = false
 is_relaxed MongoDbRelaxed = true
 
--- a form as MongoDB's tools lay it out
+-- a form in the layout of libbson and PyMongo
 abbrev pub is_mongodb : Form → Bool
 is_mongodb Canonical = false
 is_mongodb Relaxed = false

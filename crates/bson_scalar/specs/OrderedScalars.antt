@@ -1,5 +1,5 @@
--- The tree of a scalar in a form, its keys in the order in which they are written: MongoDB's tools write two keys of
--- three wrappers the other way round.
+-- The tree of a scalar in a form, its keys in the order in which they are written. In the layout of libbson and PyMongo,
+-- as in the tables of Extended JSON v2, two keys of three wrappers are the other way round.
 use Rattle.std.specs.Prelude.{◌≡◌, ℕ, List, Bool, true, false, Result, Ok, codes}
 use Rattle.bson_types.specs.Regex.{sorted_regex_options}
 use Rattle.serde_json.specs.Data.{Data}

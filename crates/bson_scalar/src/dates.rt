@@ -118,7 +118,7 @@ fn write_relaxed_date<S: Sink>(
     }
 }
 
-// The same as MongoDB's tools write it.
+// The same with three digits of the fraction.
 fn write_mongodb_date<S: Sink>(
     alloc: Global,
     date: DateTime,

@@ -1,8 +1,8 @@
 //! The two forms of Extended JSON, and which doubles have a text.
 ghost use Rattle.std.specs.Prelude.{◌≡◌};
 
-/// One of the two forms of MongoDB Extended JSON v2, as its specification lays it out or as MongoDB's
-/// tools do. Each tree of a form is read.
+/// One of the two forms of MongoDB Extended JSON v2, in one of two layouts. Each tree of a form is
+/// read.
 ///
 /// ```
 /// let (count, options) = (Bson::Int32(5), Options::default());
@@ -18,10 +18,10 @@ pub enum Form {
     /// Plain integers, and dates as texts from 1970 to the end of the year 9999. An Int64 that
     /// fits an i32 reads back as an Int32.
     Relaxed,
-    /// The canonical form as MongoDB's tools write it: `t` before `i`, `pattern` before `options`,
-    /// `$ref` before `$id`.
+    /// The canonical form as libbson and PyMongo write it: with keys as given `t` is before `i`,
+    /// `pattern` before `options`, and `$ref` before `$id`.
     MongoDbCanonical,
-    /// The relaxed form as MongoDB's tools write it: in addition a fraction of a second has three
+    /// The relaxed form as libbson and PyMongo write it: in addition a fraction of a second has three
     /// digits.
     MongoDbRelaxed,
 }
@@ -41,7 +41,7 @@ impl Form {
         }
     }
 
-    /// Returns whether the form is laid out as by MongoDB's tools.
+    /// Returns whether the form has the layout of libbson and PyMongo.
     pub fn is_mongodb(self) -> bool
         ensures { result ≡ is_mongodb self }
     {
@@ -76,8 +76,9 @@ impl Form {
 pub enum Layout {
     /// Keys of a wrapper ascend, and a fraction of a second has no zeros at its end.
     Specified,
-    /// As MongoDB's tools write them: a fraction of a second has three digits, and with keys as given
-    /// `t` is before `i`, `pattern` before `options`, and `$ref` before `$id`.
+    /// As libbson and PyMongo write them, and as the tables of MongoDB Extended JSON v2 show them: a
+    /// fraction of a second has three digits, and with keys as given `t` is before `i`, `pattern`
+    /// before `options`, and `$ref` before `$id`.
     MongoDb,
 }
 

@@ -1,4 +1,4 @@
-//! Scalars whose wrappers have two keys in the order of MongoDB's tools, written to a string of JSON.
+//! Scalars whose wrappers have two keys in the order of MongoDB's layout, written to a string of JSON.
 ghost use Rattle.std.specs.Prelude.{◌≡◌, ◌++◌, ◌<◌, ◌^◌, OnOk, string_bytes, codes, true};
 ghost use Rattle.bson_types.specs.Regex.{sorted_regex_options};
 ghost use Rattle.bson_types.specs.ObjectIds.{IsObjectId};
