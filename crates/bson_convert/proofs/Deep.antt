@@ -1,5 +1,5 @@
 -- A text is read only if its tree nests no deeper than a text may.
-use Rattle.std.proofs.Common.{◌≡◌, ◌≤◌, ℕ, suc, max, pos, negsuc, List, [], ◌∷◌, ◌++◌, Option, None, Some, option_and_then, option_map, refl, sym, ap, ap₂, ◌∙◌, arith, append-nil}
+use Rattle.std.proofs.Common.{◌≡◌, ◌≤◌, ℕ, max, List, [], ◌∷◌, ◌++◌, Option, None, Some, option_and_then, option_map, refl, sym, ap, ◌∙◌, arith, append-nil}
 use Rattle.std.specs.Prelude.{unwrap_or}
 use Rattle.json.specs.Json.{Json, if_last, value}
 use Rattle.json.specs.Lex.{tokens}
@@ -7,56 +7,16 @@ use Rattle.json.specs.Print.{print}
 use Rattle.json.specs.Token.{Token}
 use Rattle.json.specs.Tree as parsed
 use Rattle.json.proofs.Nesting.{value-depth}
-use Rattle.json.proofs.Printed.Decimals.{IsNumber-decimal, IsNumber-signed_decimal}
 use Rattle.json.proofs.Printed.Tokens.{tokens-print}
 use Rattle.json.proofs.Printed.Trees.{ArePrintable-json_tokens, value-json_tokens}
 use Rattle.json.proofs.Unique.Spelling.{value-json_tokens_back}
-use Rattle.serde_json.specs.Data.{unsigned, negative, float, Data, Items, no_items, item, Members, no_members, member}
-use Rattle.serde_json.specs.Data.{depth, items_depth, members_depth}
-use Rattle.serde_json.specs.Data as tree
+use Rattle.serde_json.specs.Data.{Data, depth}
 use Rattle.serde_json.specs.Read.{max_depth, of_json, read}
-use Rattle.bson_scalar.specs.TreeText.{HasNoFloatIn, json_of_tree, json_of_items, json_of_members, text_of, tree_text}
+use Rattle.bson_scalar.specs.TreeText.{HasNoFloatIn, json_of_tree, text_of, tree_text}
 use Rattle.bson_scalar.specs.declared.form.Doubles.{Doubles}
 use Rattle.bson_scalar.specs.declared.form.Form.{Form}
-use Rattle.bson_scalar.proofs.Offered.{float_is_number, text_is}
-use Rattle.bson_model.specs.Texts.{IsTree, ItemsAreTrees, MembersAreTrees}
-
-mutual
-  pub numbers : (d : Data) → IsTree d → parsed.HasNumbers (json_of_tree d)
-  numbers tree.null t = tt
-  numbers (tree.boolean b) t = tt
-  numbers (tree.number (unsigned n)) t = IsNumber-decimal n t
-  numbers (tree.number (negative (pos n))) t = absurd t
-  numbers (tree.number (negative (negsuc n))) t = IsNumber-signed_decimal (negsuc n) t
-  numbers (tree.number (float x)) t = float_is_number x t
-  numbers (tree.string s) t = tt
-  numbers (tree.array ds) t = items_numbers ds t
-  numbers (tree.object ms) t = members_numbers ms t.1
-
-  items_numbers : (ds : Items) → ItemsAreTrees ds → parsed.ItemsHaveNumbers (json_of_items ds)
-  items_numbers no_items t = tt
-  items_numbers (item d ds) t = (numbers d t.0, items_numbers ds t.1)
-
-  members_numbers : (ms : Members) → MembersAreTrees ms → parsed.MembersHaveNumbers (json_of_members ms)
-  members_numbers no_members t = tt
-  members_numbers (member k d ms) t = (numbers d t.0, members_numbers ms t.1)
-
-mutual
-  same_depth : (d : Data) → parsed.depth (json_of_tree d) ≡ depth d
-  same_depth tree.null = refl
-  same_depth (tree.boolean b) = refl
-  same_depth (tree.number n) = refl
-  same_depth (tree.string s) = refl
-  same_depth (tree.array ds) = ap suc (items_same_depth ds)
-  same_depth (tree.object ms) = ap suc (members_same_depth ms)
-
-  items_same_depth : (ds : Items) → parsed.items_depth (json_of_items ds) ≡ items_depth ds
-  items_same_depth no_items = refl
-  items_same_depth (item d ds) = ap₂ max (same_depth d) (items_same_depth ds)
-
-  members_same_depth : (ms : Members) → parsed.members_depth (json_of_members ms) ≡ members_depth ms
-  members_same_depth no_members = refl
-  members_same_depth (member k d ms) = ap₂ max (same_depth d) (members_same_depth ms)
+use Rattle.bson_scalar.proofs.Offered.{text_is}
+use Rattle.bson_model.proofs.Offered.{same_depth}
 
 one_value : (i j : Json) → parsed.json_tokens i ≡ parsed.json_tokens j → i ≡ j
 one_value i j same =

@@ -17,7 +17,8 @@ use Rattle.bson_model.specs.declared.options.Options.{Options}
 use Rattle.bson_convert.specs.Convert.{ConvertsIn, ConvertsToItself, IsFixedPointIn, IsOutputIn, IsWrittenIn}
 use Rattle.bson_convert.specs.declared.mode.Mode.{Mode}
 use Rattle.bson_convert.specs.declared.mode.Mode.TheVariants.{Canonical, Relaxed, Show}
-use Rattle.bson_convert.proofs.Deep.{numbers, shallow}
+use Rattle.bson_model.proofs.Offered.{numbers}
+use Rattle.bson_convert.proofs.Deep.{shallow}
 use Rattle.bson_convert.proofs.Newline.{read_then}
 
 module _ (o : Options) (f : Form) where

@@ -1,6 +1,6 @@
 -- The compact text of a tree, whatever the order of its keys, is read as that tree.
 use Rattle.std.proofs.Common.{◌≡◌, ℕ, suc, max, ◌≤◌, pos, negsuc, List, [], false, Option, Some}
-use Rattle.std.proofs.Common.{option_map, option_and_then, refl, sym, ap, ap₂, ◌∙◌, subst, arith, append-nil}
+use Rattle.std.proofs.Common.{option_map, option_and_then, refl, sym, ap, ◌∙◌, subst, arith, append-nil}
 use Rattle.std.proofs.lemmas.Bool.{or_parts}
 use Rattle.std.specs.Str.{bytes_eq}
 use Rattle.json.specs.Lex.{tokens}
@@ -10,14 +10,14 @@ use Rattle.json.proofs.Printed.Tokens.{tokens-print}
 use Rattle.json.proofs.Printed.Trees.{ArePrintable-json_tokens, value-json_tokens}
 use Rattle.json.proofs.Printed.Decimals.{IsNumber-decimal, IsNumber-signed_decimal}
 use Rattle.serde_json.specs.Data.{Num, unsigned, negative, float, Data, Items, no_items, item, Members, no_members}
-use Rattle.serde_json.specs.Data.{member, depth, items_depth, members_depth}
+use Rattle.serde_json.specs.Data.{member, depth}
 use Rattle.serde_json.specs.Data as tree
 use Rattle.serde_json.specs.Read.{max_depth}
 use Rattle.bson_scalar.specs.TreeText.{json_of_tree, json_of_items, json_of_members, text_of, HasNoFloatIn, tree_text}
 use Rattle.bson_scalar.specs.declared.form.Doubles.{Doubles}
 use Rattle.bson_scalar.specs.declared.form.Form.{Form}
 use Rattle.bson_scalar.proofs.Offered.{float_is_number, text_is}
-use Rattle.bson_model.proofs.Offered.{number_back}
+use Rattle.bson_model.proofs.Offered.{number_back, same_depth}
 use Rattle.bson_model.specs.OrderedTrees.{put_at_key_position, tree_of_json, items_of_json, members_of_json, tree_sorted_by_key, has_key, KeysDiffer, read_in_order}
 use Rattle.bson_model.specs.OrderedTrees.{IsTreeInOrder, ItemsAreTreesInOrder, MembersAreTreesInOrder}
 use Rattle.bson_model.specs.OrderedTexts.{TextReadsBackInOrder}
@@ -45,23 +45,6 @@ mutual
   members_numbers : (ms : Members) → MembersAreTreesInOrder ms → parsed.MembersHaveNumbers (json_of_members ms)
   members_numbers no_members t = tt
   members_numbers (member k d ms) t = (numbers d t.0, members_numbers ms t.1)
-
-mutual
-  same_depth : (d : Data) → parsed.depth (json_of_tree d) ≡ depth d
-  same_depth tree.null = refl
-  same_depth (tree.boolean b) = refl
-  same_depth (tree.number n) = refl
-  same_depth (tree.string s) = refl
-  same_depth (tree.array ds) = ap suc (items_same_depth ds)
-  same_depth (tree.object ms) = ap suc (members_same_depth ms)
-
-  items_same_depth : (ds : Items) → parsed.items_depth (json_of_items ds) ≡ items_depth ds
-  items_same_depth no_items = refl
-  items_same_depth (item d ds) = ap₂ max (same_depth d) (items_same_depth ds)
-
-  members_same_depth : (ms : Members) → parsed.members_depth (json_of_members ms) ≡ members_depth ms
-  members_same_depth no_members = refl
-  members_same_depth (member k d ms) = ap₂ max (same_depth d) (members_same_depth ms)
 
 -- ---- the members go in one after another
 

@@ -29,7 +29,7 @@ pub use Rattle.bson_model.proofs.PutSwap.{equal_keys, flipped}
 pub use Rattle.bson_model.proofs.ReadLaws.{IsRead}
 pub use Rattle.bson_model.proofs.ReadTrees.{number_fits, read_tree}
 pub use Rattle.bson_model.proofs.SameSorted.{at_each, from_each, option_same, same_document, same_feeds}
-pub use Rattle.bson_model.proofs.TextLaws.{number_back}
+pub use Rattle.bson_model.proofs.TextLaws.{number_back, numbers, same_depth}
 pub use Rattle.bson_model.proofs.TreeLaws.{ascends_put, trees_put}
 pub use Rattle.bson_model.proofs.Stable.{sorted_by, turned, put_last, put_ascending}
 use Rattle.bson_model.proofs.ValueRoundTrips as whole

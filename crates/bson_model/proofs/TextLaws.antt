@@ -23,7 +23,7 @@ use Rattle.bson_model.proofs.PutSwap.{cmp, flipped}
 -- ---- the tokens of the text are those of the tree
 
 mutual
-  numbers : (d : Data) → IsTree d → parsed.HasNumbers (json_of_tree d)
+  pub numbers : (d : Data) → IsTree d → parsed.HasNumbers (json_of_tree d)
   numbers tree.null t = tt
   numbers (tree.boolean b) t = tt
   numbers (tree.number (unsigned n)) t = IsNumber-decimal n t
@@ -43,7 +43,7 @@ mutual
   members_numbers (member k d ms) t = (numbers d t.0, members_numbers ms t.1)
 
 mutual
-  same_depth : (d : Data) → parsed.depth (json_of_tree d) ≡ depth d
+  pub same_depth : (d : Data) → parsed.depth (json_of_tree d) ≡ depth d
   same_depth tree.null = refl
   same_depth (tree.boolean b) = refl
   same_depth (tree.number n) = refl

@@ -28,7 +28,7 @@ use Rattle.bson_scalar.specs.Regexes.{regex_tree}
 use Rattle.bson_scalar.specs.Scalar.{Scalar, null, undefined, min_key, max_key, boolean, double, int32, int64, text}
 use Rattle.bson_scalar.specs.Scalar.{symbol, code, regex, timestamp, binary, object_id, date, decimal, db_pointer}
 use Rattle.bson_scalar.specs.Table.{key_of, wrapper_of}
-use Rattle.bson_scalar.specs.Written.{WrittenScalarIn, WriteFault, writes_scalar_in, int32_form}
+use Rattle.bson_scalar.specs.Written.{WrittenScalarIn, writes_scalar_in, int32_form}
 use Rattle.bson_scalar.specs.Written.{int64_form, date_form}
 use Rattle.bson_scalar.specs.declared.form.Doubles.{Doubles}
 use Rattle.bson_scalar.specs.declared.form.Doubles.TheVariants.{Special, Finite}

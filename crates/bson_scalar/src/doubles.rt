@@ -137,7 +137,8 @@ pub fn read_number(doubles: Doubles, number: &Number) -> Result<Scalar, Error>
     }
 }
 
-fn double_text(pattern: u64) -> Option<&'static str>
+/// Returns the text of a double that is a zero, an infinity or a NaN.
+pub fn special_double_text(pattern: u64) -> Option<&'static str>
     ensures { option_map (λ text_bytes. text_bytes.now) result ≡ spec.double_text pattern }
 {
     if pattern == 0 {
@@ -163,7 +164,7 @@ fn write_special_double<S: Sink>(pattern: u64, sink: &mut S) -> Result<S::Tree, 
         (special_double_tree (spec.double_text pattern)) }
     ensures before { S.before sink.new ≡ S.before sink.old }
 {
-    match double_text(pattern) {
+    match special_double_text(pattern) {
         Some(text) => Ok(write_text_object("$numberDouble", text, sink)?),
         None => Err(WriteError::FiniteDouble),
     }
@@ -190,7 +191,7 @@ fn write_canonical_double<S: Sink>(pattern: u64, sink: &mut S) -> Result<S::Tree
         (double_writes_in Finite Canonical pattern) }
     ensures before { S.before sink.new ≡ S.before sink.old }
 {
-    match double_text(pattern) {
+    match special_double_text(pattern) {
         Some(text) => Ok(write_text_object("$numberDouble", text, sink)?),
         None => Ok(write_finite_double(pattern, sink)?),
     }

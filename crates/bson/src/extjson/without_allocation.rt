@@ -1,5 +1,5 @@
 //! Scalars that are written without a tree, so with no memory except that of the output.
-ghost use Rattle.std.specs.Prelude.{◌≡◌, ◌<◌, ◌^◌, ◌++◌, ℕ, List, not, true, option_map, OnOk, IsTrue, FitsSigned};
+ghost use Rattle.std.specs.Prelude.{◌≡◌, ◌<◌, ◌^◌, ◌++◌, ℕ, List, not, true, OnOk, IsTrue, FitsSigned};
 ghost use Rattle.std.specs.Fmt.{signed_decimal};
 ghost use Rattle.std.specs.Int.{w64};
 ghost use Rattle.json.specs.Tree.{room};
@@ -26,6 +26,7 @@ ghost use Rattle.bson_scalar.specs.declared.form.Doubles.TheVariants.{Finite};
 ghost use Rattle.bson_scalar.specs.declared.form.Form.TheVariants.{Canonical, Relaxed};
 ghost use Rattle.bson.specs.OutputCapacity.{is_allocation_free as is_scalar_allocation_free, tree_capacity, written_tree_capacity, StaysWithinCapacity, StaysWithinCapacityOrStops};
 
+use bson_scalar::doubles::special_double_text;
 use bson_scalar::form::{Doubles, Form};
 use bson_scalar::laws::number_texts;
 use bson_scalar::scalar_ref::ScalarRef;
@@ -274,27 +275,6 @@ fn put_pointer(pointer: &DbPointer, writer: &mut Writer) -> Result<(), AllocErro
     writer.string(pointer.namespace())?;
     writer.end_object()?;
     writer.end_object()
-}
-
-// The text of a double that is a zero, an infinity or a NaN.
-fn special_double_text(pattern: u64) -> Option<&'static str>
-    ensures { option_map (λ text_bytes. text_bytes.now) result ≡ spec.double_text pattern }
-{
-    if pattern == 0 {
-        Some("0.0")
-    } else if pattern == 0x8000_0000_0000_0000 {
-        Some("-0.0")
-    } else if pattern == 0x7FF0_0000_0000_0000 {
-        Some("Infinity")
-    } else if pattern == 0xFFF0_0000_0000_0000 {
-        Some("-Infinity")
-    } else if 0x7FF0_0000_0000_0000 < pattern && pattern < 0x8000_0000_0000_0000 {
-        Some("NaN")
-    } else if 0xFFF0_0000_0000_0000 < pattern {
-        Some("-NaN")
-    } else {
-        None
-    }
 }
 
 fn put_special_double(pattern: u64, writer: &mut Writer) -> Result<(), WriteError>
