@@ -2,7 +2,7 @@
 pub use Rattle.bson_scalar.proofs.BinaryLaws.{subtype_byte-of}
 pub use Rattle.bson_scalar.proofs.DoubleModes.{in_each}
 pub use Rattle.bson_scalar.proofs.InTurn.{in_turn, on_ok}
-pub use Rattle.bson_scalar.proofs.InverseLemmas.{text_then}
+pub use Rattle.bson_scalar.proofs.InverseLemmas.{key_is, lone_is, string_is, text_then, two_are}
 pub use Rattle.bson_scalar.proofs.ScalarLaws.{back, nf_again, nf_written, scalar_form, scalar_from}
 pub use Rattle.bson_scalar.proofs.NoFloats.{scalar_no_float}
 pub use Rattle.bson_scalar.proofs.ScalarLaws.{scalar_to, as_read_again, as_read_canonical, as_read_mongodb, as_read_relaxed, as_read_written}

@@ -4,7 +4,7 @@ use Rattle.std.proofs.Common.{Bor, drop, take, map, refl, sym, ap, ◌∙◌, su
 use Rattle.std.proofs.lemmas.Bool.{eq-eqb, ne_eqb}
 use Rattle.std.proofs.lemmas.List.{take-append-le, length-append}
 use Rattle.std.proofs.lemmas.List.Elements.{All-nil, All-head, All-tail, All-cons, All-weaker}
-use Rattle.std.proofs.Math.Seq.{drop-append_seam, take-length}
+use Rattle.std.proofs.Math.Seq.{take-length}
 use Rattle.std.specs.List.{All}
 use Rattle.serde_json.specs.Written.{comma_if}
 use Rattle.bson_model.specs.Sorted.{insert_sorted_pair, sorted, sorted_pairs}
@@ -15,22 +15,12 @@ use Rattle.bson_model.specs.StableOrder.{insert_each}
 use Rattle.bson_text.specs.TraversalResults.{keys_of, each_key_once}
 use Rattle.bson_text.specs.declared.member_spans.MemberSpan.{MemberSpan}
 use Rattle.bson_text.specs.declared.sorted_writer.ContainerStart.{ContainerStart}
+use Rattle.bson_tokens.proofs.Offered.{slice_between}
 use Rattle.bson_text.proofs.SpansInOrder.{HasMembers, object_in_order}
 use Rattle.bson_text.proofs.SortedPairs.{put_in_turn, once_sorted}
 
 abbrev Key : Type 0
 Key = Bor (List ℕ)
-
--- the text between a front and a rest
-slice_between : (text front s rest : List ℕ) (start end : ℕ) → text ≡ front ++ (s ++ rest) → start ≡ length front
-    → end ≡ length front + length s → take (end - start) (drop start text) ≡ s
-slice_between text front s rest start end is first last =
-    let long : end - start ≡ length s = omega (arith, first, last) in
-    ap (λ n. take n (drop start text)) long
-    ∙ ap (λ n. take (length s) (drop n text)) first
-    ∙ ap (λ l. take (length s) (drop (length front) l)) is
-    ∙ ap (take (length s)) (drop-append_seam front (s ++ rest))
-    ∙ take-append-le (length s) s rest (omega arith) ∙ take-length s
 
 -- ---- one value before others
 

@@ -30,7 +30,7 @@ mutual
   ends_members (member k j ms) c =
       fold-append (λ _ u. ends u) false (json_tokens j) (members_tokens ms) ∙ ends_members ms _
 
-printed_then : (j : Json) (ts : List Token)
+pub printed_then : (j : Json) (ts : List Token)
     → print_from false (json_tokens j ++ ts) ≡ print (json_tokens j) ++ print_from true ts
 printed_then j ts =
     print_from-append false (json_tokens j) ts
@@ -75,10 +75,10 @@ unfolding print_from
 key_alone k = append-nil (quoted k ++ 58 ∷ [])
 
 -- the text of members, after another or at first, with the closing brace
-abbrev printed_members : Bool → Members → List ℕ
+abbrev pub printed_members : Bool → Members → List ℕ
 printed_members needs_comma ms = print_from needs_comma (members_tokens ms)
 
-no_more_members : (needs_comma : Bool) → 125 ∷ [] ≡ printed_members needs_comma no_members
+pub no_more_members : (needs_comma : Bool) → 125 ∷ [] ≡ printed_members needs_comma no_members
 unfolding print_from
 no_more_members true = refl
 no_more_members false = refl
@@ -89,7 +89,7 @@ unfolding print_from
 key_printed true k ts = refl
 key_printed false k ts = refl
 
-one_more_member : (needs_comma : Bool) (k : List ℕ) (j : Json) (ms : Members)
+pub one_more_member : (needs_comma : Bool) (k : List ℕ) (j : Json) (ms : Members)
     → comma_if needs_comma ++ ((quoted k ++ 58 ∷ print (json_tokens j)) ++ printed_members true ms)
     ≡ printed_members needs_comma (member k j ms)
 one_more_member needs_comma k j ms =
@@ -110,7 +110,7 @@ entries_printed needs_comma (e ∷ es) =
     ∙ ap (λ l. member_text e ++ l) (entries_printed true es))
     ∙ one_more_member needs_comma e.0 e.1 (entry_members es)
 
-brace_printed : (ms : Members) → 123 ∷ printed_members false ms ≡ print (json_tokens (object ms))
+pub brace_printed : (ms : Members) → 123 ∷ printed_members false ms ≡ print (json_tokens (object ms))
 unfolding print_from
 brace_printed ms = refl
 

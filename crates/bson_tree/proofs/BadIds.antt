@@ -2,11 +2,7 @@
 use Rattle.std.proofs.Common.{◌≡◌, ℕ, List, [], ◌∷◌, Bool, true, false, cond, Option, Some, None, Result, Ok, Err}
 use Rattle.std.proofs.Common.{◌++◌, inl, arith, refl, sym, ap, subst, ◌∙◌}
 use Rattle.std.specs.Prelude.{codes}
-use Rattle.std.specs.Str.{bytes_eq}
-use Rattle.std.proofs.lemmas.Bool.{and_parts}
-use Rattle.std.proofs.lemmas.Option.{same_Some}
-use Rattle.std.proofs.lemmas.Slice.Eq.{bytes_eq-Decides}
-use Rattle.serde_json.specs.Data.{Data, no_members, member}
+use Rattle.serde_json.specs.Data.{Data, member}
 use Rattle.serde_json.specs.Data as tree
 use Rattle.serde_json.specs.Find.{as_i64, as_str}
 use Rattle.bson_types.specs.HexText.{IsHexText, nothing, digit_pair}
@@ -29,7 +25,7 @@ use Rattle.bson_scalar.specs.declared.wrapper.Wrapper.TheVariants.{Uuid, Code, T
 use Rattle.bson_scalar.specs.declared.wrapper.Wrapper.TheVariants.{DbPointer, Undefined}
 use Rattle.bson_scalar.specs.declared.form.Doubles.{Doubles}
 use Rattle.bson_scalar.specs.declared.form.Doubles.TheVariants.{Special}
-use Rattle.bson_scalar.proofs.Offered.{scalar_from, scalar_to}
+use Rattle.bson_scalar.proofs.Offered.{lone_is, scalar_from, scalar_to, string_is, two_are}
 use Rattle.bson_model.specs.Reading.{reads_tree_in}
 use Rattle.bson_model.specs.Reading.{scalar_result_as_value}
 use Rattle.bson_tree.specs.Place.{HasInvalidObjectId, oid, db_pointer}
@@ -87,47 +83,6 @@ some_bad : {A X : Type 0} (o : Option A) (f : A → Result X Fault) (s : List �
     → (or_wrong_shape o >>= f) ≡ Err (wrong_id s) → (x : A) × (o ≡ Some x) × (f x ≡ Err (wrong_id s))
 some_bad (Some x) f s h = (x, refl, h)
 some_bad None f s h = cc
-
-string_is : (d : Data) (s : List ℕ) → as_str d ≡ Some s → d ≡ tree.string s
-string_is (tree.string t) s h = ap tree.string (same_Some t s h)
-string_is tree.null s h = cc
-string_is (tree.boolean b) s h = cc
-string_is (tree.number n) s h = cc
-string_is (tree.array ds) s h = cc
-string_is (tree.object ms) s h = cc
-
-if_some : {A : Type 0} (b : Bool) (x y : A) → cond b (Some x) None ≡ Some y → (b ≡ true) × (x ≡ y)
-if_some true x y h = (refl, same_Some x y h)
-if_some false x y h = cc
-
-pub key_is : (k a : List ℕ) → bytes_eq k a ≡ true → k ≡ a
-key_is k a h = (bytes_eq-Decides k a).0 h
-
-lone_is : (a : List ℕ) (d e : Data) → single_key_member a d ≡ Some e → d ≡ one_key_object a e
-lone_is a tree.null e h = cc
-lone_is a (tree.boolean b) e h = cc
-lone_is a (tree.number n) e h = cc
-lone_is a (tree.string t) e h = cc
-lone_is a (tree.array ds) e h = cc
-lone_is a (tree.object no_members) e h = cc
-lone_is a (tree.object (member k d no_members)) e h =
-    let g = if_some _ d e h in
-    rw (key_is k a g.0) (ap (λ x. one_key_object a x) g.1)
-lone_is a (tree.object (member k d (member l f ms))) e h = cc
-
-two_are : (a b : List ℕ) (d : Data) (p : Data × Data) → two_members a b d ≡ Some p → d ≡ two_key_object a p.0 b p.1
-two_are a b tree.null p h = cc
-two_are a b (tree.boolean t) p h = cc
-two_are a b (tree.number n) p h = cc
-two_are a b (tree.string t) p h = cc
-two_are a b (tree.array ds) p h = cc
-two_are a b (tree.object no_members) p h = cc
-two_are a b (tree.object (member k d no_members)) p h = cc
-two_are a b (tree.object (member k d (member l e no_members))) p h =
-    let g = if_some _ (d, e) p h in
-    let keys = and_parts _ _ g.0 in
-    rw (key_is k a keys.0, key_is l b keys.1) (ap (λ (q : Data × Data). two_key_object a q.0 b q.1) g.1)
-two_are a b (tree.object (member k d (member l e (member m f ms)))) p h = cc
 
 oid_text : {s id : List ℕ} → MeansScalar (one_key_object (codes "$oid") (tree.string s)) (kind.object_id id)
     → IsOidText s id

@@ -24,7 +24,8 @@ use Rattle.bson_model.specs.Value.{Pairs}
 use Rattle.bson_model.specs.Value as model
 use Rattle.bson_model.proofs.Offered.{means_from_in, means_to_in}
 use Rattle.bson_tree.specs.Place.{IsWrapperFaultIn, HasWrapperKeys, single_key, code_with_scope}
-use Rattle.bson_tree.proofs.BadIds.{bad_read, key_is, single_at_bad}
+use Rattle.bson_scalar.proofs.Offered.{key_is}
+use Rattle.bson_tree.proofs.BadIds.{bad_read, single_at_bad}
 
 -- ---- numbers
 

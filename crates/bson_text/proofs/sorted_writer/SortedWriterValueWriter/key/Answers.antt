@@ -2,7 +2,7 @@ use Rattle.std.proofs.Common.{◌≡◌, ◌∷◌, ◌++◌, [], length, ap, �
 use Rattle.json.specs.Print.{print}
 use Rattle.json.specs.Token.{key}
 use Rattle.bson_text.specs.SortedOutput.{output_with_comma}
-use Rattle.bson_text.proofs.PartTexts.{key_alone}
+use Rattle.bson_tokens.proofs.Offered.{key_alone}
 use Rattle.bson_text.proofs.sorted_writer.SortedWriterValueWriter.key.Goals as goal
 
 pub returns-clause-written : goal.returns-clause-written
