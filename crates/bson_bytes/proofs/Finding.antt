@@ -23,7 +23,8 @@ use Rattle.bson_bytes.specs.Skip.{first_element_of, skip_bytes, skip_value, IsNa
 use Rattle.bson_bytes.specs.declared.raw_element.RawElement.{RawElement}
 use Rattle.bson_bytes.proofs.Found.{value_is}
 use Rattle.bson_bytes.proofs.Passing.{kind_tag, sliced}
-use Rattle.bson_bytes.proofs.Skips.{ok_is, if_ok, split_follows, Lookahead}
+use Rattle.bson_bytes.proofs.PartLaws.{ok_is, if_ok}
+use Rattle.bson_bytes.proofs.Skips.{split_follows, Lookahead}
 use Rattle.bson_bytes.proofs.Steps.{opened, Took, took, some_is, is_last}
 
 -- what was read

@@ -11,7 +11,8 @@ use Rattle.bson_bytes.specs.Reading.{read_value_in, read_document_in, read_code_
 use Rattle.bson_bytes.specs.Grammar.{pair_values}
 use Rattle.bson_bytes.specs.NestedValues.{IsNested, is_nested_type}
 use Rattle.bson_bytes.specs.ReadElements.{without_rest}
-use Rattle.bson_bytes.proofs.Skips.{bind_ok, if_ok, first_is, ok_is, made}
+use Rattle.bson_bytes.proofs.PartLaws.{bind_ok, if_ok, ok_is}
+use Rattle.bson_bytes.proofs.Skips.{first_is, made}
 
 bound_nested : {A : Type 0} (r : Result (A × List ℕ) Fault) (f : A → Value) → ((x : A) → IsNested (f x)) → (v : Value) (rest : List ℕ)
     → made f r ≡ Ok (v, rest) → IsNested v

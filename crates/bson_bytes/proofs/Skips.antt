@@ -12,7 +12,6 @@ use Rattle.bson_types.specs.BinarySubtypes.{subtype_of}
 use Rattle.bson_scalar.specs.Scalar as kind
 use Rattle.bson_model.specs.Value.{Value, Pairs, no_pairs, scalar, code_scope, array, document}
 use Rattle.bson_bytes.specs.declared.fault.Fault.{Fault}
-use Rattle.bson_bytes.specs.declared.fault.FaultKind.{FaultKind}
 use Rattle.bson_bytes.specs.declared.fault.FaultKind.TheVariants.{Short, Length, Utf8, Boolean}
 use Rattle.bson_model.specs.declared.options.DuplicateKeys.TheVariants.{LastWins}
 use Rattle.bson_bytes.specs.Fault.{fault_at, ◌>>=◌, some_or_fault}
@@ -21,34 +20,12 @@ use Rattle.bson_bytes.specs.Reading.{read_byte, read_bytes, read_integer, read_l
 use Rattle.bson_bytes.specs.Reading.{read_string, read_old_binary, read_plain_binary, read_binary, read_boolean, read_regex, read_pointer}
 use Rattle.bson_bytes.specs.Reading.{read_timestamp, map_pairs_read, insert_pairs_read, read_code_with_scope, read_value_in, read_document_in}
 use Rattle.bson_bytes.specs.Skip.{skip_bytes, length_prefix, skip_length_prefixed, skip_regex, skip_value}
+use Rattle.bson_bytes.proofs.PartLaws.{bind_ok, unless_ok, if_ok, or_fault_ok, ok_is}
 
 -- ---- steps
 
-pub bind_ok : {A B : Type 0} (r : Result A Fault) (f : A → Result B Fault) (y : B) → (r >>= f) ≡ Ok y
-    → (x : A) × (r ≡ Ok x) × (f x ≡ Ok y)
-bind_ok (Ok x) f y e = (x, refl, e)
-bind_ok (Err d) f y e = absurd cc
-
 abbrev done : {A : Type 0} → A → Result A Fault
 done x = Ok x
-
-pub ok_is : {A : Type 0} (x y : A) → done x ≡ done y → x ≡ y
-ok_is x y e = cc
-
-pub unless_ok : {A : Type 0} (b : Bool) (d : Fault) (r : Result A Fault) (y : A) → cond b (Err d) r ≡ Ok y
-    → (b ≡ false) × (r ≡ Ok y)
-unless_ok true d r y e = absurd cc
-unless_ok false d r y e = (refl, e)
-
-pub if_ok : {A : Type 0} (b : Bool) (r : Result A Fault) (d : Fault) (y : A) → cond b r (Err d) ≡ Ok y
-    → (b ≡ true) × (r ≡ Ok y)
-if_ok true r d y e = (refl, e)
-if_ok false r d y e = absurd cc
-
-pub or_fault_ok : {A : Type 0} (o : Option A) (w : FaultKind) (bytes : List ℕ) (x : A) → some_or_fault o w bytes ≡ Ok x
-    → o ≡ Some x
-or_fault_ok (Some y) w bytes x e = ap Some (ok_is y x e)
-or_fault_ok None w bytes x e = absurd cc
 
 pub first_is : {A B : Type 0} (a : A) (x : B) (b : A) (y : B) → done {A = A × B} (a, x) ≡ done (b, y) → a ≡ b
 first_is {A} {B} a x b y e = ap (λ (p : A × B). p.0) (ok_is (a, x) (b, y) e)

@@ -15,7 +15,8 @@ use Rattle.bson_bytes.specs.TypeTags.{type_of_tag}
 use Rattle.bson_bytes.proofs.Offered.{elements, then_pairs, no_more, one_more}
 use Rattle.bson_bytes.specs.ReadElements.{BeginsWithElements}
 use Rattle.bson_bytes.specs.Skip.{first_element_of, skip_value}
-use Rattle.bson_bytes.proofs.Skips.{bind_ok, ok_is, if_ok, or_fault_ok, first_is, rest_is, Follows, follows_then, follows_length}
+use Rattle.bson_bytes.proofs.PartLaws.{bind_ok, ok_is, if_ok, or_fault_ok}
+use Rattle.bson_bytes.proofs.Skips.{first_is, rest_is, Follows, follows_then, follows_length}
 use Rattle.bson_bytes.proofs.Skips.{Lookahead, lookahead_then, byte_follows, name_split, Skips, DocumentSkips, value_skips}
 use Rattle.bson_bytes.proofs.Skips.{size_follows, same_length}
 

@@ -23,6 +23,7 @@ use Rattle.bson_model.specs.OrderedTrees.{IsTreeInOrder, ItemsAreTreesInOrder, M
 use Rattle.bson_model.specs.OrderedTexts.{TextReadsBackInOrder}
 use Rattle.bson_model.proofs.Forgetting.{read_forgotten}
 use Rattle.bson_model.proofs.OptionalValues.{un_some, turned}
+use Rattle.bson_model.proofs.TextLaws.{joined, joined_again, joined_none}
 
 -- ---- the tokens of the text are those of the tree
 
@@ -47,19 +48,6 @@ mutual
   members_numbers (member k d ms) t = (numbers d t.0, members_numbers ms t.1)
 
 -- ---- the members go in one after another
-
-abbrev pub joined : Members → Members → Members
-joined no_members ms = ms
-joined (member l e found) ms = member l e (joined found ms)
-
-pub joined_again : (found : Members) (k : List ℕ) (d : Data) (ms : Members)
-    → joined (joined found (member k d no_members)) ms ≡ joined found (member k d ms)
-joined_again no_members k d ms = refl
-joined_again (member l e found) k d ms = ap (member l e) (joined_again found k d ms)
-
-pub joined_none : (found : Members) → joined found no_members ≡ found
-joined_none no_members = refl
-joined_none (member l e found) = ap (member l e) (joined_none found)
 
 apart_from : (l : List ℕ) (found : Members) (k : List ℕ) (d : Data) (ms : Members)
     → has_key l (joined found (member k d ms)) ≡ false → bytes_eq l k ≡ false

@@ -10,7 +10,8 @@ pub use Rattle.bson_model.proofs.OrderedReadForm.{form, in_range, distinct}
 pub use Rattle.bson_model.proofs.SortedKeys.{same_wrapper}
 pub use Rattle.bson_model.proofs.TextMeaning.{text_means, meant_by_text}
 -- ---- for writers: `writes_value_in_order` gives just what `WrittenInOrder` says, part by part
-pub use Rattle.bson_model.proofs.KeptTexts.{own_text, joined, joined_again, joined_none, put_last}
+pub use Rattle.bson_model.proofs.KeptTexts.{own_text, put_last}
+pub use Rattle.bson_model.proofs.TextLaws.{joined, joined_again, joined_none}
 pub use Rattle.bson_model.proofs.OptionalValues.{turned}
 pub use Rattle.bson_model.proofs.OrderedTexts.{ordered_text, comes_back, has_no_float}
 pub use Rattle.bson_model.proofs.OrderedWriteLaws.{written_from, written_to, one_written, writable_is, default_written}

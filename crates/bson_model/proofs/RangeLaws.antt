@@ -21,9 +21,7 @@ use Rattle.bson_types.proofs.Offered.{hex_bytes, sized_to}
 use Rattle.bson_datetime.proofs.Offered.{named_fits}
 use Rattle.bson_scalar.specs.declared.form.Doubles.{Doubles}
 use Rattle.bson_scalar.specs.declared.form.Doubles.TheVariants.{Special, Finite}
-
-un_some : {A : Type 0} (x y : A) → Some x ≡ Some y → x ≡ y
-un_some x y h = cc
+use Rattle.bson_model.proofs.OptionalValues.{un_some}
 
 -- ---- numbers
 

@@ -1,6 +1,6 @@
 -- What is read from a text is a tree whose numbers are in range and whose keys ascend.
 use Rattle.std.proofs.Common.{◌≡◌, ◌<◌, ◌≤◌, ◌^◌, ◌&&◌, ◌==◌, ℕ, zero, suc, nat_lt, nat_le, List, drop, slice_index}
-use Rattle.std.proofs.Common.{Bool, true, false, cond, Option, Some, None, option_map, option_and_then, refl, subst}
+use Rattle.std.proofs.Common.{Bool, true, false, cond, Some, None, option_map, option_and_then, refl, subst}
 use Rattle.std.proofs.Common.{arith}
 use Rattle.std.proofs.lemmas.Bool.{and_parts, ltb-true, leb-true}
 use Rattle.std.specs.Float.{binary64, float_is_finite}
@@ -16,19 +16,7 @@ use Rattle.serde_json.specs.Read.{is_integer, float_of, number_from, number_of, 
 use Rattle.serde_json.specs.Read.{max_depth, read}
 use Rattle.bson_model.specs.Texts.{NumberFits, MemberKeysAscend, IsTree, ItemsAreTrees, MembersAreTrees}
 use Rattle.bson_model.proofs.TreeLaws.{ascends_put, trees_put}
-
-un_some : {A : Type 0} (x y : A) → Some x ≡ Some y → x ≡ y
-un_some x y h = cc
-
-mapped : {A B : Type 0} (f : A → B) (o : Option A) (y : B) → option_map f o ≡ Some y
-    → (x : A) × (o ≡ Some x) × (f x ≡ y)
-mapped f (Some x) y h = (x, refl, un_some _ _ h)
-mapped f None y h = absurd cc
-
-after : {A B : Type 0} (f : A → Option B) (o : Option A) (y : B) → option_and_then f o ≡ Some y
-    → (x : A) × (o ≡ Some x) × (f x ≡ Some y)
-after f (Some x) y h = (x, refl, h)
-after f None y h = absurd cc
+use Rattle.bson_model.proofs.OptionalValues.{un_some, mapped, after}
 
 -- ---- numbers
 

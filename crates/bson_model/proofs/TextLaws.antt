@@ -19,6 +19,7 @@ use Rattle.bson_scalar.specs.declared.form.Form.{Form}
 use Rattle.bson_scalar.proofs.Offered.{float_is_number, float_is_read, text_is}
 use Rattle.bson_model.specs.Texts.{NumberFits, IsBelowMemberKeys, MemberKeysAscend, IsTree, ItemsAreTrees, MembersAreTrees, TextReadsBackIn}
 use Rattle.bson_model.proofs.PutSwap.{cmp, flipped}
+use Rattle.bson_model.proofs.OptionalValues.{un_some}
 
 -- ---- the tokens of the text are those of the tree
 
@@ -61,16 +62,16 @@ mutual
 
 -- ---- the members go in one after another
 
-abbrev joined : Members → Members → Members
+abbrev pub joined : Members → Members → Members
 joined no_members ms = ms
 joined (member l e found) ms = member l e (joined found ms)
 
-joined_again : (found : Members) (k : List ℕ) (d : Data) (ms : Members)
+pub joined_again : (found : Members) (k : List ℕ) (d : Data) (ms : Members)
     → joined (joined found (member k d no_members)) ms ≡ joined found (member k d ms)
 joined_again no_members k d ms = refl
 joined_again (member l e found) k d ms = ap (member l e) (joined_again found k d ms)
 
-joined_none : (found : Members) → joined found no_members ≡ found
+pub joined_none : (found : Members) → joined found no_members ≡ found
 joined_none no_members = refl
 joined_none (member l e found) = ap (member l e) (joined_none found)
 
@@ -127,9 +128,6 @@ back_within n d t shallow =
     let value = ap (json.value n) (printed ∙ sym (append-nil (parsed.json_tokens (json_of_tree d))))
     ∙ value-json_tokens (json_of_tree d) n [] (omega (arith, same_depth d)) in
     ap (λ o. option_and_then of_json (option_and_then (λ p. json.if_last p.0 p.1) o)) value ∙ data_back d t
-
-un_some : {A : Type 0} (x y : A) → Some x ≡ Some y → x ≡ y
-un_some x y h = cc
 
 -- two trees, however deep, have one text only where they are equal
 one_text : (d e : Data) → IsTree d → IsTree e → text_of d ≡ text_of e → d ≡ e

@@ -28,7 +28,7 @@ use Rattle.bson_double.specs.FiniteDoubles.{is_finite}
 use Rattle.bson_double.specs.DoubleText.{IsDoubleText}
 use Rattle.bson_double.proofs.Offered.{bits_back, finite_value, json_number, parses}
 use Rattle.bson_scalar.specs.Shortest.{finite_double_text}
-use Rattle.bson_scalar.specs.TreeText.{float_text, number_text, json_of_tree, json_of_items, json_of_members, tokens_of}
+use Rattle.bson_scalar.specs.TreeText.{float_text, number_text, json_of_tree, json_of_items, json_of_members}
 use Rattle.bson_scalar.specs.TreeText as own
 use Rattle.bson_scalar.specs.TreeText.{IsDouble, HasNoFloatIn, tree_text}
 use Rattle.bson_scalar.specs.declared.form.Doubles.{Doubles}
@@ -37,6 +37,7 @@ use Rattle.bson_scalar.specs.declared.form.Form.{Form}
 use Rattle.bson_scalar.specs.declared.form.Form.TheVariants.{Canonical, MongoDbCanonical, MongoDbRelaxed, Relaxed}
 use Rattle.bson_scalar.proofs.FiniteDoubles.{bits_finite, finite_text_to, some_of}
 use Rattle.bson_scalar.proofs.ShortestText.{finite_text-some, finite_text_is}
+use Rattle.bson_scalar.proofs.InverseLemmas.{un_some}
 
 -- ---- a plain number with a point or an exponent is read as a float
 
@@ -62,9 +63,6 @@ marked p false is plain =
 as_float : (sign : Bool) (p : Parts) → is_integer p ≡ false → number_from sign p ≡ float_of sign p
 as_float true p e = rw e refl
 as_float false p e = rw e refl
-
-un_some : {A : Type 0} (x y : A) → Some x ≡ Some y → x ≡ y
-un_some x y h = cc
 
 plain_read : (s : List ℕ) (x : Float) → IsPlainNumber s → parse_float binary64 s ≡ Some x
     → float_is_finite x ≡ true → number_of s ≡ Some (float x)

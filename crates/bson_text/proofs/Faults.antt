@@ -167,12 +167,12 @@ put_in_order (member k d ms) fault_in_tree h =
     ap (put_all ms) (put_later fault_in_tree k d ms h)
     ∙ put_in_order ms (joined fault_in_tree (member k d no_members)) (subst MemberKeysAscend (sym again) h) ∙ again
 
-and_some : {A B : Type 0} (f : A → Option B) (x : Option A) (b : B) → option_and_then f x ≡ Some b
+pub and_some : {A B : Type 0} (f : A → Option B) (x : Option A) (b : B) → option_and_then f x ≡ Some b
     → (a : A) × (x ≡ Some a) × (f a ≡ Some b)
 and_some f None b h = cc
 and_some f (Some a) b h = (a, refl, h)
 
-join_trees : {A B C : Type 0} (f : A → B → C) (x : Option A) (y : Option B) (a : A) (b : B) → x ≡ Some a → y ≡ Some b
+pub join_trees : {A B C : Type 0} (f : A → B → C) (x : Option A) (y : Option B) (a : A) (b : B) → x ≡ Some a → y ≡ Some b
     → option_and_then (λ c. option_map (f c) y) x ≡ Some (f a b)
 join_trees f x y a b h g = rw (h, g) refl
 
@@ -211,11 +211,11 @@ any_is (json.member k j js) ts is =
 
 -- ---- objects
 
-not_true : (b : Bool) → (b ≡ true → ⊥) → b ≡ false
+pub not_true : (b : Bool) → (b ≡ true → ⊥) → b ≡ false
 not_true true h = absurd (h refl)
 not_true false h = refl
 
-no_code : (k : List ℕ) → wrapper_of k ≡ None → bytes_eq k (codes "$code") ≡ false
+pub no_code : (k : List ℕ) → wrapper_of k ≡ None → bytes_eq k (codes "$code") ≡ false
 no_code k plain = not_true (bytes_eq k (codes "$code")) (λ yes.
     let w : wrapper_of (codes "$code") ≡ None =
     subst (λ x. wrapper_of x ≡ None) ((bytes_eq-Decides k (codes "$code")).0 yes) plain in cc)

@@ -1,6 +1,6 @@
 -- Whole objects: documents, wrappers of one key, and code with its scope.
 use Rattle.std.proofs.Common.{◌≡◌, ℕ, List, Option, Some, None}
-use Rattle.std.proofs.Common.{Result, Ok, Err, Bool, true, false, option_map, option_and_then, refl, sym, ap, ◌∙◌, subst}
+use Rattle.std.proofs.Common.{Result, Ok, Err, Bool, true, false, refl, sym, ap, ◌∙◌, subst}
 use Rattle.std.proofs.Common.{codes, ◌&&◌, ◌||◌, bytes_eq, is_some, cond}
 use Rattle.std.proofs.lemmas.Option.{same_Some}
 use Rattle.std.proofs.lemmas.Slice.Eq.{bytes_eq-Decides}
@@ -25,6 +25,7 @@ use Rattle.bson_text.proofs.Members.{insert_each}
 use Rattle.bson_text.specs.ErrorDenials.{members_as_given, IsMeaningful, MembersAreMeaningful}
 use Rattle.bson_text.specs.RejectedText.{has_scope_before_code, MembersCodeBeforeScope}
 use Rattle.bson_text.proofs.Denials.{split_kept, was_read, mapped, Once}
+use Rattle.bson_text.proofs.Faults.{not_true, and_some, no_code, join_trees as join_kept}
 
 -- ---- an object of which no key occurs twice stays unchanged
 
@@ -47,15 +48,6 @@ put_in_turn (member k d ms) found h =
     ap (insert_each ms) (put_last found k d ms h)
     ∙ put_in_turn ms (joined found (member k d no_members)) (subst KeysDiffer (sym again) h) ∙ again
 
-and_some : {A B : Type 0} (f : A → Option B) (x : Option A) (b : B) → option_and_then f x ≡ Some b
-    → (a : A) × (x ≡ Some a) × (f a ≡ Some b)
-and_some f None b h = cc
-and_some f (Some a) b h = (a, refl, h)
-
-join_kept : {A B C : Type 0} (f : A → B → C) (x : Option A) (y : Option B) (a : A) (b : B) → x ≡ Some a → y ≡ Some b
-    → option_and_then (λ c. option_map (f c) y) x ≡ Some (f a b)
-join_kept f x y a b h g = rw (h, g) refl
-
 stand : (js : json.Members) (found all : Members) → members_of_json js found ≡ Some all
     → (ms : Members) × (members_as_given js ≡ Some ms) × (all ≡ insert_each ms found)
 stand json.no_members found all is = (no_members, refl, sym (same_Some found all is))
@@ -76,15 +68,6 @@ kept_stands js all apart is =
 abbrev pub FirstKey : Option (List ℕ) → json.Members → Type 0
 FirstKey None ms = ms ≡ json.no_members
 FirstKey (Some k) ms = (j : json.Json) × (js : json.Members) × (ms ≡ json.member k j js)
-
-not_true : (b : Bool) → (b ≡ true → ⊥) → b ≡ false
-not_true true h = absurd (h refl)
-not_true false h = refl
-
-no_code : (k : List ℕ) → wrapper_of k ≡ None → bytes_eq k (codes "$code") ≡ false
-no_code k plain = not_true (bytes_eq k (codes "$code")) (λ yes.
-    let w : wrapper_of (codes "$code") ≡ None =
-    subst (λ x. wrapper_of x ≡ None) ((bytes_eq-Decides k (codes "$code")).0 yes) plain in cc)
 
 no_scope : (k : List ℕ) (w : Wrapper) → wrapper_of k ≡ Some w → bytes_eq k (codes "$scope") ≡ false
 no_scope k w named = not_true (bytes_eq k (codes "$scope")) (λ yes.

@@ -10,13 +10,7 @@ use Rattle.bson_tree.specs.declared.place.Place.{Place}
 use Rattle.bson_text.specs.ErrorPaths.{has_wrapper_key, IfErrorIsFault}
 use Rattle.bson_text.specs.declared.traversal_error.TraversalError.{TraversalError}
 use Rattle.bson_text.specs.declared.traversal_error.TraversalError.TheVariants as failure
-
-mapped_parse : {A B : Type 0} (f : A → B) (o : Option (A × List Token)) (b : B) (r : List Token)
-    → parse_map f o ≡ Some (b, r) → (a : A) × (o ≡ Some (a, r)) × (b ≡ f a)
-mapped_parse f None b r h = cc
-mapped_parse {A} {B} f (Some (a, s)) b r h =
-    let same : (f a, s) ≡ (b, r) = same_Some {A = B × List Token} (f a, s) (b, r) h in
-    (a, ap (λ p. Some (a, p.1)) same, sym (ap (λ p. p.0) same))
+use Rattle.bson_text.proofs.Denials.{mapped_parse}
 
 then_parsed : {B C : Type 0} (f : json.Json → B → C) (more : Parse B) (o : Option (json.Json × List Token)) (c : C)
     (r mid : List Token) → option_and_then (λ q. parse_map (f q.0) (more q.1)) o ≡ Some (c, r)
