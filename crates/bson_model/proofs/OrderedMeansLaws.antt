@@ -1,11 +1,11 @@
 -- The grammar in order relates what reading in order gives, and nothing else.
-use Rattle.std.proofs.Common.{◌≡◌, ℕ, List, Bool, true, false, cond, Option, Result, Ok, Err}
+use Rattle.std.proofs.Common.{◌≡◌, ℕ, List, Option, Result, Ok}
 use Rattle.std.proofs.Common.{refl, sym, ap, ◌∙◌, codes}
 use Rattle.std.specs.Str.{bytes_eq}
 use Rattle.std.proofs.lemmas.Bool.{and_parts}
 use Rattle.serde_json.specs.Data.{Data, Items, no_items, item, Members, no_members, member}
 use Rattle.serde_json.specs.Data as tree
-use Rattle.bson_scalar.specs.Faults.{Fault, wrong_shape}
+use Rattle.bson_scalar.specs.Faults.{Fault}
 use Rattle.bson_scalar.specs.Means.{MeansScalarIn, null, boolean, text, code_without_scope}
 use Rattle.bson_scalar.specs.Reading.{number_read_in, optional_wrapper_read_in, on_text}
 use Rattle.bson_scalar.specs.Scalar.{Scalar}
@@ -28,6 +28,7 @@ use Rattle.bson_model.specs.OrderedReading.{reads_scope_in_order}
 use Rattle.bson_model.proofs.Complete.{read_in_order}
 use Rattle.bson_model.proofs.Forgets.{forgets}
 use Rattle.bson_model.proofs.OptionalValues.{same_bytes}
+use Rattle.bson_model.proofs.MeansLaws.{on_text_value as on_text_at, split_from as either, guarded}
 
 module _ (D : Doubles) where
   -- ---- from reading to the grammar
@@ -45,20 +46,6 @@ module _ (D : Doubles) where
   text_alone (tree.array ds) s h = cc
   text_alone (tree.object ms) s h = cc
 
-  on_text_at : (d : Data) (f : List ℕ → Result Value Fault) (v : Value) → on_text d f ≡ Ok v
-      → (s : List ℕ) × (d ≡ tree.string s) × (f s ≡ Ok v)
-  on_text_at tree.null f v h = cc
-  on_text_at (tree.boolean b) f v h = cc
-  on_text_at (tree.number n) f v h = cc
-  on_text_at (tree.string s) f v h = (s, refl, h)
-  on_text_at (tree.array ds) f v h = cc
-  on_text_at (tree.object ms) f v h = cc
-
-  guarded : (b : Bool) (x : Result Value Fault) (v : Value) → cond b x (Err wrong_shape) ≡ Ok v
-      → (b ≡ true) × (x ≡ Ok v)
-  guarded true x v h = (refl, h)
-  guarded false x v h = cc
-
   -- the two keys, the code, and what was read of the scope
   code_parts : (k l : List ℕ) (d : Data) (scope : Result (Option Pairs) Fault) (v : Value)
       → code_with_scope_read k (tree_sorted_by_key d) l scope ≡ Ok v
@@ -68,11 +55,6 @@ module _ (D : Doubles) where
       let keys = and_parts _ _ g.0 in
       let t = on_text_at (tree_sorted_by_key d) _ v g.1 in
       (same_bytes k _ keys.0, same_bytes l _ keys.1, t.0, text_alone d t.0 t.1, t.2)
-
-  either : (b : Bool) (x y : Result Value Fault) (v : Value) (P : Type 0) → cond b x y ≡ Ok v → (x ≡ Ok v → P)
-      → (b ≡ false → y ≡ Ok v → P) → P
-  either true x y v P h p q = p h
-  either false x y v P h p q = q refl h
 
   mutual
     pub means_from : (t : Data) (v : Value) → reads_tree_in_order D t ≡ Ok v → MeansInOrder D t v

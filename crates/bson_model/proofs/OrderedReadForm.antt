@@ -1,6 +1,5 @@
 -- What a tree in the order of a text means is plain and writable, in range, and has each key of a document once.
-use Rattle.std.proofs.Common.{◌≡◌, ℕ, List, Bool, true, false, ◌&&◌, ◌||◌, Option, Some, None, refl, ap, ◌∙◌}
-use Rattle.std.specs.Prelude.{is_none, is_some}
+use Rattle.std.proofs.Common.{◌≡◌, ℕ, List, true, false, ◌||◌, refl, ap, ◌∙◌}
 use Rattle.std.specs.Str.{bytes_eq}
 use Rattle.std.proofs.lemmas.Bool.{or_parts}
 use Rattle.serde_json.specs.Data.{Data, Items, Members}
@@ -17,6 +16,7 @@ use Rattle.bson_model.specs.OrderedMeans.{MeansInOrder, scalar, code_with_scope,
 use Rattle.bson_model.specs.OrderedMeans.{MeansItemsInOrder, nothing, then, MeansDocumentInOrder, empty, entry}
 use Rattle.bson_model.proofs.Scalars.{within_type_range}
 use Rattle.bson_model.proofs.Settled.{kept_tree}
+use Rattle.bson_model.proofs.ReadForm.{both_true, not_some}
 
 module _ (D : Doubles) where
   -- ---- plain and writable
@@ -26,13 +26,6 @@ module _ (D : Doubles) where
 
   abbrev PairsForm : Pairs → Type 0
   PairsForm ps = (plain_values ps ≡ true) × (writable_pairs_in D ps ≡ true)
-
-  both_true : (a b : Bool) → a ≡ true → b ≡ true → (a && b) ≡ true
-  both_true a b h g = rw (h, g) refl
-
-  not_some : {W : Type 0} (o : Option W) → is_some o ≡ false → is_none o ≡ true
-  not_some (Some w) h = cc
-  not_some None h = refl
 
   keys_form : {ms : Members} {ps : Pairs} → MeansDocumentInOrder D ms ps → has_wrapper ms ≡ false → plain_keys ps ≡ true
   keys_form empty n = refl

@@ -1,17 +1,16 @@
 -- What writing in order gives is the grammar's one tree; with its order forgotten it is the tree by default, and it
 -- means the value again.
-use Rattle.std.proofs.Common.{◌≡◌, true, false, ◌&&◌, Option, Some, None, Result, Ok, Err, refl, sym}
+use Rattle.std.proofs.Common.{◌≡◌, true, false, Result, Ok, Err, refl, sym}
 use Rattle.std.proofs.Common.{ap, ◌∙◌, subst}
-use Rattle.std.specs.Prelude.{is_none, is_ok, is_some}
+use Rattle.std.specs.Prelude.{is_ok}
 use Rattle.std.proofs.lemmas.Bool.{and_parts, or_from}
-use Rattle.serde_json.specs.Data.{Data, Items, no_items, item, Members, no_members, member}
+use Rattle.serde_json.specs.Data.{Data, Items, item, Members, member}
 use Rattle.serde_json.specs.Data as tree
-use Rattle.bson_scalar.specs.Means.{MeansScalarIn}
 use Rattle.bson_scalar.specs.Normal.{normal_scalar, scalar_as_read_back}
 use Rattle.bson_scalar.specs.Scalar.{Scalar}
 use Rattle.bson_scalar.specs.Table.{wrapper_of, has_wrapper}
 use Rattle.bson_scalar.specs.OrderedScalars.{WrittenScalarInOrder}
-use Rattle.bson_scalar.specs.Written.{WriteFault, ◌>>=◌}
+use Rattle.bson_scalar.specs.Written.{WriteFault}
 use Rattle.bson_scalar.specs.declared.form.Doubles.{Doubles}
 use Rattle.bson_scalar.specs.declared.form.Form.{Form}
 use Rattle.bson_scalar.proofs.Offered as scalars
@@ -30,6 +29,8 @@ use Rattle.bson_model.specs.OrderedWriting.{writes_value_in_order, writes_items_
 use Rattle.bson_model.specs.OrderedWritten.{WrittenInOrder, WrittenItemsInOrder, WrittenDocumentInOrder}
 use Rattle.bson_model.proofs.Scalars.{reads_back}
 use Rattle.bson_model.proofs.SortedScalars.{scalar_sorted}
+use Rattle.bson_model.proofs.WriteLaws.{ok_both, ok_bind}
+use Rattle.bson_model.proofs.ReadBack.{no_wrapper}
 
 module _ (D : Doubles) where
   -- ---- the function and the grammar
@@ -85,15 +86,6 @@ module _ (D : Doubles) where
   one_written f v t u h g = un_ok _ _ (sym (written_to f v t h) ∙ written_to f v u g)
 
   -- ---- what is written
-
-  ok_bind : {A B : Type 0} (r : Result A WriteFault) (f : A → B) → is_ok (r >>= λ x. Ok (f x)) ≡ is_ok r
-  ok_bind (Ok x) f = refl
-  ok_bind (Err e) f = refl
-
-  ok_both : {A B C : Type 0} (r : Result A WriteFault) (q : Result B WriteFault) (f : A → B → C)
-      → is_ok (r >>= λ x. q >>= λ y. Ok (f x y)) ≡ (is_ok r && is_ok q)
-  ok_both (Ok x) q f = ok_bind q (f x)
-  ok_both (Err e) q f = refl
 
   mutual
     pub writable_is : (f : Form) (v : Value) → is_ok (writes_value_in_order D f v) ≡ writable_in D v
@@ -158,10 +150,6 @@ module _ (D : Doubles) where
     )
 
   -- ---- a plain value's tree means its normal form, in the same order
-
-  no_wrapper : {W : Type 0} (o : Option W) → is_none o ≡ true → is_some o ≡ false
-  no_wrapper (Some w) h = cc
-  no_wrapper None h = refl
 
   keys_plain : (f : Form) (ps : Pairs) (ms : Members)
       → WrittenDocumentInOrder D f (map_scalars_of_pairs normal_scalar ps) ms → plain_keys ps ≡ true
