@@ -31,7 +31,7 @@ use Rattle.bson_model.specs.Value.{no_pairs, pair}
 use Rattle.bson_model.proofs.Offered.{bind_ok, un_ok, has_text_in}
 use Rattle.bson_model.specs.OrderedWriting.{writes_value_in_order, writes_items_in_order, writes_pairs_in_order}
 use Rattle.bson_model.proofs.OfferedInOrder.{has_no_float, written_to}
-use Rattle.bson.specs.OutputCapacity.{value_capacity, values_capacity, pairs_capacity, written_tree_capacity, tree_capacity}
+use Rattle.bson.specs.OutputCapacity.{value_capacity, values_capacity, pairs_capacity, tree_capacity}
 use Rattle.bson.specs.Texts.{IsTextInOrder}
 use Rattle.bson.proofs.ScalarRoom.{scalar_room_is}
 

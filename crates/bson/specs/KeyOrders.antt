@@ -26,7 +26,7 @@ abbrev pub insert_member_in_order : (key_order : KeyOrder) → (key_bytes : List
 insert_member_in_order Ascending key_bytes value_tree member_list = put key_bytes value_tree member_list
 insert_member_in_order AsGiven key_bytes value_tree member_list = member key_bytes value_tree member_list
 
--- inside a wrapper too
+-- the tree of a scalar: the keys of its wrapper ascend, or have the order of the form
 abbrev pub writes_scalar_in_key_order : KeyOrder → Doubles → Form → Scalar → Result Data WriteFault
 writes_scalar_in_key_order Ascending doubles form scalar_value = writes_scalar_in doubles form scalar_value
 writes_scalar_in_key_order AsGiven doubles form scalar_value = writes_scalar_in_order doubles form scalar_value

@@ -18,5 +18,5 @@ mod without_allocation;
 mod write;
 
 pub use bson_model::options::{KeyOrder, Options};
-pub use bson_scalar::form::{Doubles, Form};
+pub use bson_scalar::form::{Doubles, Form, Layout};
 pub use bson_scalar::write_error::WriteError;

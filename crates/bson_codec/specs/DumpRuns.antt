@@ -28,8 +28,9 @@ use Rattle.bson_codec.specs.declared.run_end.RunFault.TheVariants.{OutOfMemory}
 -- what is written of the document: the text of one that has a text, and a newline; or nothing
 abbrev pub WritesLine : (write_options : Options) → Line → Pairs → (line : List ℕ) → Type 0
 WritesLine write_options (Text form) pairs line = (writable_in write_options.doubles (document pairs) ≡ true)
-    × ((text : List ℕ) × IsTextInKeyOrder write_options.key_order write_options.doubles (form_in write_options.layout form) (document pairs) text
-    × (line ≡ text ++ line_feed))
+    × ((text : List ℕ)
+    × IsTextInKeyOrder write_options.key_order write_options.doubles (form_in write_options.layout form)
+    (document pairs) text × (line ≡ text ++ line_feed))
 WritesLine write_options Shown pairs line = line ≡ display_text (document pairs) ++ line_feed
 WritesLine write_options Nothing pairs line = line ≡ []
 

@@ -46,7 +46,7 @@ const MAX_DOCUMENTS: u64 = u64::MAX - 1;
 /// ```
 #[derive(Clone, Copy, PartialEq, Eq, Debug)]
 pub enum Line {
-    /// A line of Extended JSON in this form, with keys in the order of the options.
+    /// A line of Extended JSON in this form, with the order of keys and the layout of the options.
     Text(Form),
     /// A line with the output of `Display`.
     Shown,
@@ -67,7 +67,7 @@ pub enum Line {
 pub struct Run {
     /// The number of levels to which documents, arrays and scopes may nest.
     pub depth: usize,
-    /// Whether finite doubles are accepted, and the order of keys in Extended JSON.
+    /// Whether finite doubles are accepted, and the order of keys and the layout of Extended JSON.
     pub options: Options,
     /// What is written for each document.
     pub line: Line,

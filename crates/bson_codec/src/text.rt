@@ -47,7 +47,8 @@ pub fn decode_text(alloc: Global, form: Form, bytes: &[u8], depth: usize) -> Res
     }
 }
 
-// Decodes the bytes through a document in memory.
+// Decodes the bytes through a document in memory. The form has its layout, which `Layout::Specified`
+// leaves as it is.
 fn decode_by_value(alloc: Global, form: Form, bytes: &[u8], depth: usize) -> Result<String, Error>
     ensures ok { IfOk result (λ text. IsDocumentTextOf form depth bytes.now (string_bytes text)) }
     ensures only { (pairs : Pairs) → IsReadAsDocument depth bytes.now pairs

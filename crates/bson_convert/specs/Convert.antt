@@ -69,8 +69,10 @@ pub record ConvertsToItself (options : Options) (output_form : Form) (mode : Mod
 
 -- an output in a form is that
 abbrev pub IsFixedPointIn : Options → Mode → (output : List ℕ) → Type 0
-IsFixedPointIn options Canonical output = ConvertsToItself options (form_in options.layout form.Canonical) Canonical output
-IsFixedPointIn options Relaxed output = ConvertsToItself options (form_in options.layout form.Relaxed) Relaxed output
+IsFixedPointIn options Canonical output =
+    ConvertsToItself options (form_in options.layout form.Canonical) Canonical output
+IsFixedPointIn options Relaxed output =
+    ConvertsToItself options (form_in options.layout form.Relaxed) Relaxed output
 IsFixedPointIn options Show output = Unit {0}
 
 -- what each fault says of the bytes
@@ -119,11 +121,12 @@ IsUncanonicalIn options fault bytes = IsRejectedIn options fault bytes
 
 -- ---- the text
 
--- a text of the value in the mode's form, or the one that shows it, with keys in the order
+-- a text of the value in the mode's form and layout, or the one that shows it, with keys in the order
 abbrev pub IsTextForMode : KeyOrder → Options → Mode → Value → (text : List ℕ) → Type 0
 IsTextForMode key_order options Canonical value text =
     IsTextInKeyOrder key_order options.doubles (form_in options.layout form.Canonical) value text
-IsTextForMode key_order options Relaxed value text = IsTextInKeyOrder key_order options.doubles (form_in options.layout form.Relaxed) value text
+IsTextForMode key_order options Relaxed value text =
+    IsTextInKeyOrder key_order options.doubles (form_in options.layout form.Relaxed) value text
 IsTextForMode key_order options Show value text = text ≡ display_text value
 
 -- a text for the mode, of the value that the bytes mean with keys in the order

@@ -26,8 +26,10 @@ pub record IsLineInOrder (doubles : Doubles) (output_form : Form) (value : Value
 
 -- that line, or the text that shows the value and a newline
 abbrev pub IsOutputInOrder : Options → Mode → Value → (output : List ℕ) → Type 0
-IsOutputInOrder options Canonical value output = IsLineInOrder options.doubles (form_in options.layout form.Canonical) value output
-IsOutputInOrder options Relaxed value output = IsLineInOrder options.doubles (form_in options.layout form.Relaxed) value output
+IsOutputInOrder options Canonical value output =
+    IsLineInOrder options.doubles (form_in options.layout form.Canonical) value output
+IsOutputInOrder options Relaxed value output =
+    IsLineInOrder options.doubles (form_in options.layout form.Relaxed) value output
 IsOutputInOrder options Show value output = output ≡ display_text value ++ newline
 
 -- the bytes are a text that means the value in the order of its keys, and this is the value's output
@@ -46,8 +48,10 @@ pub record ConvertsToItselfInOrder (options : Options) (output_form : Form) (mod
 
 -- an output in a form is that
 abbrev pub IsFixedPointInOrder : Options → Mode → (output : List ℕ) → Type 0
-IsFixedPointInOrder options Canonical output = ConvertsToItselfInOrder options (form_in options.layout form.Canonical) Canonical output
-IsFixedPointInOrder options Relaxed output = ConvertsToItselfInOrder options (form_in options.layout form.Relaxed) Relaxed output
+IsFixedPointInOrder options Canonical output =
+    ConvertsToItselfInOrder options (form_in options.layout form.Canonical) Canonical output
+IsFixedPointInOrder options Relaxed output =
+    ConvertsToItselfInOrder options (form_in options.layout form.Relaxed) Relaxed output
 IsFixedPointInOrder options Show output = Unit {0}
 
 -- ---- in either order

@@ -1,7 +1,8 @@
 //! The effects of the options: the output, the preprocessing, which doubles have a text, the order of
-//! keys, and that an option occurs once.
+//! keys, the layout, and that an option occurs once.
 ghost use Rattle.std.specs.Prelude.{◌≡◌, true, if◌then◌else◌};
-ghost use Rattle.bson_program.specs.Invocation.{option_without_value, accepted_doubles, with_criterion, requested_key_order, requested_layout, requested_preprocessing};
+ghost use Rattle.bson_program.specs.Invocation.{option_without_value, accepted_doubles, with_criterion};
+ghost use Rattle.bson_program.specs.Invocation.{requested_key_order, requested_layout, requested_preprocessing};
 
 use crate::arguments::{ExpectedArg, ParsedArg};
 use crate::invocation::{Flag, Purpose, UsageError};
@@ -46,7 +47,7 @@ pub fn accepted_doubles(is_strict: bool) -> Doubles
     }
 }
 
-/// Returns how output is laid out: as the specification says, or as MongoDB's tools do.
+/// Returns the layout of the output: that of the specification, or that of MongoDB's tools.
 pub fn requested_layout(is_strict: bool) -> Layout
     ensures { result ≡ requested_layout is_strict }
 {

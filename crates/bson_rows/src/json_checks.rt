@@ -3,7 +3,7 @@
 //! `check_canonical TEXT`: the same, and why it is not.
 use crate::row_error::{RowError, RowResult};
 use crate::row_output::RowOutput;
-use bson::extjson::{Doubles, KeyOrder, Options};
+use bson::extjson::{Doubles, Options};
 use bson_convert::canonical::{check_canonical, is_canonical_text};
 use bson_convert::error::Error;
 use bson_json::text::is_json;

@@ -6,7 +6,7 @@ use crate::row_error::{RowError, RowResult};
 use crate::row_output::RowOutput;
 use crate::value_steps;
 use bson::Bson;
-use bson::extjson::{Doubles, Form, KeyOrder, Options};
+use bson::extjson::{Form, KeyOrder, Options};
 use std::alloc::Global;
 
 /// `canonical STEPS`, `relaxed STEPS`, and `finite STEPS`, the canonical form with finite doubles:

@@ -80,7 +80,7 @@ mode_of form.Relaxed = Relaxed
 mode_of form.MongoDbCanonical = Canonical
 mode_of form.MongoDbRelaxed = Relaxed
 
--- the form that is written in the mode of a form
+-- the form that is written: the mode of a form, in the layout of the options
 abbrev pub indented_form : Options → Form → Form
 indented_form options form.Canonical = form_in options.layout form.Canonical
 indented_form options form.Relaxed = form_in options.layout form.Relaxed
@@ -98,7 +98,8 @@ pub record ConvertsIndented (key_order : KeyOrder) (options : Options) (output_f
 pub record IsFixedPointIndented (key_order : KeyOrder) (options : Options) (output_form : Form) (spaces : ℕ)
     (output : List ℕ) : Type 0 where
   pub tree : Data
-  pub indented_text : IsIndentedOutput spaces (tree_text options.doubles (indented_form options output_form) tree) output
+  pub indented_text : IsIndentedOutput spaces
+      (tree_text options.doubles (indented_form options output_form) tree) output
   pub again : depth tree ≤ max_depth → ConvertsIndented key_order options output_form spaces output output
 
 -- ---- for private clauses

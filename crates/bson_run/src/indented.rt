@@ -15,8 +15,9 @@ use bson_convert::mode::Mode;
 use std::alloc::Global;
 
 /// Returns the text of [`convert_text`](bson_convert::convert::convert_text) in a form, over several lines.
-/// [`indent_text`](crate::indent::indent_text) makes its layout with `spaces` for each bracket. The
-/// text and its layout are in memory together.
+/// The form says whether the text is relaxed, and the options say which layout its scalars have.
+/// [`indent_text`](crate::indent::indent_text) indents it with `spaces` for each bracket. The text and
+/// the indented text are in memory together.
 ///
 /// # Errors
 ///

@@ -152,12 +152,14 @@ impl Bson {
         self.to_relaxed_text(alloc)
     }
 
-    /// Writes the compact text of the value in a form (MongoDB Extended JSON v2). No tree is made.
+    /// Writes the compact text of the value in a form (MongoDB Extended JSON v2), in the layout of the
+    /// options. No tree is made.
     ///
-    /// With `KeyOrder::Ascending` it is the text of the tree that [`Bson::into_extjson`] makes. With
-    /// `KeyOrder::AsGiven` each document has its keys in its own order, at every depth. Apart from
-    /// the order of keys, its tree is the same. Inside a wrapper the order is the form's own, for
-    /// example `$code` before `$scope`. A scope is a document, and keeps its order.
+    /// With `KeyOrder::Ascending` it is the text of the tree that [`Bson::into_extjson`] makes in the
+    /// form that [`Layout::form`](bson_scalar::form::Layout::form) returns. With `KeyOrder::AsGiven`
+    /// each document has its keys in its own order, at every depth. Apart from the order of keys, its
+    /// tree is the same. Inside a wrapper the order is that of the layout, and `$code` is before
+    /// `$scope` in both. A scope is a document, and keeps its order.
     ///
     /// It is the text that `serde_json` writes, except that a number that is a double is its
     /// shortest decimal: `1e16`, and not `1e+16`. With `Doubles::Finite` every value has a text.
@@ -180,7 +182,8 @@ impl Bson {
     /// ```
     pub fn to_text(&self, alloc: Global, options: Options, form: Form) -> Result<String, WriteError>
         ensures text { IfOk result
-            (λ text. IsTextInKeyOrder options.key_order options.doubles (form_in options.layout form) (bson_view self.now) (string_bytes text)) }
+            (λ text. IsTextInKeyOrder options.key_order options.doubles (form_in options.layout form)
+            (bson_view self.now) (string_bytes text)) }
         ensures within_type_range { OnOk result (NumbersInRange (bson_view self.now)) }
         ensures distinct { OnOk result (AllKeysDistinct (bson_view self.now)) }
         ensures writable { OnOk result (writable_in options.doubles (bson_view self.now) ≡ true) }
@@ -203,7 +206,8 @@ impl Bson {
         form: Form,
     ) -> Result<String, WriteError>
         ensures text { IfOk result
-            (λ text. IsTextInKeyOrder options.key_order options.doubles (form_in options.layout form) (bson_view self) (string_bytes text)) }
+            (λ text. IsTextInKeyOrder options.key_order options.doubles (form_in options.layout form)
+            (bson_view self) (string_bytes text)) }
         ensures within_type_range { OnOk result (NumbersInRange (bson_view self)) }
         ensures distinct { OnOk result (AllKeysDistinct (bson_view self)) }
         ensures writable { OnOk result (writable_in options.doubles (bson_view self) ≡ true) }
@@ -246,14 +250,17 @@ impl Bson {
         form: Form,
         output: &mut Vec<u8>,
     ) -> Result<(), WriteError>
-        ensures text { IfOk result (λ _. (text : List ℕ) × IsTextInOrder options.doubles (form_in options.layout form) (bson_view self.now) text
+        ensures text { IfOk result (λ _. (text : List ℕ)
+            × IsTextInOrder options.doubles (form_in options.layout form) (bson_view self.now) text
             × (output.new.items ≡ output.old.items ++ text)) }
         ensures unchanged { OnErr result (output.new.items ≡ output.old.items) }
 
         // With enough room memory is never wanting.
-        ensures room { IsAllocationFree (form_in options.layout form) (bson_view self.now) → result ≡ Err WriteError.OutOfMemory
-            → vec_capacity output.old - vec_len output.old < value_capacity options.doubles (form_in options.layout form) (bson_view self.now) }
-        ensures capacity_bound { (text : List ℕ) → IsTextInOrder options.doubles (form_in options.layout form) (bson_view self.now) text
+        ensures room { IsAllocationFree (form_in options.layout form) (bson_view self.now)
+            → result ≡ Err WriteError.OutOfMemory → vec_capacity output.old - vec_len output.old
+            < value_capacity options.doubles (form_in options.layout form) (bson_view self.now) }
+        ensures capacity_bound { (text : List ℕ)
+            → IsTextInOrder options.doubles (form_in options.layout form) (bson_view self.now) text
             → NumbersInRange (bson_view self.now)
             → value_capacity options.doubles (form_in options.layout form) (bson_view self.now) ≤ 2 * length text }
         ensures within_type_range { OnOk result (NumbersInRange (bson_view self.now)) }

@@ -1,7 +1,6 @@
 use Rattle.std.proofs.Common.{subst}
 use Rattle.std.specs.Prelude.{OnOk}
 use Rattle.bson_scalar.specs.View.{scalar_of}
-use Rattle.bson_scalar.specs.Written.{writes_scalar_in}
 use Rattle.bson_model.specs.Normal.{NumbersInRange}
 use Rattle.bson_model.specs.DistinctKeys.{AllKeysDistinct}
 use Rattle.bson.specs.KeyOrders.{writes_in_key_order, writes_scalar_in_key_order}

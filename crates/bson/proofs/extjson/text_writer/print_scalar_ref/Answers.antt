@@ -1,9 +1,8 @@
-use Rattle.std.proofs.Common.{◌≡◌, sym, subst, ◌∙◌}
+use Rattle.std.proofs.Common.{sym, subst, ◌∙◌}
 use Rattle.bson_scalar.specs.View.{scalar_of}
 use Rattle.bson_scalar.specs.Tokens.{AppendsTreeTokens}
 use Rattle.bson.proofs.KeyOrders.{free_alike}
 use Rattle.bson.proofs.Stopped.{put_stopped}
-use Rattle.bson_model.specs.declared.options.KeyOrder.TheVariants.{Ascending, AsGiven}
 use Rattle.bson.proofs.extjson.text_writer.print_scalar_ref.Goals as goal
 
 printed : goal.returns-then-is_allocation_free-clause-printed
