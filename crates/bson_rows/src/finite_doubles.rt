@@ -7,14 +7,15 @@ use crate::row_output::RowOutput;
 use crate::row_values::parse_tree;
 use crate::value_steps;
 use bson::extjson::de::{Result as ReadResult, TextError};
-use bson::extjson::{Doubles, Form, KeyOrder, Options};
+use bson::extjson::{Doubles, Form, Options};
 use bson::{Bson, Document};
 use bson_convert::convert::convert_text;
 use bson_convert::mode::Mode;
 use serde_json::Value;
 use std::alloc::Global;
 
-fn finite_doubles_options() -> Options {
+/// Returns the default options with finite doubles.
+pub(crate) fn finite_doubles_options() -> Options {
     Options {
         doubles: Doubles::Finite,
         ..Options::default()
