@@ -260,9 +260,9 @@ def shown(value):
     return forms.shown(of_texts(value))
 
 
-def in_order(value, is_relaxed):
-    """The text in a form, in which each document has its keys in its own order."""
-    return forms.in_order(of_texts(value), is_relaxed)
+def in_order(value, is_relaxed, is_mongodb):
+    """The text in a form and a layout (forms.py), in which each document has its keys in its own order."""
+    return forms.in_order(of_texts(value), is_relaxed, is_mongodb)
 
 
 def of_texts(value):

@@ -6,8 +6,7 @@ import forms
 from grammar import TAKEN, WRAPPER_KEYS, BadObjectId, NotExtendedJson, meaning
 from json_text import DEEPEST, NotJson, read
 
-FORMS = {'canonical': forms.canonical, 'relaxed': forms.relaxed, 'show': forms.shown}
-MODES = tuple(FORMS)
+MODES = ('canonical', 'relaxed', 'show')
 OK = 'accepted'
 LINES = {
     NotJson: 'bson_cli: not JSON',
@@ -25,7 +24,12 @@ class Judgement:
 
     def answer(self, mode):
         """The output before its newline, or the line of the fault."""
-        return self.line or FORMS[mode](self.value)
+        return self.line or written(mode, self.value)
+
+
+def written(mode, value):
+    """The output of a value before its newline: in MongoDB's layout where finite doubles are taken, by bson_program."""
+    return forms.shown(value) if mode == 'show' else forms.ascending(value, mode == 'relaxed', 'doubles' in TAKEN)
 
 
 def judge(data):

@@ -79,10 +79,12 @@ def moment(ms):
     return (*civil(days + EPOCH), hour, minute, second, millisecond)
 
 
-def rfc3339(ms):
-    """The text of a moment in the years 0000 to 9999: without a fraction where it is zero."""
+def rfc3339(ms, has_three_digits):
+    """The text of a moment in the years 0000 to 9999: without a fraction where it is zero, else with three digits of it or
+    without zeros at its end."""
     year, month, day, hour, minute, second, millisecond = moment(ms)
-    fraction = f'.{millisecond:03}'.rstrip('0') if millisecond else ''
+    fraction = f'.{millisecond:03}' if millisecond else ''
+    fraction = fraction if has_three_digits else fraction.rstrip('0')
     return f'{year:04}-{month:02}-{day:02}T{hour:02}:{minute:02}:{second:02}{fraction}Z'
 
 

@@ -1,8 +1,13 @@
 """What the program writes of a value: the canonical and the relaxed form of Extended JSON v2, and the shown text.
 
-Both forms are compact JSON text, the keys of each object ascending by their bytes. The relaxed form differs in four
-kinds: Int32 and Int64 are plain numbers, a date of the years 1970 to 9999 is a text of RFC 3339, and where finite doubles
-are taken (TAKEN) a finite double is its shortest decimal as a JSON number, a zero too.
+Both forms are compact JSON text, the keys of documents ascending by their bytes or in their order. The relaxed form
+differs in four kinds: Int32 and Int64 are plain numbers, a date of the years 1970 to 9999 is a text of RFC 3339, and where
+finite doubles are taken (TAKEN) a finite double is its shortest decimal as a JSON number, a zero too.
+
+Each form has two layouts. In the specified one the keys of a wrapper ascend, except that `$code` is before `$scope`, and a
+fraction of a second has no zeros at its end. MongoDB's layout is that of libbson and of PyMongo's json_util, with which
+tests/peers compares it: a fraction of a second that is not zero has three digits, and if the keys of documents are in
+their order, `t` is before `i`, `pattern` before `options`, and `$ref` before `$id`.
 """
 import base64
 import json
@@ -20,19 +25,14 @@ class Number(str):
     """A number of JSON as it is written."""
 
 
-def canonical(value):
-    """The compact text of the canonical form."""
-    return compact(tree(value, False), sorted)
+def ascending(value, is_relaxed, is_mongodb):
+    """The compact text of a form in a layout, in which the keys of each object ascend."""
+    return compact(tree(value, is_relaxed, is_mongodb), sorted)
 
 
-def relaxed(value):
-    """The compact text of the relaxed form."""
-    return compact(tree(value, True), sorted)
-
-
-def in_order(value, is_relaxed):
-    """The compact text of a form in which the pairs of each document keep their order, and a wrapper's keys ascend."""
-    return compact(tree(value, is_relaxed), list)
+def in_order(value, is_relaxed, is_mongodb):
+    """The compact text of a form in a layout, in which the pairs of each document keep their order."""
+    return compact(tree(value, is_relaxed, is_mongodb), list)
 
 
 def compact(written, arranged):
@@ -45,30 +45,36 @@ def compact(written, arranged):
     return written if kind is Number else WITHOUT_SPACES(written)
 
 
-def tree(value, is_relaxed):
+def tree(value, is_relaxed, is_mongodb):
     """The tree of a value: null, truth, text, list and document as JSON's own, each other kind in its wrapper."""
     kind, content = value
     if kind in ('Null', 'Boolean', 'String'):
         return content
     if kind == 'Array':
-        return [tree(item, is_relaxed) for item in content]
+        return [tree(item, is_relaxed, is_mongodb) for item in content]
     if kind == 'Document':
-        return object_of(content, is_relaxed)
+        return object_of(content, is_relaxed, is_mongodb)
     if kind == 'JavaScriptCodeWithScope':
         code, scope = content
-        return {'$code': code, '$scope': object_of(scope, is_relaxed)}
+        return {'$code': code, '$scope': object_of(scope, is_relaxed, is_mongodb)}
     if is_relaxed and kind in ('Int32', 'Int64'):
         return content
     if is_relaxed and kind == 'Double' and 'doubles' in TAKEN and content not in NOT_FINITE:
         return Number(content)
     if is_relaxed and kind == 'DateTime' and 0 <= content <= LAST_RELAXED_DATE:
-        return {'$date': dates.rfc3339(content)}
-    key, inner = WRAPPERS[kind]
+        return {'$date': dates.rfc3339(content, is_mongodb)}
+    key, inner = (MONGODB_WRAPPERS if is_mongodb else WRAPPERS)[kind]
     return {key: inner(content)}
 
 
-def object_of(pairs, is_relaxed):
-    return {key: tree(value, is_relaxed) for key, value in pairs}
+def object_of(pairs, is_relaxed, is_mongodb):
+    return {key: tree(value, is_relaxed, is_mongodb) for key, value in pairs}
+
+
+def has_zeros(value):
+    """Whether the relaxed texts of a date differ in the two layouts: its fraction of a second ends in 0, and is not 0."""
+    kind, content = value
+    return kind == 'DateTime' and 0 <= content <= LAST_RELAXED_DATE and content % 1000 > 0 and content % 10 == 0
 
 
 def base64_of(data):
@@ -93,6 +99,15 @@ WRAPPERS = {
     'Undefined': ('$undefined', lambda _: True),
     'DbPointer': ('$dbPointer', lambda pointer: {'$id': {'$oid': pointer[1]}, '$ref': pointer[0]}),
 }
+
+
+def turned(wrapper):
+    """A wrapper whose two keys are the other way round."""
+    key, inner = wrapper
+    return key, lambda content: dict(reversed(inner(content).items()))
+
+
+MONGODB_WRAPPERS = {**WRAPPERS, **{kind: turned(WRAPPERS[kind]) for kind in ('RegularExpression', 'Timestamp', 'DbPointer')}}
 
 
 def shown(value):

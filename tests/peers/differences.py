@@ -1,11 +1,17 @@
 """Which differences between our text of a document and a peer's have a name: docs/DIFFERENCES.md says each in a row.
 
-A text is read with the order of keys kept and numbers as they are written, and compared beside the document, part by
-part. Where the parts of one scalar differ, a rule for its kind has to say just what the peer writes.
+Ours is in MongoDB's layout. A peer's text must have the same bytes, but for blanks between its tokens and for scalars for
+which a rule says what the peer writes: the tree of our text, with these scalars as the peer has them, is written again and
+compared.
 """
-import datetime
 import json
+import re
 import struct
+
+import forms
+
+BLANKS = "blanks"
+WRITTEN = json.JSONEncoder(ensure_ascii=False).encode
 
 
 class Number(str):
@@ -20,43 +26,45 @@ def tree(text):
     return json.loads(text, object_pairs_hook=Pairs, parse_int=Number, parse_float=Number, parse_constant=Number)
 
 
-def parts(value, ours, theirs):
-    """Each part that differs: its kind, its content, and what either text has."""
+def written(it):
+    """The compact text of a tree."""
+    if isinstance(it, Pairs):
+        return "{" + ",".join(f"{WRITTEN(key)}:{written(inner)}" for key, inner in it) + "}"
+    if isinstance(it, list):
+        return "[" + ",".join(map(written, it)) + "]"
+    return it if isinstance(it, Number) else WRITTEN(it)
+
+
+def without_blanks(text):
+    """The text without the blanks that are not in a string."""
+    return re.sub(r'("(?:[^"\\]|\\.)*")|[ \n]+', r"\1", text)
+
+
+def explained(value, ours, theirs, rules, names):
+    """Our tree with the peer's scalars that a rule explains, whose names are added to the list."""
     kind, content = value
     if kind == "Document" and keys(ours) == keys(theirs) is not None:
-        return [it for (_, inner), (_, a), (_, b) in zip(content, ours, theirs) for it in parts(inner, a, b)]
+        return Pairs((key, explained(inner, a, b, rules, names)) for (_, inner), (key, a), (_, b) in zip(content, ours, theirs))
     if kind == "Array" and type(theirs) is list and len(ours) == len(theirs):
-        return [it for inner, a, b in zip(content, ours, theirs) for it in parts(inner, a, b)]
-    if kind == "JavaScriptCodeWithScope" and keys(ours) == keys(theirs) and ours[0] == theirs[0]:
-        return parts(("Document", content[1]), ours[1][1], theirs[1][1])
-    is_same = ours == theirs and type(ours) is type(theirs)
-    return [] if is_same else [(kind, content, ours, theirs)]
+        return [explained(inner, a, b, rules, names) for inner, a, b in zip(content, ours, theirs)]
+    if kind == "JavaScriptCodeWithScope" and keys(ours) == keys(theirs):
+        scope = explained(("Document", content[1]), ours[1][1], theirs[1][1], rules, names)
+        return Pairs([ours[0], (ours[1][0], scope)])
+    if ours == theirs and type(ours) is type(theirs):
+        return ours
+    name = next((name for name, rule in rules.get(kind, {}).items() if rule(content, theirs)), None)
+    names.extend([name] if name else [])
+    return theirs if name else ours
 
 
 def keys(it):
     return [key for key, _ in it] if isinstance(it, Pairs) else None
 
 
-# ---- rules: what a peer writes of a content, beside what we write
-
-LAST_RELAXED_DATE = 253402300799999
-
-
-def wrapped(key, *members):
-    return Pairs([(key, Pairs(members))])
-
+# ---- rules: what a peer writes of a content, and we do not
 
 def pattern_of(text):
     return int.from_bytes(struct.pack(">d", float(text)), "big")
-
-
-def other_order(kind, content, theirs):
-    """The members of a wrapper the other way about."""
-    return theirs == {
-        "Timestamp": lambda: wrapped("$timestamp", ("t", Number(content[0])), ("i", Number(content[1]))),
-        "RegularExpression": lambda: wrapped("$regularExpression", ("pattern", content[0]), ("options", content[1])),
-        "DbPointer": lambda: wrapped("$dbPointer", ("$ref", content[0]), ("$id", Pairs([("$oid", content[1].hex())]))),
-    }[kind]()
 
 
 def double_text(content, theirs):
@@ -69,17 +77,9 @@ def double_number(content, theirs):
     return isinstance(theirs, Number) and not set(".eE").isdisjoint(theirs) and pattern_of(theirs) == content
 
 
-def fraction(content, theirs):
-    """A fraction of a second in three digits."""
-    if not 0 <= content <= LAST_RELAXED_DATE:
-        return False
-    moment = datetime.datetime(1970, 1, 1) + datetime.timedelta(milliseconds=content)
-    return theirs == Pairs([("$date", moment.strftime("%Y-%m-%dT%H:%M:%S.") + f"{content % 1000:03d}Z")])
-
-
 def is_later(content, theirs):
-    """A date past the year 9999 as a text."""
-    return content > LAST_RELAXED_DATE and keys(theirs) == ["$date"] and isinstance(theirs[0][1], str) and "-" in theirs[0][1]
+    """A date past the year 9999 as a string."""
+    return content > forms.LAST_RELAXED_DATE and keys(theirs) == ["$date"] and isinstance(theirs[0][1], str) and "-" in theirs[0][1]
 
 
 def reference(content, theirs):
@@ -88,28 +88,21 @@ def reference(content, theirs):
 
 
 IN_ANY_FORM = {
-    "libbson": {"DbPointer": {"order in $dbPointer": lambda *it: other_order("DbPointer", *it)}},
+    "libbson": {},
     "json_util": {"DbPointer": {"pointers as references": reference},
                   "Undefined": {"undefined as null": lambda _, theirs: theirs is None},
                   "Symbol": {"symbols as strings": lambda content, theirs: theirs == content}},
 }
-IN_BOTH = {"Timestamp": {"order in $timestamp": lambda *it: other_order("Timestamp", *it)},
-           "RegularExpression": {"order in $regularExpression": lambda *it: other_order("RegularExpression", *it)}}
-IN_RELAXED = {
-    "libbson": {"DateTime": {"three digits of a fraction": fraction, "dates past 9999 as texts": is_later}},
-    "json_util": {"DateTime": {"three digits of a fraction": fraction}},
-}
+IN_RELAXED = {"libbson": {"DateTime": {"dates past 9999 as strings": is_later}}, "json_util": {}}
 
 
 def rules(peer, is_relaxed):
     """Of each kind its rules by name."""
-    found = {kind: dict(its) for kind, its in [*IN_BOTH.items(), *IN_ANY_FORM[peer].items()]}
-    found["Double"] = {"layout of doubles": double_number if is_relaxed else double_text}
-    for kind, its in IN_RELAXED[peer].items() if is_relaxed else ():
-        found[kind] = {**its, **found.get(kind, {})}
-    return found
+    double = double_number if is_relaxed else double_text
+    return {"Double": {"layout of doubles": double}, **IN_ANY_FORM[peer], **(IN_RELAXED[peer] if is_relaxed else {})}
 
 
-def name_of(its, content, theirs):
-    """The first rule that says what the peer writes, or None."""
-    return next((name for name, rule in its.items() if rule(content, theirs)), None)
+def names_of(peer):
+    """The names of all differences between its texts and ours."""
+    found = {name for is_relaxed in (False, True) for its in rules(peer, is_relaxed).values() for name in its}
+    return found | ({BLANKS} if peer == "libbson" else set())

@@ -91,9 +91,8 @@ def line_of(line, data):
         return b""
     if line == "show":
         return bson_bytes.shown(value).encode() + b"\n"
-    if line.endswith("_in_order"):
-        return bson_bytes.in_order(value, line.startswith("relaxed")).encode() + b"\n"
-    return getattr(forms, line)(bson_bytes.of_texts(value)).encode() + b"\n"
+    written = forms.in_order if line.endswith("_in_order") else forms.ascending
+    return written(bson_bytes.of_texts(value), line.startswith("relaxed"), is_mongodb=False).encode() + b"\n"
 
 
 def has_length(data):

@@ -153,6 +153,10 @@ fn keep_going_run() -> Run {
 /// `LINE BYTES`: a run that goes on, with finite doubles, and writes this of each document.
 fn write_dump(alloc: Global, text: &str, output_line: &mut RowOutput) -> RowResult {
     let (line, bytes) = split_at_space(text);
+    let (line, base_options) = match line.strip_suffix("_mongodb") {
+        Some(line) => (line, Options::mongodb()),
+        None => (line, Options::default()),
+    };
     let (line, key_order) = match line.strip_suffix("_in_order") {
         Some(line) => (line, KeyOrder::AsGiven),
         None => (line, KeyOrder::Ascending),
@@ -167,7 +171,7 @@ fn write_dump(alloc: Global, text: &str, output_line: &mut RowOutput) -> RowResu
     let options = Options {
         doubles: Doubles::Finite,
         key_order,
-        ..Options::default()
+        ..base_options
     };
     let run_settings = Run {
         options,

@@ -50,6 +50,7 @@ fn run_call_on_date(
     let date_time = parse_date_time(date_time)?;
     match call_name {
         "written" => output_line.write_result(date_time.try_to_rfc3339_string(alloc)),
+        "written_millis" => output_line.write_result(date_time.try_to_rfc3339_millis_string(alloc)),
         "shown" => output_line.write_value(&date_time),
         "order" => output_line.write_ordering(date_time, parse_date_time(remaining_args)?),
         "since" => write_difference(date_time, parse_date_time(remaining_args)?, output_line),

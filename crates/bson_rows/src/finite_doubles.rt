@@ -14,7 +14,8 @@ use bson_convert::mode::Mode;
 use serde_json::Value;
 use std::alloc::Global;
 
-fn finite_doubles_options() -> Options {
+/// Returns the default options with finite doubles.
+pub(crate) fn finite_doubles_options() -> Options {
     Options {
         doubles: Doubles::Finite,
         ..Options::default()

@@ -1,9 +1,9 @@
 //! `json TEXT`, `json wide TEXT`: whether a text is JSON. A wide text has a number out of range.
 //! `is_canonical TEXT`: whether a text is the canonical text of its value, with finite doubles.
 //! `check_canonical TEXT`: the same, and why it is not.
+use crate::finite_doubles::finite_doubles_options;
 use crate::row_error::{RowError, RowResult};
 use crate::row_output::RowOutput;
-use bson::extjson::{Doubles, Options};
 use bson_convert::canonical::{check_canonical, is_canonical_text};
 use bson_convert::error::Error;
 use bson_json::text::is_json;
@@ -29,11 +29,8 @@ pub(crate) fn write_is_canonical(
     text: &str,
     output_line: &mut RowOutput,
 ) -> RowResult {
-    let options = Options {
-        doubles: Doubles::Finite,
-        ..Options::default()
-    };
-    let Ok(is_canonical) = is_canonical_text(alloc, options, text.as_bytes()) else {
+    let Ok(is_canonical) = is_canonical_text(alloc, finite_doubles_options(), text.as_bytes())
+    else {
         return Err(RowError::OutOfMemory);
     };
     output_line.write_str(if is_canonical { "true" } else { "false" });
@@ -45,11 +42,7 @@ pub(crate) fn write_canonical_check(
     text: &str,
     output_line: &mut RowOutput,
 ) -> RowResult {
-    let options = Options {
-        doubles: Doubles::Finite,
-        ..Options::default()
-    };
-    match check_canonical(alloc, options, text.as_bytes()) {
+    match check_canonical(alloc, finite_doubles_options(), text.as_bytes()) {
         Ok(()) => output_line.write_str("canonical"),
         Err(Error::OutOfMemory) => return Err(RowError::OutOfMemory),
         Err(Error::NotCanonical(column)) => output_line.write_display(&column),

@@ -21,6 +21,7 @@ mod finite_doubles;
 mod fnv;
 mod getters;
 mod json_checks;
+mod mongodb_layout;
 mod object_ids;
 mod ordered_keys;
 mod row;

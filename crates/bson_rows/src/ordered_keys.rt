@@ -9,9 +9,8 @@ use bson::Bson;
 use bson::extjson::{Form, KeyOrder, Options};
 use std::alloc::Global;
 
-/// `canonical STEPS`, `relaxed STEPS`, and `finite STEPS`, the canonical form with finite doubles:
-/// the value that the steps make is written. `read TEXT`, and `read_finite TEXT` with finite
-/// doubles: what the text means. `back TEXT`: its canonical text in order.
+/// `canonical STEPS` and `relaxed STEPS`: the value that the steps make is written. `read TEXT`, and
+/// `read_finite TEXT` with finite doubles: what the text means.
 pub(crate) fn run_call(
     alloc: Global,
     remaining_args: &str,
@@ -19,30 +18,10 @@ pub(crate) fn run_call(
 ) -> RowResult {
     let (call_name, steps_or_text) = split_at_space(remaining_args);
     match call_name {
-        "canonical" => write_made_value(
-            alloc,
-            special_doubles_options(),
-            Form::Canonical,
-            steps_or_text,
-            output_line,
-        ),
-        "relaxed" => write_made_value(
-            alloc,
-            special_doubles_options(),
-            Form::Relaxed,
-            steps_or_text,
-            output_line,
-        ),
-        "finite" => write_made_value(
-            alloc,
-            Options::mongodb(),
-            Form::Canonical,
-            steps_or_text,
-            output_line,
-        ),
+        "canonical" => write_made_value(alloc, Form::Canonical, steps_or_text, output_line),
+        "relaxed" => write_made_value(alloc, Form::Relaxed, steps_or_text, output_line),
         "read" => read_in_order(alloc, special_doubles_options(), steps_or_text, output_line),
         "read_finite" => read_in_order(alloc, Options::mongodb(), steps_or_text, output_line),
-        "back" => write_read_text(alloc, steps_or_text, output_line),
         _ => Err(RowError::InvalidRow),
     }
 }
@@ -57,11 +36,11 @@ fn special_doubles_options() -> Options {
 /// Writes the output of the two calls, which must be equal.
 fn write_made_value(
     alloc: Global,
-    options: Options,
     form: Form,
     steps: &str,
     output_line: &mut RowOutput,
 ) -> RowResult {
+    let options = special_doubles_options();
     let value = value_steps::make_value(alloc, steps)?;
     let text_by_reference = value.to_text(alloc, options, form);
     let text = value.into_text(alloc, options, form);
@@ -83,15 +62,4 @@ fn read_in_order(
 ) -> RowResult {
     let read_result = Bson::from_text(alloc, options, text.as_bytes());
     write_text_result(read_result, output_line)
-}
-
-/// Writes the text that is written of what the text means.
-fn write_read_text(alloc: Global, text: &str, output_line: &mut RowOutput) -> RowResult {
-    match Bson::from_text(alloc, Options::mongodb(), text.as_bytes()) {
-        Ok(value) => {
-            output_line.write_result(value.into_text(alloc, Options::mongodb(), Form::Canonical));
-            Ok(())
-        }
-        rejected_text => write_text_result(rejected_text, output_line),
-    }
 }

@@ -4,8 +4,8 @@ use crate::row_error::RowResult;
 use crate::row_output::{RowOutput, Style};
 use crate::{
     binaries, codec, conversions, dates, decimals, documents, doubles, equality, errors,
-    extended_json, finite_doubles, getters, json_checks, object_ids, ordered_keys, small_types,
-    stores, type_tags, value_accessors, vectors,
+    extended_json, finite_doubles, getters, json_checks, mongodb_layout, object_ids, ordered_keys,
+    small_types, stores, type_tags, value_accessors, vectors,
 };
 use std::alloc::Global;
 
@@ -38,6 +38,7 @@ fn run_call(alloc: Global, call_text: &str, output_line: &mut RowOutput) -> RowR
         ),
         "map" => extended_json::write_map(alloc, remaining_args, output_line),
         "finite" => finite_doubles::run_call(alloc, remaining_args, output_line),
+        "mongodb" => mongodb_layout::run_call(alloc, remaining_args, output_line),
         "in_order" => ordered_keys::run_call(alloc, remaining_args, output_line),
         "pretty" => extended_json::write_pretty_text(alloc, remaining_args, output_line),
         "kind" => value_accessors::run_call(alloc, remaining_args, output_line),
