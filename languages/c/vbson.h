@@ -113,12 +113,17 @@ enum vbson_v1 {
     VBSON_V1_ACCEPT = 1  /* accept Extended JSON v1 too */
 };
 
+enum vbson_layout {
+    VBSON_LAYOUT_SPECIFIED = 0, /* no zeros at the end of a fraction of a second, and ascending keys in wrappers */
+    VBSON_LAYOUT_MONGODB = 1    /* dates and wrappers as MongoDB's tools write them: vbson_convert describes it */
+};
+
 /* The options of a call. Start with VBSON_OPTIONS_INIT or with vbson_options_mongodb(), and set the fields that differ. A
  * null pointer to options stands for VBSON_OPTIONS_INIT, which is the behaviour that the specification describes. A call
  * returns VBSON_INVALID_ARGUMENT if the size is not sizeof(vbson_options), if a field is not a value of its enum, or for
  * an option that the call does not accept:
  *   - The calls that convert, encode or decode do not accept VBSON_DUPLICATE_KEYS_REJECT and VBSON_V1_ACCEPT.
- *   - The calls that compare or hash do not accept VBSON_KEYS_AS_GIVEN.
+ *   - The calls that compare or hash do not accept VBSON_KEYS_AS_GIVEN and VBSON_LAYOUT_MONGODB.
  *   - The calls that explain accept every option. */
 typedef struct vbson_options {
     size_t size;             /* sizeof(vbson_options): a later version can have more fields */
@@ -126,16 +131,18 @@ typedef struct vbson_options {
     uint32_t key_order;      /* one of vbson_key_order */
     uint32_t duplicate_keys; /* one of vbson_duplicate_keys */
     uint32_t v1;             /* one of vbson_v1 */
+    uint32_t layout;         /* one of vbson_layout */
 } vbson_options;
 
 #define VBSON_OPTIONS_INIT { sizeof(vbson_options), VBSON_DOUBLES_SPECIAL, VBSON_KEYS_ASCENDING, \
-    VBSON_DUPLICATE_KEYS_LAST_WINS, VBSON_V1_REJECT }
+    VBSON_DUPLICATE_KEYS_LAST_WINS, VBSON_V1_REJECT, VBSON_LAYOUT_SPECIFIED }
 
-/* Returns the options for MongoDB's documents: finite doubles, and keys as given. */
+/* Returns the options of MongoDB's own tools: finite doubles, keys as given, and the tools' layout. */
 static inline vbson_options vbson_options_mongodb(void) {
     vbson_options options = VBSON_OPTIONS_INIT;
     options.doubles = VBSON_DOUBLES_FINITE;
     options.key_order = VBSON_KEYS_AS_GIVEN;
+    options.layout = VBSON_LAYOUT_MONGODB;
     return options;
 }
 
@@ -188,6 +195,10 @@ uint32_t vbson_convert_nonnull(uint32_t mode, const vbson_options *options, cons
  * decimal number under $numberDouble, is read as the nearest double, and rejected if that is not finite. A finite double is
  * written as its shortest decimal: {"$numberDouble":"12.5"} in the canonical form, and 12.5 in the relaxed form, in which a
  * zero is a number too.
+ * VBSON_LAYOUT_MONGODB: the two forms are laid out as mongoexport, bsondump and PyMongo write them. In the relaxed form the
+ * fraction of a second has three digits: "00:00:00.500Z" in place of "00:00:00.5Z". A whole second has no fraction. With
+ * VBSON_KEYS_AS_GIVEN "t" is before "i", "pattern" before "options", and "$ref" before "$id" in their wrappers. Both layouts
+ * denote the same values. The layout changes nothing in VBSON_SHOW.
  * The output can denote another value in two cases: a NaN of Decimal128 loses its sign and its payload, and in the relaxed
  * form an Int64 that fits is read again as an Int32. *out is overwritten: its old block is not freed.
  * VBSON_INVALID_ARGUMENT, VBSON_NOT_JSON, VBSON_BAD_OBJECT_ID, VBSON_NOT_EXTENDED_JSON, VBSON_OUT_OF_MEMORY. */
@@ -235,8 +246,8 @@ static inline void vbson_error_free(vbson_error *error) {
 uint32_t vbson_explain_nonnull(const vbson_options *options, const uint8_t *text, size_t len, vbson_error *out);
 
 /* Finds why, and where, vbson_convert, vbson_same and vbson_hash reject the input under these options. The code is
- * VBSON_OK if and only if they accept it; then the path is an empty array, and the strings are empty. The order of keys
- * changes nothing here, and neither does the mode. The message is that of the status, followed by
+ * VBSON_OK if and only if they accept it; then the path is an empty array, and the strings are empty. The order of keys,
+ * the layout and the mode change nothing here. The message is that of the status, followed by
  *     " at column N (RULE)"     if the input is not JSON. RULE is the broken rule, for example "expected a comma or a
  *                               closing bracket". It is "number out of range" if the grammar holds, and a number is too
  *                               large for a double
@@ -299,8 +310,8 @@ uint32_t vbson_same_nonnull(const vbson_options *options, const uint8_t *left_in
  * VBSON_DOUBLES_FINITE: finite doubles are accepted, as by vbson_convert.
  * VBSON_DUPLICATE_KEYS_REJECT: an input is VBSON_NOT_EXTENDED_JSON if one of its objects has a duplicate key, at any depth.
  * VBSON_V1_ACCEPT: the objects {"$binary": .., "$type": ..} and {"$regex": .., "$options": ..}, and a $date with an offset
- * such as +0100, have their value of Extended JSON v1. VBSON_INVALID_ARGUMENT for VBSON_KEYS_AS_GIVEN, since the order of
- * keys changes nothing here.
+ * such as +0100, have their value of Extended JSON v1. VBSON_INVALID_ARGUMENT for VBSON_KEYS_AS_GIVEN and for
+ * VBSON_LAYOUT_MONGODB, since the order of keys and the layout change nothing here.
  * VBSON_INVALID_ARGUMENT, VBSON_NOT_JSON, VBSON_BAD_OBJECT_ID, VBSON_NOT_EXTENDED_JSON, VBSON_OUT_OF_MEMORY. */
 static inline uint32_t vbson_same(const vbson_options *options, const uint8_t *left_input, size_t left_len,
         const uint8_t *right_input, size_t right_len) {
@@ -337,8 +348,8 @@ uint32_t vbson_explain_document_nonnull(const vbson_options *options, const uint
  * The path is an empty array in both cases. With VBSON_DUPLICATE_KEYS_REJECT, bytes with a duplicate key in a document, at
  * any depth, are not a document; the offset is that of the second key. With VBSON_DOUBLES_FINITE the call also explains
  * vbson_same_documents and vbson_hash_document under these options, and with VBSON_DUPLICATE_KEYS_LAST_WINS too
- * vbson_is_document. The order of keys and VBSON_V1_ACCEPT change nothing. The call reads the bytes again, so use it only
- * after a rejection. *out is overwritten: its old blocks are not freed. VBSON_INVALID_ARGUMENT, VBSON_OUT_OF_MEMORY. */
+ * vbson_is_document. The order of keys, VBSON_V1_ACCEPT and the layout change nothing. The call reads the bytes again, so use
+ * it only after a rejection. *out is overwritten: its old blocks are not freed. VBSON_INVALID_ARGUMENT, VBSON_OUT_OF_MEMORY. */
 static inline uint32_t vbson_explain_document(const vbson_options *options, const uint8_t *bytes, size_t len,
         vbson_error *out) {
     return vbson_explain_document_nonnull(vbson_options_or_init(options), bytes, len, out);
@@ -382,7 +393,8 @@ uint32_t vbson_encode_nonnull(const vbson_options *options, const uint8_t *text,
 
 /* Reads the len bytes as one Extended JSON text, with the options of vbson_convert, and writes the canonical bytes of its
  * document: out->len bytes, followed by a NUL. Keys are in ascending order, or with VBSON_KEYS_AS_GIVEN in that of the
- * input. *out is overwritten: its old block is not freed. vbson_explain reports where input is not Extended JSON.
+ * input. The layout changes nothing in bytes. *out is overwritten: its old block is not freed. vbson_explain reports where
+ * input is not Extended JSON.
  * VBSON_INVALID_ARGUMENT, VBSON_NOT_JSON, VBSON_BAD_OBJECT_ID, VBSON_NOT_EXTENDED_JSON, VBSON_NOT_A_DOCUMENT,
  * VBSON_ZERO_IN_KEY, VBSON_ZERO_IN_REGEX, VBSON_TOO_LONG, VBSON_OUT_OF_MEMORY. */
 static inline uint32_t vbson_encode(const vbson_options *options, const uint8_t *text, size_t len, vbson_buffer *out) {

@@ -30,6 +30,10 @@ static void convert_lines(void) {
     CHECK(gives(VBSON_RELAXED, AS_GIVEN, "{\"b\":1,\"a\":2}\n[1.5]\n", "{\"b\":1,\"a\":2}\n",
         "bson: line 2: not Extended JSON at 0 (not a 64-bit integer; found 1.5)\n", 2, 1));
     CHECK(gives(VBSON_RELAXED, FINITE | AS_GIVEN, "{\"b\":1.5,\"a\":2}", "{\"b\":1.5,\"a\":2}\n", "", 1, 0));
+    const char *moments = "{\"at\":{\"$date\":{\"$numberLong\":\"500\"}}}\n{\"$timestamp\":{\"i\":2,\"t\":1}}\n";
+    CHECK(gives(VBSON_RELAXED, AS_GIVEN | LAYOUT, moments, "{\"at\":{\"$date\":\"1970-01-01T00:00:00.500Z\"}}\n{\"$timestamp\":{\"t\":1,\"i\":2}}\n", "", 2, 0));
+    CHECK(gives(VBSON_RELAXED, LAYOUT, moments, "{\"at\":{\"$date\":\"1970-01-01T00:00:00.500Z\"}}\n{\"$timestamp\":{\"i\":2,\"t\":1}}\n", "", 2, 0));
+    CHECK(gives(VBSON_RELAXED, AS_GIVEN, moments, "{\"at\":{\"$date\":\"1970-01-01T00:00:00.5Z\"}}\n{\"$timestamp\":{\"i\":2,\"t\":1}}\n", "", 2, 0));
     static const uint8_t before[] = "before";
     vbson_lines out = {{before, 7, 6}, {before, 7, 5}, 3, 4};
     CHECK(vbson_convert_lines(3, NULL, TEXT("1"), &out) == VBSON_INVALID_ARGUMENT);
@@ -64,10 +68,12 @@ static void first_lines(void) {
         CHECK(first_of(0, mode, 0, "") == 0 && first_of(0, mode, 0, "\n\n") == 0 && first_of(0, mode, 0, "\xef\xbb\xbf[1]\n \t\r\n{}") == 0);
         CHECK(first_of(0, mode, 0, "[1\n[") == 1 && first_of(0, mode, 0, "\xef\xbb\xbf[\n") == 1 && first_of(0, mode, AS_GIVEN, "\n1\n[1.5]\n[\n") == 3);
         CHECK(first_of(0, mode, FINITE, "\n1\n[1.5]\n[\n") == 4 && first_of(0, mode, FINITE | AS_GIVEN, "\n\xef\xbb\xbf[1]") == 2);
+        CHECK(first_of(0, mode, AS_GIVEN | LAYOUT, "\n1\n[1.5]\n[\n") == 3 && first_of(0, mode, FINITE | LAYOUT, "\n1\n[1.5]\n[\n") == 4);
         CHECK(first_of(0, mode, DISTINCT, "[") == 1001 && first_of(0, mode, V1, "[") == 1001 && first_of(0, 3 + mode, 0, "[") == 1001);
     }
     CHECK(first_of(1, 0, 0, "{\"n\": 5}\n\n{}") == 0 && first_of(1, 0, 0, "{}\n[1]\n[") == 2 && first_of(1, 0, AS_GIVEN, "{\"a\\u0000\":1}\n[") == 1);
     CHECK(first_of(1, 0, 0, "{}\n[\n[1]") == 2 && first_of(1, 0, AS_GIVEN, "{\"a\":1.5}") == 1 && first_of(1, 0, FINITE | AS_GIVEN, "{\"a\":1.5}") == 0);
+    CHECK(first_of(1, 0, AS_GIVEN | LAYOUT, "{\"a\":1.5}") == 1 && first_of(1, 0, FINITE | LAYOUT, "{\"a\":1.5}") == 0);
     CHECK(first_of(1, 0, DISTINCT, "[") == 1001 && first_of(1, 0, V1, "[") == 1001);
 
     /* each, in the rest from the newline of the one before */
@@ -107,6 +113,14 @@ static void decode_documents(void) {
     CHECK(decodes_all(VBSON_RELAXED, 0, block, 12, "{\"n\":5}\n", "", 1, 12));
     CHECK(decodes_all(VBSON_CANONICAL, 0, block, 26, "{\"n\":{\"$numberInt\":\"5\"}}\n{}\n", boolean, 3, 26));
     CHECK(decodes_all(VBSON_SHOW, AS_GIVEN, block, 26, "{ \"n\": 5 }\n{}\n", boolean, 3, 26));
+    static const char moments[] = "\x10\0\0\0\x11t\0\2\0\0\0\1\0\0\0\0" "\x10\0\0\0\x09t\0\xf4\1\0\0\0\0\0\0";
+    const char *laid_out = "{\"t\":{\"$timestamp\":{\"t\":1,\"i\":2}}}\n{\"t\":{\"$date\":\"1970-01-01T00:00:00.500Z\"}}\n";
+    CHECK(decodes_all(VBSON_RELAXED, FINITE | AS_GIVEN | LAYOUT, moments, 32, laid_out, "", 2, 32));
+    CHECK(decodes_all(VBSON_RELAXED, AS_GIVEN | LAYOUT, moments, 32, laid_out, "", 2, 32));
+    laid_out = "{\"t\":{\"$timestamp\":{\"i\":2,\"t\":1}}}\n{\"t\":{\"$date\":\"1970-01-01T00:00:00.500Z\"}}\n";
+    CHECK(decodes_all(VBSON_RELAXED, FINITE | LAYOUT, moments, 32, laid_out, "", 2, 32));
+    laid_out = "{\"t\":{\"$timestamp\":{\"i\":2,\"t\":1}}}\n{\"t\":{\"$date\":\"1970-01-01T00:00:00.5Z\"}}\n";
+    CHECK(decodes_all(VBSON_RELAXED, FINITE | AS_GIVEN, moments, 32, laid_out, "", 2, 32));
     for (size_t len = 13; len < 21; len++) {
         const char *told = len < 16 ? "document 2 at byte 12: ends too early at its byte 0\n" : NULL;
         vbson_documents out = VBSON_DOCUMENTS_INIT;

@@ -110,6 +110,30 @@ static void keep_order(void) {
     CHECK(refuses_with(3, AS_GIVEN, "{}", VBSON_INVALID_ARGUMENT));
 }
 
+static void layout(void) {
+    const char *date = "{\"at\":{\"$date\":{\"$numberLong\":\"500\"}}}", *whole = "{\"$date\":{\"$numberLong\":\"-1000\"}}";
+    const char *stamp = "{\"$timestamp\":{\"t\":1,\"i\":2}}", *sorted_stamp = "{\"$timestamp\":{\"i\":2,\"t\":1}}";
+    const char *regex = "{\"$regularExpression\":{\"pattern\":\"a\",\"options\":\"i\"}}";
+    const char *sorted_regex = "{\"$regularExpression\":{\"options\":\"i\",\"pattern\":\"a\"}}";
+    const char *pointer = "{\"$dbPointer\":{\"$ref\":\"n\",\"$id\":{\"$oid\":\"53e37d08776f724e42000000\"}}}";
+    const char *sorted_pointer = "{\"$dbPointer\":{\"$id\":{\"$oid\":\"53e37d08776f724e42000000\"},\"$ref\":\"n\"}}";
+    for (uint32_t order = 0; order <= AS_GIVEN; order += AS_GIVEN)
+        for (uint32_t mode = VBSON_CANONICAL; mode <= VBSON_RELAXED; mode++) {
+            uint32_t fields = order | LAYOUT;
+            CHECK(converts_with(mode, fields, stamp, order ? stamp : sorted_stamp) && converts_with(mode, order, stamp, sorted_stamp));
+            CHECK(converts_with(mode, fields, sorted_stamp, order ? stamp : sorted_stamp));
+            CHECK(converts_with(mode, fields, regex, order ? regex : sorted_regex) && converts_with(mode, order, regex, sorted_regex));
+            CHECK(converts_with(mode, fields, pointer, order ? pointer : sorted_pointer) && converts_with(mode, order, pointer, sorted_pointer));
+            CHECK(converts_with(mode, fields, date, mode == VBSON_CANONICAL ? date : "{\"at\":{\"$date\":\"1970-01-01T00:00:00.500Z\"}}"));
+            CHECK(converts_with(mode, order, date, mode == VBSON_CANONICAL ? date : "{\"at\":{\"$date\":\"1970-01-01T00:00:00.5Z\"}}"));
+            CHECK(converts_with(mode, fields, whole, whole) && converts_with(mode, fields | FINITE, "[5]", mode == VBSON_CANONICAL ? "[{\"$numberInt\":\"5\"}]" : "[5]"));
+        }
+    CHECK(converts_with(VBSON_RELAXED, LAYOUT, "{\"$date\":\"1970-01-01T00:00:01.000Z\"}", "{\"$date\":\"1970-01-01T00:00:01Z\"}"));
+    CHECK(converts_with(VBSON_RELAXED, LAYOUT, "{\"$date\":\"1970-01-01T00:00:01.05Z\"}", "{\"$date\":\"1970-01-01T00:00:01.050Z\"}"));
+    CHECK(converts_with(VBSON_SHOW, LAYOUT, "{\"$date\":\"1970-01-01T00:00:01.5Z\"}", "DateTime(\"1970-01-01 0:00:01.5 +00:00:00\")"));
+    CHECK(refuses_with(VBSON_RELAXED, LAYOUT, "1.5", VBSON_NOT_EXTENDED_JSON) && refuses_with(3, LAYOUT, "{}", VBSON_INVALID_ARGUMENT));
+}
+
 /* The path of an error as its keys and indexes, each after a '/'. */
 static void print_path(const vbson_error *error, char *words, size_t size) {
     vbson_slice cursor = VBSON_SLICE_INIT, key = VBSON_SLICE_INIT, name = VBSON_SLICE_INIT;
@@ -220,7 +244,8 @@ static void explain(void) {
     CHECK(explains(0, "{\"a\":1}", ""));
     CHECK(explains(AS_GIVEN, "{\"b\":{\"$oid\":\"5\"},\"a\":[1.5]}", "not Extended JSON at a.0 (not a 64-bit integer; found 1.5)"));
     CHECK(explains(FINITE | AS_GIVEN, "[1.5]", ""));
-    CHECK(vbson_explain(with(16), TEXT("{}"), &out) == VBSON_INVALID_ARGUMENT && memcmp(&out, &was, sizeof out) == 0);
+    CHECK(explains(AS_GIVEN | LAYOUT, "[1.5]", "not Extended JSON at 0 (not a 64-bit integer; found 1.5)") && explains(FINITE | LAYOUT, "[1.5]", ""));
+    CHECK(vbson_explain(with(OTHER_SIZE), TEXT("{}"), &out) == VBSON_INVALID_ARGUMENT && memcmp(&out, &was, sizeof out) == 0);
     CHECK(explains(DISTINCT, "{\"a\":[{\"b\":1,\"b\":2}]}", "not Extended JSON at a.0.b (duplicate key)"));
     CHECK(explains(0, "{\"a\":[{\"b\":1,\"b\":2}]}", "") && explains(DISTINCT, "{\"a\":[{\"b\":1},{\"b\":2}]}", ""));
     CHECK(explains(DISTINCT | V1, "[1.5,", "not JSON at column 5 (unexpected end of input)"));
@@ -251,7 +276,7 @@ static void canonical(void) {
     static const char *const texts[] = {"{\"a\":{\"$numberInt\":\"1\"},\"b\":[true]}", "{\"b\":[true],\"a\":{\"$numberInt\":\"1\"}}",
         "{\"a\":1,\"b\":[true]}", "{\"$numberDouble\":\"1.5\"}", "{\"$numberDouble\":\"1.50\"}", "null", "null ", " null", "null\n",
         "\"\\u0061\"", "\"a\"", "{\"a\":null,\"a\":null}", "1.5", "", "!", "{\"$oid\":\"\"}", "{\"$numberInt\":1}"};
-    static const uint32_t none[] = {AS_GIVEN, DISTINCT, FINITE | V1, 16};
+    static const uint32_t none[] = {AS_GIVEN, DISTINCT, FINITE | V1, LAYOUT, FINITE | LAYOUT, OTHER_SIZE};
     for (size_t i = 0; i < sizeof texts / sizeof *texts; i++)
         for (uint32_t fields = 0; fields <= FINITE; fields++) {
             vbson_buffer out = VBSON_BUFFER_INIT;
@@ -288,7 +313,7 @@ static void same_by_options(void) {
     CHECK(vbson_same(with(V1), TEXT("{\"$regex\":\"a\",\"$options\":\"i\"}"),
         TEXT("{\"$regularExpression\":{\"pattern\":\"a\",\"options\":\"i\"}}")) == VBSON_OK);
     CHECK(vbson_same(with(all), TEXT(v1), TEXT(v2)) == VBSON_OK && vbson_same(with(all), TEXT(v1), TEXT(twice)) == VBSON_NOT_EXTENDED_JSON);
-    static const uint32_t none[] = {AS_GIVEN, FINITE | AS_GIVEN, 16, 15, UINT32_MAX};
+    static const uint32_t none[] = {AS_GIVEN, FINITE | AS_GIVEN, 15, LAYOUT, FINITE | LAYOUT, 31, OTHER_SIZE, UINT32_MAX};
     for (size_t i = 0; i < sizeof none / sizeof *none; i++) {
         uint64_t number = 7;
         CHECK(vbson_same(with(none[i]), TEXT("1"), TEXT("1")) == VBSON_INVALID_ARGUMENT && vbson_same(with(none[i]), TEXT("!"), TEXT("!")) == VBSON_INVALID_ARGUMENT);
@@ -331,6 +356,8 @@ static void hash(void) {
 static const uint8_t pair[] = {0x17, 0, 0, 0, 0x10, 'b', 0, 5, 0, 0, 0, 1, 'a', 0, 0, 0, 0, 0, 0, 0, 0xf8, 0x3f, 0};
 static const uint8_t five[] = {12, 0, 0, 0, 0x10, 'a', 0, 5, 0, 0, 0, 0};
 static const uint8_t truth_of_two[] = {9, 0, 0, 0, 8, 'a', 0, 2, 0};
+/* {"ts": timestamp 1, 2, "at": 500 milliseconds after 1970} */
+static const uint8_t stored[] = {29, 0, 0, 0, 0x11, 't', 's', 0, 2, 0, 0, 0, 1, 0, 0, 0, 9, 'a', 't', 0, 0xf4, 1, 0, 0, 0, 0, 0, 0, 0};
 
 static int decodes(uint32_t mode, uint32_t fields, const uint8_t *bytes, size_t len, const char *wanted) {
     vbson_buffer out = VBSON_BUFFER_INIT;
@@ -383,6 +410,14 @@ static void decode(void) {
     CHECK(decodes(VBSON_RELAXED, FINITE | AS_GIVEN, pair, sizeof pair, "{\"b\":5,\"a\":1.5}"));
     CHECK(decodes(VBSON_SHOW, AS_GIVEN, pair, sizeof pair, "{ \"b\": 5, \"a\": Double(0x3ff8000000000000) }"));
     CHECK(refuses_bytes(VBSON_RELAXED, AS_GIVEN, pair, sizeof pair, VBSON_NOT_REPRESENTABLE));
+    const char *stamp = "{\"ts\":{\"$timestamp\":{\"t\":1,\"i\":2}},\"at\":{\"$date\":\"1970-01-01T00:00:00.500Z\"}}";
+    CHECK(decodes(VBSON_RELAXED, FINITE | AS_GIVEN | LAYOUT, BYTES(stored), stamp) && decodes(VBSON_RELAXED, AS_GIVEN | LAYOUT, BYTES(stored), stamp));
+    stamp = "{\"ts\":{\"$timestamp\":{\"i\":2,\"t\":1}},\"at\":{\"$date\":\"1970-01-01T00:00:00.5Z\"}}";
+    CHECK(decodes(VBSON_RELAXED, FINITE | AS_GIVEN, BYTES(stored), stamp) && decodes(VBSON_RELAXED, AS_GIVEN, BYTES(stored), stamp));
+    stamp = "{\"at\":{\"$date\":\"1970-01-01T00:00:00.500Z\"},\"ts\":{\"$timestamp\":{\"i\":2,\"t\":1}}}";
+    CHECK(decodes(VBSON_RELAXED, FINITE | LAYOUT, BYTES(stored), stamp) && decodes(VBSON_RELAXED, LAYOUT, BYTES(stored), stamp));
+    stamp = "{\"ts\":{\"$timestamp\":{\"t\":1,\"i\":2}},\"at\":{\"$date\":{\"$numberLong\":\"500\"}}}";
+    CHECK(decodes(VBSON_CANONICAL, FINITE | AS_GIVEN | LAYOUT, BYTES(stored), stamp) && decodes(VBSON_CANONICAL, AS_GIVEN | LAYOUT, BYTES(stored), stamp));
     CHECK(refuses_bytes(VBSON_RELAXED, 4, five, sizeof five, VBSON_INVALID_ARGUMENT));
     CHECK(refuses_bytes(UINT32_MAX, UINT32_MAX, five, 0, VBSON_INVALID_ARGUMENT));
     for (size_t len = 0; len < sizeof five; len++) {
@@ -406,7 +441,7 @@ static void explain_document(void) {
         CHECK(explains_bytes(i % 2, (const uint8_t *)none[i].bytes, none[i].len, VBSON_NOT_A_DOCUMENT, none[i].words));
     }
     CHECK(explains_bytes(0, truth_of_two, sizeof truth_of_two, VBSON_NOT_A_DOCUMENT, "not a document at byte 7 (a boolean is neither 0 nor 1)"));
-    CHECK(explains_bytes(0, five, sizeof five, VBSON_OK, "") && explains_bytes(15, five, sizeof five, VBSON_OK, ""));
+    CHECK(explains_bytes(0, five, sizeof five, VBSON_OK, "") && explains_bytes(31, five, sizeof five, VBSON_OK, ""));
     CHECK(explains_bytes(FINITE, pair, sizeof pair, VBSON_OK, ""));
     CHECK(explains_bytes(AS_GIVEN | V1, pair, sizeof pair, VBSON_NOT_REPRESENTABLE, "not representable (a finite double)"));
     static const uint8_t twice[] = {0x13, 0, 0, 0, 0x10, 'b', 0, 5, 0, 0, 0, 0x10, 'b', 0, 6, 0, 0, 0, 0};
@@ -414,7 +449,8 @@ static void explain_document(void) {
     CHECK(explains_bytes(DISTINCT, twice, sizeof twice, VBSON_NOT_A_DOCUMENT, "not a document at byte 12 (duplicate key)"));
     const vbson_error was = {77, 7, 8, 9, {kept, 7, 6}, {kept, 6, 5}, {kept, 5, 4}};
     vbson_error out = was;
-    CHECK(vbson_explain_document(with(16), BYTES(five), &out) == VBSON_INVALID_ARGUMENT && memcmp(&out, &was, sizeof out) == 0);
+    CHECK(explains_bytes(LAYOUT, pair, sizeof pair, VBSON_NOT_REPRESENTABLE, "not representable (a finite double)"));
+    CHECK(vbson_explain_document(with(OTHER_SIZE), BYTES(five), &out) == VBSON_INVALID_ARGUMENT && memcmp(&out, &was, sizeof out) == 0);
     CHECK(vbson_explain_document(with(UINT32_MAX), five, 0, &out) == VBSON_INVALID_ARGUMENT && memcmp(&out, &was, sizeof out) == 0);
 }
 
@@ -442,6 +478,8 @@ static void encode(void) {
     CHECK(refuses_text(AS_GIVEN, "{\"b\":5,\"a\":1.5}", VBSON_NOT_EXTENDED_JSON));
     CHECK(refuses_text(AS_GIVEN, "[{}]", VBSON_NOT_A_DOCUMENT));
     CHECK(refuses_text(AS_GIVEN, "{\"b\\u0000\":1,\"a\":{\"$regularExpression\":{\"pattern\":\"\\u0000\",\"options\":\"\"}}}", VBSON_ZERO_IN_KEY));
+    CHECK(encodes(FINITE | AS_GIVEN | LAYOUT, "{\"b\":5,\"a\":1.5}", pair, sizeof pair) && encodes(FINITE | LAYOUT, "{\"b\":5,\"a\":1.5}", sorted, sizeof sorted));
+    CHECK(encodes(AS_GIVEN | LAYOUT, "{\"ts\":{\"$timestamp\":{\"i\":2,\"t\":1}},\"at\":{\"$date\":\"1970-01-01T00:00:00.5Z\"}}", BYTES(stored)));
     CHECK(refuses_text(4, "{}", VBSON_INVALID_ARGUMENT));
     CHECK(refuses_text(UINT32_MAX, "!", VBSON_INVALID_ARGUMENT));
     CHECK(refuses_text(0, "{", VBSON_NOT_JSON));
@@ -574,8 +612,8 @@ static void same_documents(void) {
     static const uint8_t empty[] = {5, 0, 0, 0, 0};
     uint32_t all = FINITE | DISTINCT | V1, strict = DISTINCT;
     uint64_t number = 0;
-    for (uint32_t fields = 0; fields < 17; fields++) {
-        int is_none = fields > 15 || (fields & AS_GIVEN) != 0;
+    for (uint32_t fields = 0; fields <= OTHER_SIZE; fields++) {
+        int is_none = fields == OTHER_SIZE || (fields & (AS_GIVEN | LAYOUT)) != 0;
         CHECK(vbson_same_documents(with(fields), BYTES(pair), BYTES(sorted)) == (is_none ? VBSON_INVALID_ARGUMENT : VBSON_OK));
         CHECK(vbson_same_documents(with(fields), BYTES(pair), BYTES(empty)) == (is_none ? VBSON_INVALID_ARGUMENT : VBSON_DIFFERENT));
         number = 7;
@@ -635,21 +673,22 @@ static void options(void) {
     const vbson_options specified = VBSON_OPTIONS_INIT, mongodb = vbson_options_mongodb();
     CHECK(rejecting(NULL) == 0 && rejecting(&specified) == 0 && rejecting(&mongodb) == READS);
     CHECK(mongodb.doubles == VBSON_DOUBLES_FINITE && mongodb.key_order == VBSON_KEYS_AS_GIVEN && mongodb.duplicate_keys == 0 && mongodb.v1 == 0);
-    for (uint32_t fields = 0; fields < 16; fields++) {
-        int wanted = ((fields & (DISTINCT | V1)) != 0 ? WRITES : 0) | ((fields & AS_GIVEN) != 0 ? READS : 0);
+    CHECK(mongodb.layout == VBSON_LAYOUT_MONGODB && specified.layout == VBSON_LAYOUT_SPECIFIED && sizeof specified == 32);
+    for (uint32_t fields = 0; fields < OTHER_SIZE; fields++) {
+        int wanted = ((fields & (DISTINCT | V1)) != 0 ? WRITES : 0) | ((fields & (AS_GIVEN | LAYOUT)) != 0 ? READS : 0);
         CHECK(rejecting(with(fields)) == wanted);
     }
-    static const size_t sizes[] = {0, 1, 8, sizeof specified - 1, sizeof specified + 1, 2 * sizeof specified, SIZE_MAX};
+    static const size_t sizes[] = {0, 1, 8, 24, 28, sizeof specified - 1, sizeof specified + 1, 2 * sizeof specified, SIZE_MAX};
     for (size_t i = 0; i < sizeof sizes / sizeof *sizes; i++) {
         vbson_options it = mongodb;
         it.size = sizes[i];
         CHECK(rejecting(&it) == (WRITES | READS | EXPLAINS));
     }
     static const uint32_t values[] = {2, 3, 256, 1u << 31, UINT32_MAX};
-    for (size_t i = 0; i < 4 * sizeof values / sizeof *values; i++) {
+    for (size_t i = 0; i < 5 * sizeof values / sizeof *values; i++) {
         vbson_options it = VBSON_OPTIONS_INIT;
-        uint32_t *const fields[] = {&it.doubles, &it.key_order, &it.duplicate_keys, &it.v1};
-        *fields[i % 4] = values[i / 4];
+        uint32_t *const fields[] = {&it.doubles, &it.key_order, &it.duplicate_keys, &it.v1, &it.layout};
+        *fields[i % 5] = values[i / 5];
         CHECK(rejecting(&it) == (WRITES | READS | EXPLAINS));
     }
 }
@@ -660,6 +699,7 @@ int main(void) {
     convert_refused();
     convert_options();
     keep_order();
+    layout();
     explain();
     errors();
     same();

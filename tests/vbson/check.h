@@ -20,15 +20,16 @@ static int passed, failed;
 #define BYTES(it) (it), sizeof(it)
 
 /* The options with 1 in these fields. Without a field it is the null pointer, and any other number has another size. */
-enum { FINITE = 1, AS_GIVEN = 2, DISTINCT = 4, V1 = 8 };
+enum { FINITE = 1, AS_GIVEN = 2, DISTINCT = 4, V1 = 8, LAYOUT = 16, OTHER_SIZE = 32 };
 
-#define FIELDS(it) {sizeof(vbson_options), (it) & FINITE, ((it) & AS_GIVEN) / AS_GIVEN, ((it) & DISTINCT) / DISTINCT, ((it) & V1) / V1}
+#define FIELDS(it) {sizeof(vbson_options), (it) & FINITE, ((it) & AS_GIVEN) / AS_GIVEN, ((it) & DISTINCT) / DISTINCT, ((it) & V1) / V1, ((it) & LAYOUT) / LAYOUT}
+#define FOUR_FIELDS(it) FIELDS(it), FIELDS((it) + 1), FIELDS((it) + 2), FIELDS((it) + 3)
 
 static inline const vbson_options *with(uint32_t fields) {
-    static const vbson_options made[] = {FIELDS(0), FIELDS(1), FIELDS(2), FIELDS(3), FIELDS(4), FIELDS(5), FIELDS(6), FIELDS(7),
-        FIELDS(8), FIELDS(9), FIELDS(10), FIELDS(11), FIELDS(12), FIELDS(13), FIELDS(14), FIELDS(15)};
-    static const vbson_options of_another_size = {sizeof(vbson_options) + 1, 0, 0, 0, 0};
-    if (fields >= sizeof made / sizeof *made) return &of_another_size;
+    static const vbson_options made[] = {FOUR_FIELDS(0), FOUR_FIELDS(4), FOUR_FIELDS(8), FOUR_FIELDS(12), FOUR_FIELDS(16), FOUR_FIELDS(20),
+        FOUR_FIELDS(24), FOUR_FIELDS(28)};
+    static const vbson_options of_another_size = {sizeof(vbson_options) + 1, 0, 0, 0, 0, 0};
+    if (fields >= OTHER_SIZE) return &of_another_size;
     return fields == 0 ? NULL : &made[fields];
 }
 

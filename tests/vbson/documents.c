@@ -7,7 +7,7 @@
 static const char *const calls[] = {"canonical ", "relaxed ", "show ", "encode ", "explain ", "is "};
 enum { CALLS = sizeof calls / sizeof *calls, NOT_UNDERSTOOD = 1000 };
 
-static const vbson_options finite = {sizeof(vbson_options), VBSON_DOUBLES_FINITE, 0, 0, 0};
+static const vbson_options finite = {sizeof(vbson_options), VBSON_DOUBLES_FINITE, 0, 0, 0, 0};
 
 static unsigned digit(char c) { return (unsigned)(c <= '9' ? c - '0' : c - 'a' + 10); }
 

@@ -1,4 +1,5 @@
 """Each call of the package vbson on texts, bytes and scalars. The last line is 'N passed, M failed'."""
+import ctypes
 import datetime
 import decimal
 import struct
@@ -116,6 +117,55 @@ def try_order():
         raises(f"keep_order {it!r} of bytes", TypeError, vbson.decode, document, keep_order=it)
         raises(f"keep_order {it!r} of lines", TypeError, vbson.convert_lines, b"", keep_order=it)
         raises(f"keep_order {it!r} to bytes", TypeError, vbson.encode, "{}", keep_order=it)
+
+
+def try_layout():
+    date, stamp = '{"at":{"$date":{"$numberLong":"500"}}}', '{"$timestamp":{"t":1,"i":2}}'
+    other_date, other_stamp = '{"at":{"$date":"1970-01-01T00:00:00.5Z"}}', '{"$timestamp":{"i":2,"t":1}}'
+    relaxed, without = '{"at":{"$date":"1970-01-01T00:00:00.500Z"}}', {"mongodb_layout": False}
+    want("a date", (vbson.convert(date, "relaxed"), vbson.convert(date, "canonical")), (relaxed, date))
+    want("a date of the specification", vbson.convert(date, "relaxed", **without), other_date)
+    want("a date with sorted keys", vbson.convert(date, "relaxed", **SORTED), relaxed)
+    for mode in ("canonical", "relaxed"):
+        want(f"a timestamp in the {mode} form", vbson.convert(other_stamp, mode), stamp)
+        want(f"a timestamp of the specification in the {mode} form", vbson.convert(stamp, mode, **without), other_stamp)
+        want(f"a timestamp with sorted keys in the {mode} form", vbson.convert(stamp, mode, **SORTED), other_stamp)
+    block = f"{date}\n{stamp}\n"
+    want("lines", vbson.convert_lines(block, "relaxed"), (f"{relaxed}\n{stamp}\n".encode(), []))
+    want("lines of the specification", vbson.convert_lines(block, "relaxed", **without), (f"{other_date}\n{other_stamp}\n".encode(), []))
+    document = vbson.encode(f'{{"b":{stamp},"a":{date}}}')
+    laid_out, other = f'{{"b":{stamp},"a":{relaxed}}}', f'{{"b":{other_stamp},"a":{other_date}}}'
+    want("bytes have no layout", vbson.encode(laid_out, **without), document)
+    want("a document", (vbson.decode(document, "relaxed"), vbson.decode(document, "relaxed", **without)), (laid_out, other))
+    want("a dump", vbson.decode_documents(document * 2, "relaxed"), (2 * f"{laid_out}\n".encode(), []))
+    want("a dump of the specification", vbson.decode_documents(document, "relaxed", **without), (f"{other}\n".encode(), []))
+    value = vbson.loads(laid_out)
+    want("a value", (vbson.dumps(value, "relaxed"), vbson.dumps(value, "relaxed", **without)), (laid_out, other))
+    want("shown", vbson.convert(stamp, "show"), vbson.convert(stamp, "show", **without))
+    want("the same", (vbson.same(laid_out, other), vbson.hash_of(laid_out, **without) == vbson.hash_of(other)), (True, True))
+    for call, given in ((vbson.hash_of, date), (vbson.is_canonical_text, date), (vbson.explain, date), (vbson.hash_of_document, document),
+                        (vbson.is_document, document), (vbson.explain_document, document), (vbson.encode, date), (vbson.loads, date)):
+        want(f"{call.__name__} with no layout", call(given, **without), call(given, mongodb_layout=True))
+
+
+def try_struct():
+    """The struct of the options, whose size and fields no keyword can make wrong."""
+    calls, library, document = vbson._calls, ctypes.CDLL(vbson._calls.path()), vbson.encode("{}")
+
+    def statuses(*fields):
+        options, found = calls.Options(*fields), []
+        for call, given in ((library.vbson_convert_nonnull, b"{}"), (library.vbson_decode_nonnull, document)):
+            out = calls.empty()
+            found.append(call(ctypes.c_uint32(vbson.RELAXED), ctypes.byref(options), given, ctypes.c_size_t(len(given)), ctypes.byref(out)))
+            if found[-1] == vbson.OK:
+                calls.taken(out)
+        return found
+
+    want("its size", ctypes.sizeof(calls.Options), 32)
+    for fields in ((32, 0, 0, 0, 0, 0), (32, 0, 0, 0, 0, 1), (32, 1, 1, 0, 0, 1)):
+        want(f"the options {fields}", statuses(*fields), [vbson.OK] * 2)
+    for fields in ((32, 0, 0, 0, 0, 2), (32, 0, 0, 0, 0, 2**32 - 1), (24, 0, 0, 0, 0, 0), (24, 1, 1, 0, 0, 1), (28, 0, 0, 0, 0, 0), (40, 0, 0, 0, 0, 0)):
+        want(f"no options {fields}", statuses(*fields), [vbson.INVALID_ARGUMENT] * 2)
 
 
 def try_hashes():
@@ -383,6 +433,8 @@ want("version", vbson.version(), signatures.version())
 try_texts()
 try_doubles()
 try_order()
+try_layout()
+try_struct()
 try_hashes()
 try_canonical()
 try_reading()

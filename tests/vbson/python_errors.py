@@ -125,7 +125,8 @@ def try_options():
                                    vbson.loads_lines, lambda given, **options: vbson.same(given, given, **options))]
     calls += [(it, document) for it in (vbson.decode, vbson.decode_documents, vbson.is_document, vbson.explain_document, vbson.hash_of_document, vbson.loads_documents)]
     for call, given in calls:
-        want(f"{call.__name__} with its defaults", call(given, doubles=True, keep_order=True, reject_duplicate_keys=False, legacy=False), call(given))
+        want(f"{call.__name__} with its defaults", call(given, doubles=True, keep_order=True, reject_duplicate_keys=False, legacy=False, mongodb_layout=True), call(given))
+        want(f"{call.__name__} with another layout", call(given, mongodb_layout=False), call(given))
         raises(f"{call.__name__} with another option", TypeError, call, given, sorted=True)
         for name in vbson.Options.__annotations__:
             raises(f"{call.__name__} with {name} that is no bool", TypeError, call, given, **{name: 1})

@@ -25,10 +25,10 @@ TEXTS = (
     ('{"$binary":{"base64":"AA==","subType":"04"}}', Binary(b"\0", 4)), ('{"$undefined":true}', Undefined()),
     ('{"$oid":"53e37d08776f724e42000000"}', ObjectId(ID)), ('{"$date":{"$numberLong":"-1"}}', datetime.datetime(1969, 12, 31, 23, 59, 59, 999000, UTC)),
     ('{"$date":{"$numberLong":"253402300800000"}}', DatetimeMS(253402300800000)),
-    ('{"$regularExpression":{"options":"im","pattern":"a("}}', Regex("a(", "im")),
-    ('{"$dbPointer":{"$id":{"$oid":"53e37d08776f724e42000000"},"$ref":"n"}}', DBPointer("n", ObjectId(ID))),
+    ('{"$regularExpression":{"pattern":"a(","options":"im"}}', Regex("a(", "im")),
+    ('{"$dbPointer":{"$ref":"n","$id":{"$oid":"53e37d08776f724e42000000"}}}', DBPointer("n", ObjectId(ID))),
     ('{"$code":"f"}', Code("f")), ('{"$code":"f","$scope":{"x":{"$numberInt":"1"}}}', Code("f", {"x": 1})), ('{"$symbol":"s"}', Symbol("s")),
-    ('{"$timestamp":{"i":2,"t":4294967295}}', Timestamp(4294967295, 2)), ('{"$numberDecimal":"19.90"}', decimal.Decimal("19.90")),
+    ('{"$timestamp":{"t":4294967295,"i":2}}', Timestamp(4294967295, 2)), ('{"$numberDecimal":"19.90"}', decimal.Decimal("19.90")),
     ('{"$numberDecimal":"-0E-6176"}', decimal.Decimal("-0E-6176")), ('{"$minKey":1}', MinKey()), ('{"$maxKey":1}', MaxKey()),
     ('{"$ref":"n","$id":{"$numberInt":"1"}}', {"$ref": "n", "$id": 1}),
 )
@@ -52,7 +52,7 @@ def try_plain():
     want("an id's text", str(ObjectId(ID)), ID.hex())
     for value, text in (((1, (2,)), "[1,[2]]"), (bytearray(b"a"), '{"$binary":{"base64":"YQ==","subType":"00"}}'), (2**31, "2147483648"),
                         (memoryview(b"a"), '{"$binary":{"base64":"YQ==","subType":"00"}}'), (Int64(1), "1"),
-                        (re.compile("a", re.I | re.X), '{"$regularExpression":{"options":"ix","pattern":"a"}}')):
+                        (re.compile("a", re.I | re.X), '{"$regularExpression":{"pattern":"a","options":"ix"}}')):
         want(f"{value!r} in the relaxed form", vbson.dumps(value, "relaxed", types="plain"), text)
     for value, error in ((object(), vbson.UnsupportedType), ({1: 2}, vbson.UnsupportedType), ([datetime.time()], vbson.UnsupportedType),
                          (2**63, vbson.IntegerTooLarge), (-2**63 - 1, vbson.IntegerTooLarge), ({"a\0": 1}, vbson.NotEncodable), (Regex("\0"), vbson.NotEncodable),
@@ -120,13 +120,23 @@ def try_bson():
     try_damaged("bson")
     for text, value in (('{"$oid":"53e37d08776f724e42000000"}', TheirId(ID)), ('{"$numberLong":"5"}', TheirInt64(5)),
                         ('{"$numberDecimal":"19.90"}', Decimal128("19.90")), ('{"$binary":{"base64":"AQI=","subType":"80"}}', TheirBinary(b"\1\2", 128)),
-                        ('{"$regularExpression":{"options":"im","pattern":"a("}}', TheirRegex("a(", "im")),
-                        ('{"$timestamp":{"i":2,"t":1}}', TheirTimestamp(1, 2)), ('{"$code":"f","$scope":{"x":null}}', TheirCode("f", {"x": None})),
+                        ('{"$regularExpression":{"pattern":"a(","options":"im"}}', TheirRegex("a(", "im")),
+                        ('{"$timestamp":{"t":1,"i":2}}', TheirTimestamp(1, 2)), ('{"$code":"f","$scope":{"x":null}}', TheirCode("f", {"x": None})),
                         ('{"$minKey":1}', TheirMinKey()), ('{"$ref":"n","$id":{"$numberInt":"1"}}', DBRef("n", 1)),
                         ('[{"$ref":"n","$id":{"$numberInt":"1"}}]', [DBRef("n", 1)])):
         want(f"{text} there, bson", vbson.loads(text, "bson"), value)
         want(f"{text} and back, bson", vbson.dumps(value, types="bson"), text)
     import bson
+    from bson import json_util
+    moments = [datetime.datetime.fromtimestamp(millis / 1000, UTC) for millis in (0, 500, 5, 120, 123, 1000, 253402300799000, -1)]
+    value = {"at": moments, "stamp": TheirTimestamp(1, 2), "regex": TheirRegex("a(", "im"), "id": TheirId(ID), "n": [5, TheirInt64(5), 1.5, True, None],
+             "code": TheirCode("f", {"x": "y"}), "bytes": TheirBinary(b"\1\2", 128), "price": Decimal128("19.90"), "min": TheirMinKey()}
+    for form, options in (("canonical", json_util.CANONICAL_JSON_OPTIONS), ("relaxed", json_util.RELAXED_JSON_OPTIONS)):
+        wanted = json_util.dumps(value, json_options=options, separators=(",", ":"))
+        want(f"the {form} form of json_util", vbson.dumps(value, form, "bson"), wanted)
+        want(f"the {form} form of json_util from bytes", vbson.decode(bson.encode(value), form), wanted)
+        want(f"the {form} form of json_util from text", vbson.convert(wanted, form), wanted)
+        want(f"the {form} form with another layout", vbson.dumps(value, form, "bson", mongodb_layout=False) == wanted, False)
     zone = datetime.timezone(datetime.timedelta(hours=-5, minutes=-30))
     for moment in (datetime.datetime(2020, 1, 1), datetime.datetime(1969, 12, 31, 23, 59, 59, 999999), datetime.datetime(1, 1, 1, 0, 0, 0, 1),
                    datetime.datetime(9999, 12, 31, 23, 59, 59, 999999, UTC), datetime.datetime(1960, 2, 29, 1, 2, 3, 4567, zone)):

@@ -38,7 +38,7 @@ static const char *const texts[] = {
     "\"k\":{\"$uuid\":\"c8edabc3-f738-4ca3-b68d-ab92a91478a3\"},\"l\":{\"$numberDouble\":\"-Infinity\"}}",
     "[1,{\"$oid\":\"53e3\"}]", "[{\"a\":[1.5]}]", "{\"a\":[\"b\"", "[]", "\"a\\u0000b\"",
     "{\"a\":{\"b\":1,\"b\":{\"$binary\":\"AQI=\",\"$type\":\"0\"}}}"};
-enum { TEXTS = sizeof texts / sizeof *texts, KINDS = 33 };
+enum { TEXTS = sizeof texts / sizeof *texts, KINDS = 37 };
 
 /* What a call of each kind answers, and all that it can write. */
 struct answer {
@@ -141,7 +141,11 @@ static struct answer call(int kind, const char *text, long number) {
     else if (kind == 29) it.status = vbson_is_canonical_text(with(FINITE), TEXT(text));
     else if (kind == 30) it.status = vbson_first_rejected_line(VBSON_RELAXED, with(AS_GIVEN), TEXT(text), &it.number);
     else if (kind == 31) it.status = vbson_first_unencoded_line(NULL, TEXT(text), &it.number);
-    else it.status = vbson_hash_document(NULL, document.bytes, document.len, &it.number);
+    else if (kind == 32) it.status = vbson_hash_document(NULL, document.bytes, document.len, &it.number);
+    else if (kind == 33) it.status = vbson_convert(VBSON_RELAXED, with(LAYOUT), TEXT(text), &it.text);
+    else if (kind == 34) it.status = vbson_decode(VBSON_RELAXED, with(FINITE | AS_GIVEN | LAYOUT), document.bytes, document.len, &it.text);
+    else if (kind == 35) it.status = convert_lines(FINITE | AS_GIVEN | LAYOUT, text, &it);
+    else it.status = decode_documents(AS_GIVEN | LAYOUT, &it);
     refused = 0;
     return it;
 }

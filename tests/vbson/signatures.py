@@ -125,7 +125,7 @@ def option_values():
 
 
 # What stands for them in Python: a bit for each field of the struct, in their order.
-FLAGS = {"DOUBLES": 1, "KEEP_ORDER": 2, "REJECT_DUPLICATE_KEYS": 4, "LEGACY": 8}
+FLAGS = {"DOUBLES": 1, "KEEP_ORDER": 2, "REJECT_DUPLICATE_KEYS": 4, "LEGACY": 8, "MONGODB_LAYOUT": 16}
 
 
 def answers(contract):
@@ -241,8 +241,8 @@ def block_fault(name, file, numbers):
 RAW = {
     "vbson_options": tuple(
         [f"pub struct {it} {{\n    pub size: usize,\n    pub doubles: u32,\n    pub key_order: u32,\n    pub duplicate_keys: u32,\n"
-         "    pub v1: u32,\n}" for it in ("CallOptions", "RawOptions")]
-        + [["size_t size", "uint32_t doubles", "uint32_t key_order", "uint32_t duplicate_keys", "uint32_t v1"]]),
+         "    pub v1: u32,\n    pub layout: u32,\n}" for it in ("CallOptions", "RawOptions")]
+        + [["size_t size", "uint32_t doubles", "uint32_t key_order", "uint32_t duplicate_keys", "uint32_t v1", "uint32_t layout"]]),
     "vbson_slice": ("pub struct Slice<'a> {\n    pub bytes: &'a [u8],\n}",
                     "pub struct RawSlice {\n    pub bytes: *const u8,\n    pub len: usize,\n}",
                     ["const uint8_t *bytes", "size_t len"]),

@@ -72,16 +72,17 @@ static void *calls(void *kind) {
     if (it < 3) status = vbson_convert((uint32_t)it, NULL, TEXT(text), &out);
     else if (it == 3) status = vbson_same(with(ALL_READ), TEXT(text), TEXT(text));
     else if (it == 4) status = vbson_hash(with(ALL_READ), TEXT(text), &number);
-    else if (it == 5) status = vbson_convert(VBSON_CANONICAL, with(FINITE), TEXT(text), &out);
+    else if (it == 5) status = vbson_convert(VBSON_CANONICAL, with(FINITE | LAYOUT), TEXT(text), &out);
     else if (it == 6) status = explain_status(1);
     else if (it == 13) status = lines_status(FINITE);
     else if (it == 14) status = lines_status(AS_GIVEN);
-    else if (it == 15) status = vbson_convert(VBSON_CANONICAL, with(AS_GIVEN), TEXT(text), &out);
+    else if (it == 15) status = vbson_convert(VBSON_CANONICAL, with(AS_GIVEN | LAYOUT), TEXT(text), &out);
     else if (it == 16) status = vbson_encode(with(AS_GIVEN), TEXT(text), &out);
     else if (it == 17) status = vbson_decode(VBSON_CANONICAL, with(AS_GIVEN), document, document_len, &out);
     else if (it == 18) status = vbson_same_documents(NULL, document, document_len, document, document_len);
     else if (it == 19) status = vbson_hash_document(with(DISTINCT), document, document_len, &number);
     else if (it == 20) status = appended_status();
+    else if (it == 21) status = vbson_decode(VBSON_RELAXED, with(FINITE | AS_GIVEN | LAYOUT), document, document_len, &out);
     else if (it == 7) status = vbson_encode(NULL, TEXT(text), &out);
     else if (it == 8) status = vbson_is_document(document, document_len);
     else if (it == 9) status = explain_status(0);
@@ -135,7 +136,7 @@ static void all_of_documents(uint32_t wanted) {
         count(kind);
         CHECK(status == (kind == 9 ? VBSON_OK : wanted));
     }
-    for (int kind = 17; kind < 21; kind++) {
+    for (int kind = 17; kind < 22; kind++) {
         count(kind);
         CHECK(status == wanted);
     }

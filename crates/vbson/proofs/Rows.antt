@@ -2,6 +2,7 @@
 -- together with its code is refused here.
 use Rattle.std.proofs.Common.{◌≡◌, ℕ, Some, None, true, false, refl}
 use Rattle.bson.specs.Doubles.TheVariants.{Special, Finite}
+use Rattle.bson_scalar.specs.declared.form.Layout.TheVariants.{Specified, MongoDb}
 use Rattle.bson_tree.specs.declared.place.Reason.TheVariants.{BadObjectId, WrongShape}
 use Rattle.bson_model.specs.NamedOptions.{default_options, mongodb_options}
 use Rattle.bson_convert.specs.declared.mode.Mode.TheVariants as mode
@@ -26,30 +27,33 @@ modes_numbered = (refl, refl, refl, refl)
 -- ---- options
 
 -- the struct with these fields
-abbrev options_with : (doubles key_order duplicate_keys v1 : ℕ) → CallOptions
-options_with doubles key_order duplicate_keys v1 = record {
-  size = 24;
+abbrev options_with : (doubles key_order duplicate_keys v1 layout : ℕ) → CallOptions
+options_with doubles key_order duplicate_keys v1 layout = record {
+  size = 32;
   doubles = doubles;
   key_order = key_order;
   duplicate_keys = duplicate_keys;
   v1 = v1;
+  layout = layout;
 }
 
-conversion_numbered : (options_of_call (options_with 0 0 0 0) ≡ default_options)
-    × (options_of_call (options_with 1 1 0 0) ≡ mongodb_options)
-    × ((options_of_call (options_with 0 1 1 1)).doubles ≡ Special)
-    × ((options_of_call (options_with 1 0 0 0)).doubles ≡ Finite)
-    × (key_order_of (options_with 0 0 0 0) ≡ Ascending)
-    × (key_order_of (options_with 1 0 1 1) ≡ Ascending)
-    × (key_order_of (options_with 0 1 0 0) ≡ AsGiven)
-conversion_numbered = (refl, refl, refl, refl, refl, refl, refl)
+conversion_numbered : (options_of_call (options_with 0 0 0 0 0) ≡ default_options)
+    × (options_of_call (options_with 1 1 0 0 1) ≡ mongodb_options)
+    × ((options_of_call (options_with 0 1 1 1 1)).doubles ≡ Special)
+    × ((options_of_call (options_with 1 0 0 0 0)).doubles ≡ Finite)
+    × (key_order_of (options_with 0 0 0 0 0) ≡ Ascending)
+    × (key_order_of (options_with 1 0 1 1 1) ≡ Ascending)
+    × (key_order_of (options_with 0 1 0 0 0) ≡ AsGiven)
+    × ((options_of_call (options_with 1 1 1 1 0)).layout ≡ Specified)
+    × ((options_of_call (options_with 0 0 0 0 1)).layout ≡ MongoDb)
+conversion_numbered = (refl, refl, refl, refl, refl, refl, refl, refl, refl)
 
-reading_numbered : (preprocessing_of (options_with 1 1 0 0) ≡ record { duplicate_keys = LastWins; v1 = false })
-    × (preprocessing_of (options_with 0 0 1 0) ≡ record { duplicate_keys = Reject; v1 = false })
-    × (preprocessing_of (options_with 0 0 0 1) ≡ record { duplicate_keys = LastWins; v1 = true })
-    × (preprocessing_of (options_with 0 0 1 1) ≡ record { duplicate_keys = Reject; v1 = true })
-    × (duplicate_keys_of (options_with 1 1 0 1) ≡ LastWins)
-    × (duplicate_keys_of (options_with 0 0 1 0) ≡ Reject)
+reading_numbered : (preprocessing_of (options_with 1 1 0 0 1) ≡ record { duplicate_keys = LastWins; v1 = false })
+    × (preprocessing_of (options_with 0 0 1 0 0) ≡ record { duplicate_keys = Reject; v1 = false })
+    × (preprocessing_of (options_with 0 0 0 1 0) ≡ record { duplicate_keys = LastWins; v1 = true })
+    × (preprocessing_of (options_with 0 0 1 1 0) ≡ record { duplicate_keys = Reject; v1 = true })
+    × (duplicate_keys_of (options_with 1 1 0 1 1) ≡ LastWins)
+    × (duplicate_keys_of (options_with 0 0 1 0 0) ≡ Reject)
 reading_numbered = (refl, refl, refl, refl, refl, refl)
 
 -- ---- statuses

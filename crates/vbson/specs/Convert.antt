@@ -6,7 +6,8 @@ use Rattle.bson_model.specs.Fault.{MeansNothingIn, fault_of_in}
 use Rattle.bson_tree.specs.declared.place.Reason.{Reason}
 use Rattle.bson_tree.specs.declared.place.Reason.TheVariants.{BadObjectId, WrongShape}
 use Rattle.bson.specs.Doubles.TheVariants.{Special, Finite}
-use Rattle.bson_scalar.specs.declared.form.Layout.TheVariants.{Specified}
+use Rattle.bson_scalar.specs.declared.form.Layout.{Layout}
+use Rattle.bson_scalar.specs.declared.form.Layout.TheVariants.{Specified, MongoDb}
 use Rattle.bson.specs.TextMeaning.{IsNotJsonText, IsTextOf}
 use Rattle.bson_model.specs.declared.options.Options.{Options}
 use Rattle.bson_convert.specs.Convert.{newline}
@@ -33,12 +34,16 @@ mode_of_number mode_number =
 abbrev pub key_order_of : CallOptions → KeyOrder
 key_order_of options = if options.key_order == 1 then AsGiven else Ascending
 
+-- how the two forms are laid out
+abbrev pub layout_of : CallOptions → Layout
+layout_of options = if options.layout == 1 then MongoDb else Specified
+
 -- the options of a conversion, of which 0 is the default
 abbrev pub options_of_call : CallOptions → Options
 options_of_call options = record {
   doubles = if options.doubles == 1 then Finite else Special;
   key_order = key_order_of options;
-  layout = Specified;
+  layout = layout_of options;
 }
 
 -- the output is the line that the input is converted to in the mode that was selected, with a NUL in place of its

@@ -20,7 +20,8 @@ use std::hash::{DefaultHasher, Hash, Hasher};
 /// order. Returns `DIFFERENT` if they are not.
 ///
 /// The first text is read first: its fault is returned if both have one. The options may request
-/// finite doubles, that duplicate keys are rejected, and Extended JSON v1, and no order of keys.
+/// finite doubles, that duplicate keys are rejected, and Extended JSON v1. An order of keys and a layout
+/// are rejected.
 #[unsafe(no_mangle)]
 pub extern "C" fn vbson_same_nonnull(
     alloc: Global,

@@ -25,10 +25,10 @@ use bson_tree::place::Reason;
 use std::alloc::Global;
 
 /// Converts one text of Extended JSON to the text of its value in a mode: 0 is the canonical form, 1
-/// the relaxed form, 2 the text of Display. The options say whether finite doubles are accepted, and
-/// whether the keys of each document ascend or have the order of the text. In the order of the text,
-/// a duplicate key has its last value at its first position. The caller frees the block of the
-/// output with `free`.
+/// the relaxed form, 2 the text of Display. The options say whether finite doubles are accepted,
+/// whether the keys of each document ascend or have the order of the text, and how the two forms are
+/// laid out. In the order of the text, a duplicate key has its last value at its first position. The
+/// caller frees the block of the output with `free`.
 #[unsafe(no_mangle)]
 pub extern "C" fn vbson_convert_nonnull(
     alloc: Global,

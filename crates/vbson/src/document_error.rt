@@ -35,8 +35,8 @@ pub enum Finding {
 }
 
 /// Explains why bytes are not a document that has a text in the two forms, and where. The code is 0,
-/// and the message is empty, if they are one. All options are accepted; the order of keys and `v1`
-/// change nothing here.
+/// and the message is empty, if they are one. All options are accepted; the order of keys, `v1` and
+/// the layout change nothing here.
 #[unsafe(no_mangle)]
 pub extern "C" fn vbson_explain_document_nonnull(
     alloc: Global,

@@ -19,8 +19,8 @@ use bson_run::encode::encode;
 use std::alloc::Global;
 
 /// Encodes the document that a text of Extended JSON denotes as canonical bytes, with the options of
-/// `vbson_convert_nonnull`. The bytes are followed by a NUL. The caller frees their block with
-/// `free`.
+/// `vbson_convert_nonnull`. The layout changes nothing in bytes. The bytes are followed by a NUL. The
+/// caller frees their block with `free`.
 #[unsafe(no_mangle)]
 pub extern "C" fn vbson_encode_nonnull(
     alloc: Global,

@@ -50,7 +50,7 @@ pub struct Rejection<'a> {
 
 /// Explains why a text is rejected, and where. The code is 0, and the message is empty, if the text
 /// is accepted. All options are accepted. This explains the status of `vbson_convert_nonnull` and
-/// `vbson_same_nonnull`; the order of keys changes nothing here.
+/// `vbson_same_nonnull`; the order of keys and the layout change nothing here.
 #[unsafe(no_mangle)]
 pub extern "C" fn vbson_explain_nonnull(
     alloc: Global,

@@ -1,6 +1,6 @@
 //! The options of a call, in a struct of the caller.
 ghost use Rattle.std.specs.Prelude.{◌≡◌, ◌↔◌, IsTrue};
-ghost use Rattle.vbson.specs.Convert.{options_of_call, key_order_of};
+ghost use Rattle.vbson.specs.Convert.{options_of_call, key_order_of, layout_of};
 ghost use Rattle.vbson.specs.Options.{AreInvalid, AreNotForConversion, AreNotForReading};
 ghost use Rattle.vbson.specs.Reading.{duplicate_keys_of, preprocessing_of};
 
@@ -21,8 +21,11 @@ pub const DUPLICATE_KEYS_REJECT: u32 = 1;
 /// Extended JSON v1 is read too.
 pub const V1_ACCEPT: u32 = 1;
 
+/// The two forms have the layout of MongoDB's tools.
+pub const LAYOUT_MONGODB: u32 = 1;
+
 /// The size of `CallOptions` in bytes. A later version with more fields has another size.
-pub(crate) const CALL_OPTIONS_SIZE: usize = 24;
+pub(crate) const CALL_OPTIONS_SIZE: usize = 32;
 
 /// The options of a call. Each field after the size is 0 for what the specification describes, or 1.
 #[repr(C)]
@@ -38,6 +41,8 @@ pub struct CallOptions {
     pub duplicate_keys: u32,
     /// 0, or `V1_ACCEPT`.
     pub v1: u32,
+    /// 0 for the layout that the specification describes, or `LAYOUT_MONGODB`.
+    pub layout: u32,
 }
 
 /// Returns whether the struct has another size, or a field that is not one of its two values.
@@ -49,10 +54,11 @@ pub fn are_invalid(options: CallOptions) -> bool
         || options.key_order > KEYS_AS_GIVEN
         || options.duplicate_keys > DUPLICATE_KEYS_REJECT
         || options.v1 > V1_ACCEPT
+        || options.layout > LAYOUT_MONGODB
 }
 
 /// Returns whether a conversion rejects the options: they are invalid, or they request more than
-/// finite doubles and an order of keys.
+/// finite doubles, an order of keys and a layout.
 pub fn are_not_for_conversion(options: CallOptions) -> bool
     ensures { IsTrue result ↔ AreNotForConversion options }
 {
@@ -62,11 +68,11 @@ pub fn are_not_for_conversion(options: CallOptions) -> bool
 }
 
 /// Returns whether a call that only reads values rejects the options: they are invalid, or they
-/// request an order of keys.
+/// request an order of keys or a layout.
 pub fn are_not_for_reading(options: CallOptions) -> bool
     ensures { IsTrue result ↔ AreNotForReading options }
 {
-    are_invalid(options) || options.key_order == KEYS_AS_GIVEN
+    are_invalid(options) || options.key_order == KEYS_AS_GIVEN || options.layout == LAYOUT_MONGODB
 }
 
 /// Returns the options of a conversion.
@@ -81,7 +87,7 @@ pub fn options_of(options: CallOptions) -> Options
     Options {
         doubles,
         key_order: key_order_of(options),
-        layout: Layout::Specified,
+        layout: layout_of(options),
     }
 }
 
@@ -93,6 +99,17 @@ fn key_order_of(options: CallOptions) -> KeyOrder
         KeyOrder::AsGiven
     } else {
         KeyOrder::Ascending
+    }
+}
+
+// Returns the layout.
+fn layout_of(options: CallOptions) -> Layout
+    ensures { result ≡ layout_of options }
+{
+    if options.layout == LAYOUT_MONGODB {
+        Layout::MongoDb
+    } else {
+        Layout::Specified
     }
 }
 

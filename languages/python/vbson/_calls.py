@@ -14,7 +14,7 @@ OK = 0
 
 class Options(ctypes.Structure):
     _fields_ = [("size", ctypes.c_size_t), ("doubles", ctypes.c_uint32), ("key_order", ctypes.c_uint32),
-                ("duplicate_keys", ctypes.c_uint32), ("v1", ctypes.c_uint32)]
+                ("duplicate_keys", ctypes.c_uint32), ("v1", ctypes.c_uint32), ("layout", ctypes.c_uint32)]
 
     @classmethod
     def from_param(cls, flags):
@@ -23,7 +23,7 @@ class Options(ctypes.Structure):
 
 
 # The options for each of these flags, whose bits are in the order of the fields.
-OPTIONS = [Options(ctypes.sizeof(Options), *(flags >> bit & 1 for bit in range(4))) for flags in range(16)]
+OPTIONS = [Options(ctypes.sizeof(Options), *(flags >> bit & 1 for bit in range(5))) for flags in range(32)]
 OPTIONS_AT = [*map(ctypes.addressof, OPTIONS)]
 
 

@@ -9,9 +9,10 @@ Given = Union[str, bytes, bytearray, memoryview]
 CANONICAL, RELAXED, SHOW = 0, 1, 2
 Mode = Union[int, str]
 _MODES = {"canonical": CANONICAL, "relaxed": RELAXED, "show": SHOW}
-DOUBLES, KEEP_ORDER, REJECT_DUPLICATE_KEYS, LEGACY = 1, 2, 4, 8
-_FLAGS = {"doubles": DOUBLES, "keep_order": KEEP_ORDER, "reject_duplicate_keys": REJECT_DUPLICATE_KEYS, "legacy": LEGACY}
-_DEFAULT = DOUBLES | KEEP_ORDER
+DOUBLES, KEEP_ORDER, REJECT_DUPLICATE_KEYS, LEGACY, MONGODB_LAYOUT = 1, 2, 4, 8, 16
+_FLAGS = {"doubles": DOUBLES, "keep_order": KEEP_ORDER, "reject_duplicate_keys": REJECT_DUPLICATE_KEYS, "legacy": LEGACY,
+          "mongodb_layout": MONGODB_LAYOUT}
+_DEFAULT = DOUBLES | KEEP_ORDER | MONGODB_LAYOUT
 
 
 class Options(TypedDict, total=False):
@@ -22,19 +23,25 @@ class Options(TypedDict, total=False):
     reject_duplicate_keys   reject input in which an object or a document has a duplicate key; without it the last value
                             wins, at the position of the first (False by default)
     legacy                  accept Extended JSON v1 too (False by default)
+    mongodb_layout          write dates and wrappers as mongoexport, bsondump and json_util of PyMongo do: a fraction of a
+                            second has three digits, and with keep_order "t" is before "i", "pattern" before "options",
+                            and "$ref" before "$id". False writes no zeros at the end of a fraction, and ascending keys in
+                            wrappers (True by default)
 
-    A call that only compares, hashes or checks has no order of keys to keep, and BSON bytes have their doubles and no v1:
-    the option changes nothing there. A call that can't do what an option asks for raises ValueError.
+    A call that only compares, hashes or checks has no order of keys to keep and no layout, and BSON bytes have their doubles
+    and no v1: the option changes nothing there. A call that can't do what an option asks for raises ValueError.
     """
 
     doubles: bool
     keep_order: bool
     reject_duplicate_keys: bool
     legacy: bool
+    mongodb_layout: bool
 
 
-# The options of the specification, which rejects finite doubles and sorts keys: convert(text, **SPECIFIED)
-SPECIFIED: Options = {"doubles": False, "keep_order": False}
+# The options of the specification, which rejects finite doubles, sorts keys and has a layout of its own:
+# convert(text, **SPECIFIED)
+SPECIFIED: Options = {"doubles": False, "keep_order": False, "mongodb_layout": False}
 
 
 def flags_of(options, accepted, ignored=0):
@@ -52,8 +59,9 @@ def flags_of(options, accepted, ignored=0):
     return flags & accepted
 
 
-# The flags of the calls that write, and of those that only read.
-WRITING, READING = DOUBLES | KEEP_ORDER, DOUBLES | REJECT_DUPLICATE_KEYS | LEGACY
+# The flags of the calls that write, of those that only read, and those that change nothing in reading.
+WRITING, READING = DOUBLES | KEEP_ORDER | MONGODB_LAYOUT, DOUBLES | REJECT_DUPLICATE_KEYS | LEGACY
+ONLY_WRITING = KEEP_ORDER | MONGODB_LAYOUT
 
 
 def mode_of(mode):

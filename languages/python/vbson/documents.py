@@ -2,12 +2,12 @@
 from typing import List, Tuple
 
 from . import _calls, errors
-from ._options import (CANONICAL, DOUBLES, KEEP_ORDER, LEGACY, REJECT_DUPLICATE_KEYS, WRITING, Bytes, Mode, document_bytes, flags_of,
+from ._options import (CANONICAL, DOUBLES, LEGACY, ONLY_WRITING, REJECT_DUPLICATE_KEYS, WRITING, Bytes, Mode, document_bytes, flags_of,
                        mode_of)
 from .errors import Error
 
 # What changes nothing on bytes that are only read.
-NO_CHANGE = DOUBLES | KEEP_ORDER | LEGACY
+NO_CHANGE = DOUBLES | ONLY_WRITING | LEGACY
 
 
 def of_bytes(document, flags=0):

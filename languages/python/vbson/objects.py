@@ -101,7 +101,8 @@ def dumps(value: Any, form: Mode = CANONICAL, types: str = "plain", default: Opt
       "c": "1j"
     }
 
-    Keys are in the order of each dict, or sorted if keep_order is False. `values` lists the types that are converted.
+    Keys are in the order of each dict, or sorted if keep_order is False. Dates and wrappers are written as json_util of PyMongo
+    writes them, or as the specification does if mongodb_layout is False. `values` lists the types that are converted.
     default is called with a value of any other type, and returns the value to write instead. indent is that of json.
 
     The error has the path to the value: UnsupportedType, which is a TypeError, for a value of another type or a key that is

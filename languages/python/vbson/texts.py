@@ -2,7 +2,8 @@
 from typing import List, Tuple
 
 from . import _calls, errors
-from ._options import CANONICAL, DOUBLES, KEEP_ORDER, READING, REJECT_DUPLICATE_KEYS, WRITING, Given, Mode, flags_of, mode_of, text_bytes
+from ._options import (CANONICAL, DOUBLES, ONLY_WRITING, READING, REJECT_DUPLICATE_KEYS, WRITING, Given, Mode, flags_of, mode_of,
+                       text_bytes)
 from .errors import Error
 
 
@@ -65,7 +66,7 @@ def convert(text: Given, mode: Mode = CANONICAL, **options: bool) -> str:
     The last value of a duplicate key wins, at the position of the first. The output can denote another value in two cases:
     a NaN of Decimal128 loses its sign and its payload, and in the relaxed form an Int64 that fits is read again as an Int32.
     Each number that is not an integer of 64 bits is read as the nearest double, and written as its shortest decimal. Without
-    doubles it is rejected. Raises NotJson, BadObjectId or NotExtendedJson, and MemoryError.
+    doubles it is rejected. Both layouts denote the same values. Raises NotJson, BadObjectId or NotExtendedJson, and MemoryError.
     """
     given = text_bytes(text)
     mode, flags = mode_of(mode), writing_flags(options, given)
@@ -99,7 +100,7 @@ def explain(text: Given, **options: bool) -> str:
 
     Raises MemoryError.
     """
-    flags, given = flags_of(options, READING, KEEP_ORDER), text_bytes(text)
+    flags, given = flags_of(options, READING, ONLY_WRITING), text_bytes(text)
     status, found = _calls.explained(flags, given)
     errors.expect_ok(status)
     return found.message
@@ -114,7 +115,7 @@ def same(a: Given, b: Given, **options: bool) -> bool:
     legacy accepts Extended JSON v1 too: {"$binary": .., "$type": ..}, {"$regex": .., "$options": ..}, and a $date with an
     offset such as +0100. Raises the errors of `convert`, for a first.
     """
-    flags, a, b = flags_of(options, READING, KEEP_ORDER), text_bytes(a), text_bytes(b)
+    flags, a, b = flags_of(options, READING, ONLY_WRITING), text_bytes(a), text_bytes(b)
     status = _calls.library.vbson_same(flags, a, len(a), b, len(b))
     if status != errors.DIFFERENT:
         expect_accepted(status, flags, a, b)
@@ -130,7 +131,7 @@ def is_canonical_text(text: Given, **options: bool) -> bool:
     Values that are equal in normal form have one canonical text, so it can be signed, hashed or compared in place of its
     value. Of the options, doubles alone changes something. Raises MemoryError.
     """
-    flags, given = flags_of(options, DOUBLES, KEEP_ORDER | READING), text_bytes(text)
+    flags, given = flags_of(options, DOUBLES, ONLY_WRITING | READING), text_bytes(text)
     status = _calls.library.vbson_is_canonical_text(flags, given, len(given))
     if status != errors.NOT_CANONICAL:
         errors.expect_ok(status)
@@ -145,7 +146,7 @@ def hash_of(text: Given, **options: bool) -> int:
 
     Raises the errors of `convert`.
     """
-    flags, given = flags_of(options, READING, KEEP_ORDER), text_bytes(text)
+    flags, given = flags_of(options, READING, ONLY_WRITING), text_bytes(text)
     status, number = _calls.hash_by(_calls.library.vbson_hash, flags, given)
     expect_accepted(status, flags, given)
     return number

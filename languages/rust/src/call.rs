@@ -10,12 +10,13 @@ pub struct RawOptions {
     pub key_order: u32,
     pub duplicate_keys: u32,
     pub v1: u32,
+    pub layout: u32,
 }
 
 impl RawOptions {
     /// `VBSON_OPTIONS_INIT`.
     pub const INIT: RawOptions =
-        RawOptions { size: std::mem::size_of::<RawOptions>(), doubles: 0, key_order: 0, duplicate_keys: 0, v1: 0 };
+        RawOptions { size: std::mem::size_of::<RawOptions>(), doubles: 0, key_order: 0, duplicate_keys: 0, v1: 0, layout: 0 };
 }
 
 /// `vbson_buffer`.
@@ -163,6 +164,8 @@ pub const KEYS_AS_GIVEN: u32 = 1;
 pub const DUPLICATE_KEYS_REJECT: u32 = 1;
 /// The option for Extended JSON v1.
 pub const V1_ACCEPT: u32 = 1;
+/// The option for the layout of MongoDB's tools.
+pub const LAYOUT_MONGODB: u32 = 1;
 
 /// No string of a scalar is longer: see the greatest lengths in `vbson.h`.
 pub const MAX_LENGTH: usize = 64;

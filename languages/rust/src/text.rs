@@ -43,7 +43,8 @@ impl fmt::Debug for Text {
     }
 }
 
-/// What is accepted and written. The default is what MongoDB's data need: finite doubles, and the order of keys.
+/// What is accepted and written. The default is what MongoDB's own tools do: finite doubles, the order of keys, and the
+/// tools' layout.
 ///
 /// ```
 /// use vbson::{convert, convert_with, Mode, Options};
@@ -52,6 +53,10 @@ impl fmt::Debug for Text {
 /// let sorted = Options { keep_order: false, ..Options::default() };
 /// assert_eq!(&*convert_with(Mode::Relaxed, sorted, text)?, r#"{"a":2,"price":1.5}"#);
 /// assert!(convert_with(Mode::Relaxed, Options::SPECIFIED, text).is_err());
+/// let date = br#"{"$date": {"$numberLong": "500"}}"#;
+/// assert_eq!(&*convert(Mode::Relaxed, date)?, r#"{"$date":"1970-01-01T00:00:00.500Z"}"#);
+/// let specified = Options { mongodb_layout: false, ..Options::default() };
+/// assert_eq!(&*convert_with(Mode::Relaxed, specified, date)?, r#"{"$date":"1970-01-01T00:00:00.5Z"}"#);
 /// # Ok::<(), vbson::Error>(())
 /// ```
 #[derive(Clone, Copy, Debug, PartialEq, Eq)]
@@ -62,23 +67,28 @@ pub struct Options {
     /// Preserves the order of the keys in the input or the document; without it keys are sorted. The last value of a
     /// duplicate key wins, at the position of the first.
     pub keep_order: bool,
+    /// Lays out the two forms as mongoexport, bsondump and PyMongo do. A fraction of a second has three digits. With
+    /// `keep_order`, `t` is before `i`, `pattern` before `options`, and `$ref` before `$id` in their wrappers. Without it a
+    /// fraction has no zeros at its end, and the keys of a wrapper ascend. Both layouts denote the same values.
+    pub mongodb_layout: bool,
 }
 
 impl Default for Options {
-    /// Returns the options with finite doubles and the order of keys.
+    /// Returns the options with finite doubles, the order of keys, and the layout of MongoDB's tools.
     fn default() -> Options {
-        Options { doubles: true, keep_order: true }
+        Options { doubles: true, keep_order: true, mongodb_layout: true }
     }
 }
 
 impl Options {
-    /// The defaults of the specification and of the C library: no finite doubles, and sorted keys.
-    pub const SPECIFIED: Options = Options { doubles: false, keep_order: false };
+    /// The defaults of the specification and of the C library: no finite doubles, sorted keys, and the specified layout.
+    pub const SPECIFIED: Options = Options { doubles: false, keep_order: false, mongodb_layout: false };
 
     pub(crate) fn raw(self) -> RawOptions {
         RawOptions {
             doubles: if self.doubles { call::DOUBLES_FINITE } else { 0 },
             key_order: if self.keep_order { call::KEYS_AS_GIVEN } else { 0 },
+            layout: if self.mongodb_layout { call::LAYOUT_MONGODB } else { 0 },
             ..RawOptions::INIT
         }
     }

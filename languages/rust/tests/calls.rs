@@ -17,7 +17,7 @@ fn texts_are_converted() {
 #[test]
 fn finite_doubles_are_an_option() {
     let (text, doubles) = (br#"{"b":1.5,"a":1e2}"#, Options { doubles: true, ..Options::SPECIFIED });
-    assert_eq!((Options::default(), ReadOptions::default()), (Options { doubles: true, keep_order: true }, ReadOptions { doubles: true, ..ReadOptions::SPECIFIED }));
+    assert_eq!((Options::default(), ReadOptions::default()), (Options { doubles: true, keep_order: true, mongodb_layout: true }, ReadOptions { doubles: true, ..ReadOptions::SPECIFIED }));
     assert_eq!(&*convert(Mode::Relaxed, text).unwrap(), r#"{"b":1.5,"a":100.0}"#);
     let canonical = r#"{"a":{"$numberDouble":"100.0"},"b":{"$numberDouble":"1.5"}}"#;
     for (mode, wanted) in [(Mode::Canonical, canonical), (Mode::Relaxed, r#"{"a":100.0,"b":1.5}"#)] {
@@ -37,7 +37,7 @@ fn the_order_of_keys_is_an_option() {
     assert_eq!(&*convert_with(Mode::Relaxed, keeps, text).unwrap(), r#"{"b":4,"a":3}"#);
     assert_eq!(&*convert_with(Mode::Relaxed, Options::SPECIFIED, text).unwrap(), r#"{"a":3,"b":4}"#);
     assert_eq!(&*convert_with(Mode::Show, keeps, br#"{"b":1,"a":2}"#).unwrap(), r#"{ "b": 1, "a": 2 }"#);
-    let both = Options { doubles: true, keep_order: true };
+    let both = Options { doubles: true, keep_order: true, ..Options::SPECIFIED };
     let bytes = encode(both, br#"{"b":1.5,"a":2}"#).unwrap();
     assert_eq!(&*decode(Mode::Relaxed, both, &bytes).unwrap(), r#"{"b":1.5,"a":2}"#);
     let doubles = Options { doubles: true, ..Options::SPECIFIED };
@@ -48,11 +48,36 @@ fn the_order_of_keys_is_an_option() {
 }
 
 #[test]
+fn the_layout_is_an_option() {
+    let (mongodb, specified) = (Options::default(), Options { mongodb_layout: false, ..Options::default() });
+    let sorted = Options { keep_order: false, ..mongodb };
+    let (date, stamp) = (r#"{"at":{"$date":{"$numberLong":"500"}}}"#, r#"{"$timestamp":{"t":1,"i":2}}"#);
+    let (relaxed, other) = (r#"{"at":{"$date":"1970-01-01T00:00:00.500Z"}}"#, r#"{"at":{"$date":"1970-01-01T00:00:00.5Z"}}"#);
+    for (options, date_text, stamp_text) in [(mongodb, relaxed, stamp), (specified, other, r#"{"$timestamp":{"i":2,"t":1}}"#), (sorted, relaxed, r#"{"$timestamp":{"i":2,"t":1}}"#)] {
+        assert_eq!(&*convert_with(Mode::Relaxed, options, date.as_bytes()).unwrap(), date_text);
+        assert_eq!(&*convert_with(Mode::Canonical, options, date.as_bytes()).unwrap(), date);
+        for mode in [Mode::Canonical, Mode::Relaxed] {
+            assert_eq!(&*convert_with(mode, options, stamp.as_bytes()).unwrap(), stamp_text);
+            let bytes = encode(options, format!(r#"{{"t":{stamp}}}"#).as_bytes()).unwrap();
+            assert_eq!(&*decode(mode, options, &bytes).unwrap(), format!(r#"{{"t":{stamp_text}}}"#));
+            assert_eq!(&*decode_documents(mode, options, &bytes).unwrap().text, format!("{{\"t\":{stamp_text}}}\n"));
+        }
+        let lines = convert_lines(Mode::Relaxed, options, format!("{date}\n{stamp}\n").as_bytes()).unwrap();
+        assert_eq!(&*lines.text, format!("{date_text}\n{stamp_text}\n"));
+        assert_eq!(explain(options, b"1"), None);
+        assert_eq!(explain(options, b"["), explain(Options::SPECIFIED, b"["));
+    }
+    assert_eq!(&*convert(Mode::Relaxed, date.as_bytes()).unwrap(), relaxed);
+    assert_eq!(same(ReadOptions::default(), relaxed.as_bytes(), other.as_bytes()), Ok(true));
+    assert_eq!(&*encode(mongodb, relaxed.as_bytes()).unwrap(), &*encode(specified, relaxed.as_bytes()).unwrap());
+}
+
+#[test]
 fn canonical_texts_are_told() {
     let (doubles, specified) = (ReadOptions::default(), ReadOptions { legacy: true, ..ReadOptions::SPECIFIED });
     for text in [r#"{"a":{"$numberDouble":"1.5"},"b":[true]}"#, r#"{"a":1,"a":2}"#, r#"{"b":1,"a":{"$numberInt":"2"}}"#, "null ", "[1.5]", "", "{"] {
         for options in [doubles, specified] {
-            let writes = Options { doubles: options.doubles, keep_order: false };
+            let writes = Options { doubles: options.doubles, ..Options::SPECIFIED };
             let wanted = convert_with(Mode::Canonical, writes, text.as_bytes()).is_ok_and(|it| &*it == text);
             assert_eq!(is_canonical_text(options, text.as_bytes()), Ok(wanted), "{text}");
         }
@@ -196,7 +221,7 @@ fn what_is_compared_has_options() {
 
 #[test]
 fn documents_are_compared_by_their_bytes() {
-    let (options, keeps) = (ReadOptions::SPECIFIED, Options { doubles: true, keep_order: true });
+    let (options, keeps) = (ReadOptions::SPECIFIED, Options { doubles: true, keep_order: true, ..Options::SPECIFIED });
     let one = encode(keeps, br#"{"price":1.5,"a":1}"#).unwrap();
     let other = encode(keeps, br#"{"a":1,"price":1.5}"#).unwrap();
     assert_ne!(&*one, &*other);
@@ -244,7 +269,7 @@ fn lines_are_converted_in_one_call() {
 
 #[test]
 fn lines_are_encoded_in_one_call() {
-    let (options, keeps) = (Options::SPECIFIED, Options { doubles: true, keep_order: true });
+    let (options, keeps) = (Options::SPECIFIED, Options { doubles: true, keep_order: true, ..Options::SPECIFIED });
     let lines = encode_lines(options, b"{\"n\": 5}\n\n[1]\n{\"a\":[1.5]}\n{\"a\\u0000\":1}\n{}").unwrap();
     assert_eq!(&*lines.bytes, &[12, 0, 0, 0, 0x10, b'n', 0, 5, 0, 0, 0, 0, 5, 0, 0, 0, 0]);
     let wanted = [encode(options, b"[1]").unwrap_err(), encode(options, br#"{"a":[1.5]}"#).unwrap_err(), ErrorKind::ZeroInKey.into()];
@@ -257,7 +282,7 @@ fn lines_are_encoded_in_one_call() {
 
 #[test]
 fn documents_are_decoded_in_one_call() {
-    let (options, keeps) = (Options::SPECIFIED, Options { doubles: true, keep_order: true });
+    let (options, keeps) = (Options::SPECIFIED, Options { doubles: true, keep_order: true, ..Options::SPECIFIED });
     let double = encode(keeps, br#"{"b":1.5,"a":2}"#).unwrap();
     let bad = [9, 0, 0, 0, 8, b'a', 0, 2, 0];
     let block = [&double[..], &bad, b"\x05\0\0\0\0", b"\x06\0\0"].concat();

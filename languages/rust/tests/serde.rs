@@ -61,7 +61,7 @@ fn structs_have_the_types_of_their_fields() {
     let text = decode(Mode::Canonical, Options::default(), &to_document(&order()).unwrap()).unwrap();
     let has = |part: &str| assert!(text.contains(part), "{part} is not in {text}");
     has(r#"{"_id":{"$oid":"53e37d08776f724e42000000"},"at":{"$date":{"$numberLong":"-5"}},"price":{"$numberDecimal":"19.90"},"#);
-    has(r#","subType":"05"}},"stamp":{"$timestamp":{"i":4294967295,"t":7}},"total":{"$numberDouble":"12.5"},"#);
+    has(r#","subType":"05"}},"stamp":{"$timestamp":{"t":7,"i":4294967295}},"total":{"$numberDouble":"12.5"},"#);
     has(r#""small":{"$numberInt":"-5"},"large":{"$numberLong":"5"},"#);
     has(r#""none":null,"tags":[""],"lines":[{"sku":"a","count":{"$numberLong":"9"}}],"#);
     has(r#""kinds":["Plain",{"One":{"$numberInt":"1"}},{"Two":[true,{"$numberLong":"2"}]},{"Named":{"x":{"$numberDouble":"0.5"}}}],"#);
