@@ -1,14 +1,14 @@
 -- Rows of `$date`, computed: the texts of RFC 3339 section 5.6 that are read, and those that the relaxed form has in the
 -- specified layout and in that of MongoDB's tools.
-use Rattle.std.proofs.Common.{◌≡◌, ◌++◌, ◌∙◌, ℤ, pos, refl, ap, sym, subst, rules}
+use Rattle.std.proofs.Common.{◌≡◌, ◌∙◌, ℤ, pos, refl, subst, rules}
 use Rattle.std.specs.Prelude.{codes, ℕ, List}
-use Rattle.std.proofs.lemmas.List.{append_cancel_right}
 use Rattle.jiff_core.specs.Calendar.{days_of_years, days_of_months, day_count, days_from_civil}
 use Rattle.bson_datetime.specs.Rfc3339Parser.{parsed_rfc3339_millis, date_part, time_part, fraction_part, offset_part, hours_minutes}
 use Rattle.bson_datetime.specs.Rfc3339Parser.{two_digits_below, after_byte, after_letter, day_number, two_digits, four_digits}
 use Rattle.jiff_fmt.specs.Reader.{fraction_value}
-use Rattle.bson_datetime.specs.CivilTime.{CivilDateTime, IsCivilDateTime, HasCivilTime, civil_of_millis}
-use Rattle.bson_datetime.specs.DateTimeText.{date_text, rfc3339_millis_text, rfc3339_text}
+use Rattle.bson_datetime.specs.CivilTime.{CivilDateTime, IsCivilDateTime, HasCivilTime}
+use Rattle.bson_datetime.specs.CivilTime.{civil_date, civil_of_millis, month_and_day, year_and_day}
+use Rattle.bson_datetime.specs.DateTimeText.{rfc3339_millis_text, rfc3339_text}
 use Rattle.bson_datetime.proofs.Offered.{rfc-fields}
 use Rattle.bson_scalar.specs.Scalar as kind
 use Rattle.bson_scalar.specs.TreeParts.{one_key_object}
@@ -79,14 +79,9 @@ unfolding half
 half_written = subst (HasText Relaxed (pos 500)) (rfc-fields (pos 500) half half_is)
     (canon_from Relaxed (model.scalar (kind.date (pos 500))) _ refl)
 
-half_date : date_text (civil_of_millis (pos 500)) ≡ codes "1970-01-01"
-unfolding half rfc3339_text civil_of_millis
-half_date = append_cancel_right (date_text (civil_of_millis (pos 500))) (codes "1970-01-01") (codes "T00:00:00.5Z")
-    (rfc-fields (pos 500) half half_is)
-
 half_text : rfc3339_millis_text (pos 500) ≡ codes "1970-01-01T00:00:00.500Z"
-unfolding rfc3339_millis_text civil_of_millis
-half_text = ap (λ date. date ++ codes "T00:00:00.500Z") half_date
+unfolding rfc3339_millis_text civil_of_millis civil_date year_and_day month_and_day
+half_text = refl
 
 half_written_for_mongodb : HasText MongoDbRelaxed (pos 500) (codes "1970-01-01T00:00:00.500Z")
 half_written_for_mongodb = subst (HasText MongoDbRelaxed (pos 500)) half_text
