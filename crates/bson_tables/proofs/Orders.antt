@@ -1,5 +1,5 @@
 -- The order of keys, a row each: what a text means in its own order, and what a value is written as in its own. A row
--- that names no mode of doubles is of both.
+-- that names no mode of doubles is of both, and one that names no form is of each.
 use Rattle.std.proofs.Common.{◌≡◌, ℕ, negsuc, List, true, false, Some, Err, refl}
 use Rattle.std.specs.Prelude.{codes}
 use Rattle.std.specs.Float.{fin}
@@ -8,9 +8,11 @@ use Rattle.serde_json.specs.Data.{Data, float, Members, no_members, member, no_i
 use Rattle.serde_json.specs.Data as tree
 use Rattle.serde_json.specs.Written.{compact_text}
 use Rattle.bson_types.specs.Regex.{sorted_regex_options}
+use Rattle.bson_types.specs.ObjectIds.{encode_lower}
 use Rattle.bson_scalar.specs.Faults.{wrong_shape}
+use Rattle.bson_scalar.specs.Forms.{is_mongodb}
 use Rattle.bson_scalar.specs.Doubles.{double_tree}
-use Rattle.bson_scalar.specs.Scalar.{null, boolean, double, text, code, timestamp, regex}
+use Rattle.bson_scalar.specs.Scalar.{null, boolean, db_pointer, double, text, code, timestamp, regex}
 use Rattle.bson_scalar.specs.TreeParts.{one_key_object, two_key_object}
 use Rattle.bson_scalar.specs.Written as scalar_tree
 use Rattle.bson_scalar.specs.declared.form.Doubles.{Doubles}
@@ -143,31 +145,76 @@ scope_that_is_null : (D : Doubles)
     (two_key_object (codes "$scope") tree.null (codes "$code") (tree.string (codes "x"))) (scalar (code (codes "x")))
 scope_that_is_null D = means_from D _ _ refl
 
--- ---- inside any other wrapper the order says nothing, and is the form's own where it is written
+-- ---- inside any other wrapper the order says nothing. The keys are written in ascending order, or as MongoDB's tools
+-- write them
 
-timestamp_as_specified : (D : Doubles)
-    → MeansInOrder D
-    (one_key_object (codes "$timestamp") (two_key_object (codes "t") (whole 1) (codes "i") (whole 2)))
-    (scalar (timestamp 1 2))
-timestamp_as_specified D = means_from D _ _ refl
+abbrev i_then_t : Data
+i_then_t = one_key_object (codes "$timestamp") (two_key_object (codes "i") (whole 2) (codes "t") (whole 1))
 
-timestamp_ascending : (D : Doubles)
-    → MeansInOrder D
-    (one_key_object (codes "$timestamp") (two_key_object (codes "i") (whole 2) (codes "t") (whole 1)))
-    (scalar (timestamp 1 2))
-timestamp_ascending D = means_from D _ _ refl
+abbrev t_then_i : Data
+t_then_i = one_key_object (codes "$timestamp") (two_key_object (codes "t") (whole 1) (codes "i") (whole 2))
 
-timestamp_written : (D : Doubles) (f : Form)
-    → WrittenInOrder D f (normal_form (scalar (timestamp 1 2)))
-    (one_key_object (codes "$timestamp") (two_key_object (codes "i") (whole 2) (codes "t") (whole 1)))
-timestamp_written D f = written_from D f (scalar (timestamp 1 2)) _ refl
+timestamp_read : (D : Doubles)
+    → MeansInOrder D i_then_t (scalar (timestamp 1 2)) × MeansInOrder D t_then_i (scalar (timestamp 1 2))
+timestamp_read D = (means_from D _ _ refl, means_from D _ _ refl)
 
-regex_as_specified : (D : Doubles) (p o : List ℕ)
-    → MeansInOrder D
-    (one_key_object (codes "$regularExpression")
-    (two_key_object (codes "pattern") (tree.string p) (codes "options") (tree.string o)))
-    (scalar (regex p (sorted_regex_options o)))
-regex_as_specified D p o = means_from D _ _ refl
+timestamp_written : (D : Doubles) (f : Form) → is_mongodb f ≡ false
+    → WrittenInOrder D f (normal_form (scalar (timestamp 1 2))) i_then_t
+timestamp_written D f is = written_from D f (scalar (timestamp 1 2)) _ (rw is refl)
+
+timestamp_written_for_mongodb : (D : Doubles) (f : Form) → is_mongodb f ≡ true
+    → WrittenInOrder D f (normal_form (scalar (timestamp 1 2))) t_then_i
+timestamp_written_for_mongodb D f is = written_from D f (scalar (timestamp 1 2)) _ (rw is refl)
+
+abbrev options_then_pattern : (p o : List ℕ) → Data
+options_then_pattern p o = one_key_object (codes "$regularExpression")
+    (two_key_object (codes "options") (tree.string o) (codes "pattern") (tree.string p))
+
+abbrev pattern_then_options : (p o : List ℕ) → Data
+pattern_then_options p o = one_key_object (codes "$regularExpression")
+    (two_key_object (codes "pattern") (tree.string p) (codes "options") (tree.string o))
+
+regex_read : (D : Doubles) (p o : List ℕ)
+    → MeansInOrder D (options_then_pattern p o) (scalar (regex p (sorted_regex_options o)))
+    × MeansInOrder D (pattern_then_options p o) (scalar (regex p (sorted_regex_options o)))
+regex_read D p o = (means_from D _ _ refl, means_from D _ _ refl)
+
+regex_written : (D : Doubles) (f : Form) (p o : List ℕ) → is_mongodb f ≡ false
+    → WrittenInOrder D f (normal_form (scalar (regex p o))) (options_then_pattern p (sorted_regex_options o))
+regex_written D f p o is = written_from D f (scalar (regex p o)) _ (rw is refl)
+
+regex_written_for_mongodb : (D : Doubles) (f : Form) (p o : List ℕ) → is_mongodb f ≡ true
+    → WrittenInOrder D f (normal_form (scalar (regex p o))) (pattern_then_options p (sorted_regex_options o))
+regex_written_for_mongodb D f p o is = written_from D f (scalar (regex p o)) _ (rw is refl)
+
+-- a pointer: the namespace and the id of another document
+abbrev id_then_ref : (namespace id : List ℕ) → Data
+id_then_ref namespace id = one_key_object (codes "$dbPointer")
+    (two_key_object (codes "$id") (one_key_object (codes "$oid") (tree.string (encode_lower id))) (codes "$ref")
+    (tree.string namespace))
+
+abbrev ref_then_id : (namespace id : List ℕ) → Data
+ref_then_id namespace id = one_key_object (codes "$dbPointer")
+    (two_key_object (codes "$ref") (tree.string namespace) (codes "$id")
+    (one_key_object (codes "$oid") (tree.string (encode_lower id))))
+
+pointer_written : (D : Doubles) (f : Form) (namespace id : List ℕ) → is_mongodb f ≡ false
+    → WrittenInOrder D f (normal_form (scalar (db_pointer namespace id))) (id_then_ref namespace id)
+pointer_written D f namespace id is = written_from D f (scalar (db_pointer namespace id)) _ (rw is refl)
+
+pointer_written_for_mongodb : (D : Doubles) (f : Form) (namespace id : List ℕ) → is_mongodb f ≡ true
+    → WrittenInOrder D f (normal_form (scalar (db_pointer namespace id))) (ref_then_id namespace id)
+pointer_written_for_mongodb D f namespace id is = written_from D f (scalar (db_pointer namespace id)) _ (rw is refl)
+
+-- the text of a timestamp and of a regular expression, byte for byte
+timestamp_text : compact_text t_then_i ≡ codes "{\"$timestamp\":{\"t\":1,\"i\":2}}"
+unfolding Rattle.json.specs.Print.escape_byte Rattle.std.specs.Fmt.digits
+timestamp_text = refl
+
+regex_text : compact_text (pattern_then_options (codes "^a") (codes "im"))
+    ≡ codes "{\"$regularExpression\":{\"pattern\":\"^a\",\"options\":\"im\"}}"
+unfolding Rattle.json.specs.Print.escape_byte
+regex_text = refl
 
 -- ---- a wrapper's key next to others means nothing, in any position
 

@@ -1,5 +1,5 @@
--- The tree of a value in each form, a row each (MongoDB Extended JSON v2).
-use Rattle.std.proofs.Common.{ℕ, ℤ, pos, negsuc, List, [], ◌∷◌, true, refl}
+-- The tree of a value in each form, a row each (MongoDB Extended JSON v2). A row of any form is of both layouts.
+use Rattle.std.proofs.Common.{◌≡◌, ℕ, ℤ, pos, negsuc, List, [], ◌∷◌, true, false, refl}
 use Rattle.std.specs.Prelude.{codes}
 use Rattle.serde_json.specs.Data.{Data, negative}
 use Rattle.serde_json.specs.Data as tree
@@ -7,13 +7,14 @@ use Rattle.bson_scalar.specs.Scalar as kind
 use Rattle.bson_scalar.specs.TreeParts.{one_key_object, two_key_object}
 use Rattle.std.specs.Fmt.{signed_decimal}
 use Rattle.hex.specs.Hex.{encode_lower}
-use Rattle.bson_datetime.specs.DateTimeText.{rfc3339_text}
+use Rattle.bson_datetime.specs.DateTimeText.{rfc3339_millis_text, rfc3339_text}
 use Rattle.bson_decimal.specs.DecimalText.{decimal128_text as decimal_text}
 use Rattle.bson_types.specs.Base64.{padded_base64}
 use Rattle.bson_types.specs.Regex.{sorted_regex_options}
 use Rattle.bson_types.specs.declared.spec.BinarySubtype.TheVariants.{Generic}
+use Rattle.bson_scalar.specs.Forms.{is_relaxed}
 use Rattle.bson_scalar.specs.declared.form.Form.{Form}
-use Rattle.bson_scalar.specs.declared.form.Form.TheVariants.{Canonical, Relaxed}
+use Rattle.bson_scalar.specs.declared.form.Form.TheVariants.{Canonical, MongoDbCanonical, MongoDbRelaxed, Relaxed}
 use Rattle.bson_model.specs.Value as model
 use Rattle.bson_model.specs.Normal.{normal_form}
 use Rattle.bson_model.specs.Written.{Written}
@@ -41,11 +42,13 @@ max_key_tree : (f : Form)
     → Written f (normal_form (model.scalar kind.max_key)) (one_key_object (codes "$maxKey") (whole 1))
 max_key_tree f = canon_from f (model.scalar kind.max_key) _ refl
 
-int32_relaxed : Written Relaxed (normal_form (model.scalar (kind.int32 (pos 7)))) (whole 7)
-int32_relaxed = canon_from Relaxed (model.scalar (kind.int32 (pos 7))) _ refl
+int32_relaxed : (f : Form) → is_relaxed f ≡ true
+    → Written f (normal_form (model.scalar (kind.int32 (pos 7)))) (whole 7)
+int32_relaxed f is = canon_from f (model.scalar (kind.int32 (pos 7))) _ (rw is refl)
 
-int64_relaxed : Written Relaxed (normal_form (model.scalar (kind.int64 (negsuc 6)))) (tree.number (negative (negsuc 6)))
-int64_relaxed = canon_from Relaxed (model.scalar (kind.int64 (negsuc 6))) _ refl
+int64_relaxed : (f : Form) → is_relaxed f ≡ true
+    → Written f (normal_form (model.scalar (kind.int64 (negsuc 6)))) (tree.number (negative (negsuc 6)))
+int64_relaxed f is = canon_from f (model.scalar (kind.int64 (negsuc 6))) _ (rw is refl)
 
 double_zero : (f : Form)
     → Written f (normal_form (model.scalar (kind.double 0)))
@@ -119,15 +122,15 @@ array_tree f = canon_from f
 
 -- the rows of texts that other standards say
 
-int32_canonical : (z : ℤ)
-    → Written Canonical (normal_form (model.scalar (kind.int32 z)))
+int32_canonical : (f : Form) → is_relaxed f ≡ false → (z : ℤ)
+    → Written f (normal_form (model.scalar (kind.int32 z)))
     (one_key_object (codes "$numberInt") (tree.string (signed_decimal z)))
-int32_canonical z = canon_from Canonical (model.scalar (kind.int32 z)) _ refl
+int32_canonical f is z = canon_from f (model.scalar (kind.int32 z)) _ (rw is refl)
 
-int64_canonical : (z : ℤ)
-    → Written Canonical (normal_form (model.scalar (kind.int64 z)))
+int64_canonical : (f : Form) → is_relaxed f ≡ false → (z : ℤ)
+    → Written f (normal_form (model.scalar (kind.int64 z)))
     (one_key_object (codes "$numberLong") (tree.string (signed_decimal z)))
-int64_canonical z = canon_from Canonical (model.scalar (kind.int64 z)) _ refl
+int64_canonical f is z = canon_from f (model.scalar (kind.int64 z)) _ (rw is refl)
 
 oid_tree : (f : Form) (id : List ℕ)
     → Written f (normal_form (model.scalar (kind.object_id id)))
@@ -159,24 +162,46 @@ decimal_tree : (f : Form) (b : List ℕ)
     (one_key_object (codes "$numberDecimal") (tree.string (decimal_text b)))
 decimal_tree f b = canon_from f (model.scalar (kind.decimal b)) _ refl
 
-date_canonical : (z : ℤ)
-    → Written Canonical (normal_form (model.scalar (kind.date z)))
-    (one_key_object (codes "$date") (one_key_object (codes "$numberLong") (tree.string (signed_decimal z))))
-date_canonical z = canon_from Canonical (model.scalar (kind.date z)) _ refl
+-- dates, in the specified layout and in that of MongoDB's tools: the number of their milliseconds, or a text
 
-first_date_relaxed : Written Relaxed (normal_form (model.scalar (kind.date (pos 0))))
-    (one_key_object (codes "$date") (tree.string (rfc3339_text (pos 0))))
-first_date_relaxed = canon_from Relaxed (model.scalar (kind.date (pos 0))) _ refl
+abbrev IsWrittenAs : Form → ℤ → Data → Type 0
+IsWrittenAs f z t = Written f (normal_form (model.scalar (kind.date z))) (one_key_object (codes "$date") t)
 
-last_date_relaxed : Written Relaxed (normal_form (model.scalar (kind.date (pos 253_402_300_799_999))))
-    (one_key_object (codes "$date") (tree.string (rfc3339_text (pos 253_402_300_799_999))))
-last_date_relaxed = canon_from Relaxed (model.scalar (kind.date (pos 253_402_300_799_999))) _ refl
+abbrev millis_tree : ℤ → Data
+millis_tree z = one_key_object (codes "$numberLong") (tree.string (signed_decimal z))
 
-later_date_relaxed : Written Relaxed (normal_form (model.scalar (kind.date (pos 253_402_300_800_000))))
-    (one_key_object (codes "$date")
-    (one_key_object (codes "$numberLong") (tree.string (signed_decimal (pos 253_402_300_800_000)))))
-later_date_relaxed = canon_from Relaxed (model.scalar (kind.date (pos 253_402_300_800_000))) _ refl
+date_canonical : (z : ℤ) → IsWrittenAs Canonical z (millis_tree z) × IsWrittenAs MongoDbCanonical z (millis_tree z)
+date_canonical z = (
+  canon_from Canonical (model.scalar (kind.date z)) _ refl,
+  canon_from MongoDbCanonical (model.scalar (kind.date z)) _ refl,
+)
 
-earlier_date_relaxed : Written Relaxed (normal_form (model.scalar (kind.date (negsuc 0))))
-    (one_key_object (codes "$date") (one_key_object (codes "$numberLong") (tree.string (signed_decimal (negsuc 0)))))
-earlier_date_relaxed = canon_from Relaxed (model.scalar (kind.date (negsuc 0))) _ refl
+first_date_relaxed : IsWrittenAs Relaxed (pos 0) (tree.string (rfc3339_text (pos 0)))
+    × IsWrittenAs MongoDbRelaxed (pos 0) (tree.string (rfc3339_millis_text (pos 0)))
+first_date_relaxed = (
+  canon_from Relaxed (model.scalar (kind.date (pos 0))) _ refl,
+  canon_from MongoDbRelaxed (model.scalar (kind.date (pos 0))) _ refl,
+)
+
+last_date_relaxed : IsWrittenAs Relaxed (pos 253_402_300_799_999) (tree.string (rfc3339_text (pos 253_402_300_799_999)))
+    × IsWrittenAs MongoDbRelaxed (pos 253_402_300_799_999)
+    (tree.string (rfc3339_millis_text (pos 253_402_300_799_999)))
+last_date_relaxed = (
+  canon_from Relaxed (model.scalar (kind.date (pos 253_402_300_799_999))) _ refl,
+  canon_from MongoDbRelaxed (model.scalar (kind.date (pos 253_402_300_799_999))) _ refl,
+)
+
+later_date_relaxed : IsWrittenAs Relaxed (pos 253_402_300_800_000) (millis_tree (pos 253_402_300_800_000))
+    × IsWrittenAs MongoDbRelaxed (pos 253_402_300_800_000) (millis_tree (pos 253_402_300_800_000))
+later_date_relaxed = (
+  canon_from Relaxed (model.scalar (kind.date (pos 253_402_300_800_000))) _ refl,
+  canon_from MongoDbRelaxed (model.scalar (kind.date (pos 253_402_300_800_000))) _ refl,
+)
+
+-- the last millisecond of the year 1969
+earlier_date_relaxed : IsWrittenAs Relaxed (negsuc 0) (millis_tree (negsuc 0))
+    × IsWrittenAs MongoDbRelaxed (negsuc 0) (millis_tree (negsuc 0))
+earlier_date_relaxed = (
+  canon_from Relaxed (model.scalar (kind.date (negsuc 0))) _ refl,
+  canon_from MongoDbRelaxed (model.scalar (kind.date (negsuc 0))) _ refl,
+)
