@@ -150,9 +150,14 @@ fn keep_going_run() -> Run {
     }
 }
 
-/// `LINE BYTES`: a run that goes on, with finite doubles, and writes this of each document.
+/// `LINE BYTES`: a run that goes on, with finite doubles, and writes this of each document. It rejects
+/// duplicate keys if the line ends in `_once`.
 fn write_dump(alloc: Global, text: &str, output_line: &mut RowOutput) -> RowResult {
     let (line, bytes) = split_at_space(text);
+    let (line, duplicate_keys) = match line.strip_suffix("_once") {
+        Some(line) => (line, DuplicateKeys::Reject),
+        None => (line, DuplicateKeys::LastWins),
+    };
     let (line, key_order) = match line.strip_suffix("_in_order") {
         Some(line) => (line, KeyOrder::AsGiven),
         None => (line, KeyOrder::Ascending),
@@ -170,6 +175,7 @@ fn write_dump(alloc: Global, text: &str, output_line: &mut RowOutput) -> RowResu
         ..Options::default()
     };
     let run_settings = Run {
+        duplicate_keys,
         options,
         line,
         ..keep_going_run()
