@@ -19,7 +19,7 @@ COMMANDS = (
 )
 COMMANDS_OF_BSON = (
     "decode canonical", "decode canonical --sort-keys", "decode canonical --strict", "decode show", "decode check",
-    "decode hash", "decode same /dev/stdin /dev/stdin",
+    "decode hash", "decode same /dev/stdin /dev/stdin", "decode canonical --no-double-keys", "decode check --no-double-keys",
 )
 
 LARGE = 1_000_000

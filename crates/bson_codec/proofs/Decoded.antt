@@ -12,8 +12,10 @@ use Rattle.bson_model.specs.Value.{Value, Pairs, document}
 use Rattle.bson_model.specs.OrderedWriting.{writes_value_in_order}
 use Rattle.bson_model.proofs.OfferedInOrder.{has_no_float, text_in_order, writable_is, written_from, written_to}
 use Rattle.bson.specs.Texts.{IsTextInKeyOrder, IsTextInOrder}
+use Rattle.bson_model.specs.declared.options.DuplicateKeys.TheVariants.{LastWins}
 use Rattle.bson_model.specs.declared.options.KeyOrder.TheVariants.{AsGiven}
 use Rattle.bson_bytes.specs.PrintedText.{IsPrintedText}
+use Rattle.bson_bytes.specs.ReadDocuments.{IsReadAsDocumentIn}
 use Rattle.bson_codec.specs.DumpRuns.{IsLineOfDocument, WritesLine}
 use Rattle.bson_codec.specs.DocumentText.{IsDocumentTextOf}
 use Rattle.bson_codec.specs.Diagnostics.{line_feed}
@@ -35,14 +37,16 @@ text_written f v text t = sym (writable_is Finite f v) ∙ ap is_ok (written_to 
 
 -- a line of a dump in its own order, with finite doubles
 pub line_is : (run : Run) (f : Form) (bytes text line : List ℕ) → run.line ≡ Text f → run.options.doubles ≡ Finite
-    → run.options.key_order ≡ AsGiven → IsDocumentTextOf (form_in run.options.layout f) run.depth bytes text → (line ≡ text ++ line_feed) × IsUtf8 line → IsLineOfDocument run bytes line
-line_is run f bytes text line form finite given decoded is =
+    → run.options.key_order ≡ AsGiven → run.duplicate_keys ≡ LastWins
+    → IsDocumentTextOf (form_in run.options.layout f) run.depth bytes text → (line ≡ text ++ line_feed) × IsUtf8 line
+    → IsLineOfDocument run bytes line
+line_is run f bytes text line form finite given last_wins decoded is =
     let v = document decoded.pairs in
     let t = decoded.text_in_order in
     let g = form_in run.options.layout f in
     record {
       pairs = decoded.pairs;
-      read = decoded.read;
+      read = subst (λ keys. IsReadAsDocumentIn keys run.depth bytes decoded.pairs) (sym last_wins) decoded.read;
       written = subst (λ x. WritesLine run.options x decoded.pairs line) (sym form) (
         subst (λ D. writable_in D v ≡ true) (sym finite) (text_written g v text t),
         (

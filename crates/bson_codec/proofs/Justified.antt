@@ -5,11 +5,11 @@ use Rattle.std.proofs.lemmas.List.{take_at}
 use Rattle.std.specs.Io.KnownBytes.{Consumes}
 use Rattle.bson_model.specs.Value.{Pairs}
 use Rattle.bson_bytes.proofs.Offered.{is_read}
-use Rattle.bson_bytes.specs.ReadDocuments.{IsReadAsDocument, IsFirstDocument}
-use Rattle.bson_bytes.specs.Reading.{reads_bytes}
+use Rattle.bson_bytes.specs.ReadDocuments.{IsReadAsDocumentIn}
+use Rattle.bson_bytes.specs.Reading.{reads_bytes_in}
 use Rattle.bson_bytes.specs.declared.fault.Fault.{Fault}
 use Rattle.bson_bytes.specs.declared.fault.FaultKind.{FaultKind}
-use Rattle.bson_model.specs.declared.options.DuplicateKeys.TheVariants.{LastWins}
+use Rattle.bson_model.specs.declared.options.DuplicateKeys.{DuplicateKeys}
 use Rattle.bson_codec.proofs.Streams.{front_none, front_read}
 use Rattle.bson_codec.specs.DumpRuns.{EndsAt, IsEndReason, IsRejectedWithFault, IsJustifiedEnd, IsFaultOfDocument, IsSkipped, HasNoTextInForm}
 use Rattle.bson_codec.specs.DumpRuns.{ConsumesPrefix}
@@ -21,22 +21,24 @@ use Rattle.bson_codec.specs.declared.run_end.RunFault.TheVariants.{Malformed, Fi
 use Rattle.bson_codec.specs.declared.run_end.RunFault.TheVariants.{OutOfMemory}
 
 -- the documents that bytes are read as are one
-pub read_one : (d : ℕ) (bytes : List ℕ) (ps qs : Pairs) → IsReadAsDocument d bytes ps → IsReadAsDocument d bytes qs → ps ≡ qs
-read_one d bytes ps qs h k =
-    let a : reads_bytes d bytes ≡ Ok ps = is_read LastWins d bytes ps h in
-    let b : reads_bytes d bytes ≡ Ok qs = is_read LastWins d bytes qs k in cc
+pub read_one : (keys : DuplicateKeys) (d : ℕ) (bytes : List ℕ) (ps qs : Pairs) → IsReadAsDocumentIn keys d bytes ps
+    → IsReadAsDocumentIn keys d bytes qs → ps ≡ qs
+read_one keys d bytes ps qs h k =
+    let a : reads_bytes_in keys d bytes ≡ Ok ps = is_read keys d bytes ps h in
+    let b : reads_bytes_in keys d bytes ≡ Ok qs = is_read keys d bytes qs k in cc
 
 -- a document has no fault
-pub faultless : (k : FaultKind) (n d : ℕ) (bytes : List ℕ) (ps : Pairs) → IsReadAsDocument d bytes ps
-    → IsFaultAtOffset k n bytes (reads_bytes d bytes) → ⊥
-faultless k n d bytes ps h (f, e, w, l) = let o : reads_bytes d bytes ≡ Ok ps = is_read LastWins d bytes ps h in absurd cc
+pub faultless : (k : FaultKind) (n : ℕ) (keys : DuplicateKeys) (d : ℕ) (bytes : List ℕ) (ps : Pairs)
+    → IsReadAsDocumentIn keys d bytes ps → IsFaultAtOffset k n bytes (reads_bytes_in keys d bytes) → ⊥
+faultless k n keys d bytes ps h (f, e, w, l) =
+    let o : reads_bytes_in keys d bytes ≡ Ok ps = is_read keys d bytes ps h in absurd cc
 
 -- a document of which nothing can be written has no text
 pub no_line : (fault : RunFault) (run : Run) (bytes : List ℕ) (ps : Pairs) → IsRejectedWithFault fault run bytes
-    → IsReadAsDocument run.depth bytes ps → HasNoTextInForm run.options run.line ps
-no_line (Malformed k n) run bytes ps h read = absurd (faultless k n run.depth bytes ps read h)
+    → IsReadAsDocumentIn run.duplicate_keys run.depth bytes ps → HasNoTextInForm run.options run.line ps
+no_line (Malformed k n) run bytes ps h read = absurd (faultless k n run.duplicate_keys run.depth bytes ps read h)
 no_line FiniteDouble run bytes ps h read =
-    subst (HasNoTextInForm run.options run.line) (read_one run.depth bytes h.0 ps h.1 read) h.2
+    subst (HasNoTextInForm run.options run.line) (read_one run.duplicate_keys run.depth bytes h.0 ps h.1 read) h.2
 no_line CannotRead run bytes ps h read = absurd h
 no_line CannotWrite run bytes ps h read = absurd h
 no_line OutOfMemory run bytes ps h read = absurd h
@@ -83,7 +85,8 @@ justified_by run (Some all) (Some left) fault number start own bytes_read more p
     e.front rest (subst (λ (d : List ℕ). Some all ≡ Some (d ++ rest)) same known) in (
       λ none. e.some (first ∙ ap declared_prefix none ∙ front_none),
       λ ps more f. no_line fault run bytes_read ps e.bad
-          (subst (λ (b : List ℕ). IsReadAsDocument run.depth b ps) (sym first) (front_read run.depth rest ps more f)),
+          (subst (λ (b : List ℕ). IsReadAsDocumentIn run.duplicate_keys run.depth b ps) (sym first)
+          (front_read run.duplicate_keys run.depth rest ps more f)),
       λ over. e.last (subst (IsSkipped run) (sym first) over),
     )
 

@@ -13,7 +13,7 @@ use Rattle.bson_scalar.specs.Forms.{form_in}
 use Rattle.bson_scalar.specs.declared.form.Form.{Form}
 use Rattle.bson_model.specs.Value.{Pairs, Value, document}
 use Rattle.bson_bytes.proofs.Offered.{size_again}
-use Rattle.bson_bytes.specs.Reading.{reads_bytes, read_length}
+use Rattle.bson_bytes.specs.Reading.{reads_bytes_in, read_length}
 use Rattle.bson_codec.proofs.Justified.{faultless, no_line, read_one}
 use Rattle.bson_codec.proofs.Lengths.{Counted, counted, length_front, one_span}
 use Rattle.bson_codec.proofs.Runs.{same_rest}
@@ -53,8 +53,8 @@ one_write o Nothing ps a b h k = h ∙ sym k
 one_line : (run : Run) (bytes a b : List ℕ) → IsLineOfDocument run bytes a → IsLineOfDocument run bytes b → a ≡ b
 one_line run bytes a b h k =
     one_write run.options run.line h.pairs a b h.written
-    (subst (λ (ps : Pairs). WritesLine run.options run.line ps b) (read_one run.depth bytes k.pairs h.pairs k.read h.read)
-    k.written)
+    (subst (λ (ps : Pairs). WritesLine run.options run.line ps b)
+    (read_one run.duplicate_keys run.depth bytes k.pairs h.pairs k.read h.read) k.written)
 
 has_text : (o : Options) (line : Line) (ps : Pairs) (a : List ℕ) → WritesLine o line ps a → HasNoTextInForm o line ps → ⊥
 has_text o (Text f) ps a h u = let w = h.0 in absurd cc
@@ -67,12 +67,12 @@ either_line run bytes line fault h bad =
 
 one_fault : (run : Run) (bytes : List ℕ) (f g : RunFault) → IsRejectedWithFault f run bytes → IsRejectedWithFault g run bytes → f ≡ g
 one_fault run bytes (Malformed k n) (Malformed l m) (a, e, w, s) (b, h, v, t) =
-    let read : reads_bytes run.depth bytes ≡ reads_bytes run.depth bytes = refl in
+    let read : reads_bytes_in run.duplicate_keys run.depth bytes ≡ reads_bytes_in run.duplicate_keys run.depth bytes = refl in
     let same : a ≡ b = cc in
     let kinds : k ≡ l = cc in
     let left : n ≡ m = omega (arith, s, t, ap (λ f. f.bytes_to_end) same) in cc
-one_fault run bytes (Malformed k n) FiniteDouble h (ps, read, u) = absurd (faultless k n run.depth bytes ps read h)
-one_fault run bytes FiniteDouble (Malformed k n) (ps, read, u) h = absurd (faultless k n run.depth bytes ps read h)
+one_fault run bytes (Malformed k n) FiniteDouble h (ps, read, u) = absurd (faultless k n run.duplicate_keys run.depth bytes ps read h)
+one_fault run bytes FiniteDouble (Malformed k n) (ps, read, u) h = absurd (faultless k n run.duplicate_keys run.depth bytes ps read h)
 one_fault run bytes FiniteDouble FiniteDouble h k = refl
 one_fault run bytes (Malformed k n) CannotRead h k2 = absurd k2
 one_fault run bytes (Malformed k n) CannotWrite h k2 = absurd k2

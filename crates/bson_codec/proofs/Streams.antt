@@ -8,7 +8,7 @@ use Rattle.std.proofs.lemmas.Bool.{le-ltb, ltb-false}
 use Rattle.std.proofs.lemmas.List.{take_all, take_at, length-append, append-nil}
 use Rattle.bson_model.specs.Value.{Pairs}
 use Rattle.bson_bytes.specs.Grammar.{little_endian, IsDocument, is_document}
-use Rattle.bson_bytes.specs.ReadDocuments.{IsReadAsDocument, IsFirstDocument}
+use Rattle.bson_bytes.specs.ReadDocuments.{IsReadAsDocumentIn, IsFirstDocumentIn}
 use Rattle.bson_bytes.specs.Reading.{read_length}
 use Rattle.bson_bytes.specs.declared.fault.Fault.{Fault}
 use Rattle.bson_model.specs.declared.options.DuplicateKeys.{DuplicateKeys}
@@ -73,8 +73,9 @@ pub front_none : declared_prefix [] ≡ []
 front_none = take_all _ [] (omega arith)
 
 -- a document at the front of bytes is that front
-pub front_read : (d : ℕ) (all : List ℕ) (ps : Pairs) (rest : List ℕ) → IsFirstDocument d all ps rest → IsReadAsDocument d (declared_prefix all) ps
-front_read d all ps rest h =
+pub front_read : (keys : DuplicateKeys) (d : ℕ) (all : List ℕ) (ps : Pairs) (rest : List ℕ) → IsFirstDocumentIn keys d all ps rest
+    → IsReadAsDocumentIn keys d (declared_prefix all) ps
+front_read keys d all ps rest h =
     let s = sized h.read.grammar in
     let n = length h.front in
     let begins : all ≡ little_endian w32 n ++ (s.body ++ rest) =
@@ -84,7 +85,7 @@ front_read d all ps rest h =
     let says : declared_length (take 4 all) ≡ n = ap declared_length first ∙ promised_is n s.least s.small in
     let same : declared_prefix all ≡ h.front =
     ap (λ (k : ℕ). take k all) says ∙ ap (take n) h.parts ∙ take_at h.front rest n refl in
-    subst (λ (bytes : List ℕ). IsReadAsDocument d bytes ps) (sym same) h.read
+    subst (λ (bytes : List ℕ). IsReadAsDocumentIn keys d bytes ps) (sym same) h.read
 
 bytes_read : (before after : Option (List ℕ)) (new : List ℕ) → BytesAdded before after [] new → Consumes before after new
 bytes_read before after new t = subst (Consumes before after) (sym t.1) t.2

@@ -9,8 +9,8 @@ use Rattle.bson_scalar.specs.declared.form.Form.{Form}
 use Rattle.bson_model.specs.Displayed.{display_text}
 use Rattle.bson_model.specs.Normal.{writable_in}
 use Rattle.bson_model.specs.Value.{Pairs, document}
-use Rattle.bson_bytes.specs.ReadDocuments.{IsReadAsDocument, IsFirstDocument}
-use Rattle.bson_bytes.specs.Reading.{reads_bytes, read_length}
+use Rattle.bson_bytes.specs.ReadDocuments.{IsReadAsDocumentIn, IsFirstDocumentIn}
+use Rattle.bson_bytes.specs.Reading.{reads_bytes_in, read_length}
 use Rattle.bson_codec.specs.ReadErrors.{IsFaultAtOffset}
 use Rattle.bson_codec.specs.Streams.{declared_prefix}
 use Rattle.bson_codec.specs.Diagnostics.{line_feed, diagnostic_of}
@@ -37,7 +37,7 @@ WritesLine write_options Nothing pairs line = line ≡ []
 -- what is written of the document that the bytes are, which is UTF-8
 pub record IsLineOfDocument (run : Run) (bytes line : List ℕ) : Type 0 where
   pub pairs : Pairs
-  pub read : IsReadAsDocument run.depth bytes pairs
+  pub read : IsReadAsDocumentIn run.duplicate_keys run.depth bytes pairs
   pub written : WritesLine run.options run.line pairs line
   pub utf8 : IsUtf8 line
 
@@ -49,8 +49,9 @@ HasNoTextInForm write_options line pairs = ⊥
 -- nothing can be written for the bytes, because of the fault
 abbrev pub IsRejectedWithFault : RunFault → Run → (bytes : List ℕ) → Type 0
 IsRejectedWithFault (Malformed fault_kind error_offset) run bytes =
-    IsFaultAtOffset fault_kind error_offset bytes (reads_bytes run.depth bytes)
-IsRejectedWithFault FiniteDouble run bytes = (pairs : Pairs) × IsReadAsDocument run.depth bytes pairs
+    IsFaultAtOffset fault_kind error_offset bytes (reads_bytes_in run.duplicate_keys run.depth bytes)
+IsRejectedWithFault FiniteDouble run bytes = (pairs : Pairs)
+    × IsReadAsDocumentIn run.duplicate_keys run.depth bytes pairs
     × HasNoTextInForm run.options run.line pairs
 IsRejectedWithFault other_fault run bytes = ⊥
 
@@ -161,7 +162,8 @@ pub record EndsAt (run : Run)
 
 -- the bytes do not begin with a document that is written
 abbrev pub BeginsWithoutLine : Run → (bytes : List ℕ) → Type 0
-BeginsWithoutLine run bytes = (pairs : Pairs) (rest : List ℕ) → IsFirstDocument run.depth bytes pairs rest
+BeginsWithoutLine run bytes = (pairs : Pairs) (rest : List ℕ)
+    → IsFirstDocumentIn run.duplicate_keys run.depth bytes pairs rest
     → HasNoTextInForm run.options run.line pairs
 
 -- if the fault is one of a document, there are bytes at this offset, and they do not begin with a document that is

@@ -1,27 +1,21 @@
 //! Concatenated documents, as in dumps.
-ghost use Rattle.std.specs.Prelude.{◌≡◌, ◌⊎◌, ◌↔◌, ℕ, List, ◌++◌, IfOk, IfErr, OnOk, IsTrue, IsUtf8, false, string_bytes};
+ghost use Rattle.std.specs.Prelude.{◌≡◌, ◌⊎◌, ◌↔◌, IfOk, IfErr, OnOk, IsTrue, false};
 ghost use Rattle.std.specs.Io.KnownBytes.{Appends};
-ghost use Rattle.bson_model.specs.Displayed.{display_text};
-ghost use Rattle.bson_model.specs.Value as model;
-ghost use Rattle.bson_bytes.specs.ReadDocuments.{IsReadAsDocument};
-ghost use Rattle.bson.specs.View.{document_view};
 ghost use Rattle.bson.specs.Form.TheVariants.{Canonical};
 ghost use Rattle.bson_model.specs.NamedOptions.{default_options};
-ghost use Rattle.bson_model.specs.declared.options.KeyOrder.TheVariants.{AsGiven};
-ghost use Rattle.bson_codec.specs.DumpRuns.{BeginsWithLength, CompletedRun, EndsAt, IsLineOrSkip, IsConversionFault};
-ghost use Rattle.bson_codec.specs.DumpRuns.{IsJustifiedEnd, IsLineOfDocument, IsFaultOfDocument, IsRunEnd, IsReportFailure, IsLineFault};
-ghost use Rattle.bson_codec.specs.DumpRuns.{WritesLine, run_fault};
-ghost use Rattle.bson_codec.specs.Diagnostics.{line_feed, diagnostic_of};
+ghost use Rattle.bson_model.specs.declared.options.DuplicateKeys.TheVariants.{LastWins};
+ghost use Rattle.bson_codec.specs.DumpRuns.{BeginsWithLength, CompletedRun, EndsAt, IsLineOrSkip};
+ghost use Rattle.bson_codec.specs.DumpRuns.{IsJustifiedEnd, IsFaultOfDocument, IsRunEnd, IsReportFailure};
+ghost use Rattle.bson_codec.specs.Diagnostics.{diagnostic_of};
 ghost use Rattle.bson_codec.specs.declared.documents.Line.TheVariants.{Text};
 ghost use Rattle.bson_codec.specs.declared.documents.Run.{Run};
 ghost use Rattle.bson_codec.specs.declared.run_end.RunFault.TheVariants.{CannotRead, OutOfMemory};
 
-use crate::de::{DEPTH, Error, from_slice, is_document};
+use crate::de::{DEPTH, DuplicateKeys};
+use crate::document_line::line_of;
 use crate::run_end::{RunEnd, RunFault, diagnostic_line};
 use crate::stream::{ReaderError, read_document_bytes, write_whole};
-use crate::text::decode_text;
-use bson::extjson::{Doubles, Form, KeyOrder, Options, WriteError};
-use bson::{Bson, Document};
+use bson::extjson::{Form, Options};
 use bson_bytes::read_parts::read_length;
 use std::alloc::Global;
 use std::io::{Read, Write};
@@ -67,6 +61,8 @@ pub enum Line {
 pub struct Run {
     /// The number of levels to which documents, arrays and scopes may nest.
     pub depth: usize,
+    /// What happens to a duplicate key of a document.
+    pub duplicate_keys: DuplicateKeys,
     /// Whether finite doubles are accepted, and the order of keys and the layout of Extended JSON.
     pub options: Options,
     /// What is written for each document.
@@ -79,12 +75,14 @@ pub struct Run {
 impl Default for Run {
     fn default() -> Run
         ensures depth { result.depth ≡ DEPTH }
+        ensures duplicate_keys { result.duplicate_keys ≡ LastWins }
         ensures options { result.options ≡ default_options }
         ensures line { result.line ≡ Text Canonical }
         ensures keep_going { result.keep_going ≡ false }
     {
         Run {
             depth: DEPTH,
+            duplicate_keys: DuplicateKeys::LastWins,
             options: Options::default(),
             line: Line::Text(Form::Canonical),
             keep_going: false,
@@ -128,7 +126,8 @@ pub struct DocumentCounts {
 /// the documents before it was written and reported. Nothing of the document itself was, except
 /// that a beginning of it may have been written if the error is `CannotWrite`.
 ///
-/// - `Malformed`: the bytes are not a document.
+/// - `Malformed`: the bytes are not a document, or have a duplicate key and `duplicate_keys` rejects
+///   those.
 /// - `FiniteDouble`: the document has a finite double, and `options` does not accept it.
 /// - `CannotRead`: the reader failed, or has more bytes than a run can count.
 /// - `CannotWrite`: the writer or the report failed.
@@ -236,112 +235,6 @@ fn write_or_skip<W: Write, T: Write>(
             }
             Err(fault)
         }
-    }
-}
-
-// Returns the line of the document that the bytes are.
-fn line_of(alloc: Global, run: Run, bytes: &[u8]) -> Result<Vec<u8>, RunFault>
-    ensures ok { IfOk result (λ line. IsLineOfDocument run bytes.now line.items) }
-    ensures fault { IfErr result (λ run_end_fault. IsConversionFault run_end_fault run bytes.now) }
-{
-    match run.line {
-        Line::Text(form) => text_line(alloc, run, form, bytes),
-        Line::Shown => shown_line(alloc, read_document(alloc, run, bytes)?),
-        Line::Nothing => match is_document(bytes, run.depth) {
-            Ok(()) => Ok(Vec::new(alloc)),
-            Err(error) => Err(to_run_fault(error)),
-        },
-    }
-}
-
-// Reads the document.
-fn read_document(alloc: Global, run: Run, bytes: &[u8]) -> Result<Document, RunFault>
-    ensures ok { IfOk result (λ document. IsReadAsDocument run.depth bytes.now (document_view document)) }
-    ensures fault { IfErr result (λ run_end_fault. IsConversionFault run_end_fault run bytes.now) }
-{
-    match from_slice(alloc, bytes, run.depth) {
-        Ok(document) => Ok(document),
-        Err(error) => Err(to_run_fault(error)),
-    }
-}
-
-// Returns the line in the form of the document that the bytes are.
-fn text_line(alloc: Global, run: Run, form: Form, bytes: &[u8]) -> Result<Vec<u8>, RunFault>
-    requires { run.line ≡ Text form }
-    ensures ok { IfOk result (λ line. IsLineOfDocument run bytes.now line.items) }
-    ensures fault { IfErr result (λ run_end_fault. IsConversionFault run_end_fault run bytes.now) }
-{
-    match run.options.key_order {
-        KeyOrder::Ascending => value_line(alloc, run, form, read_document(alloc, run, bytes)?),
-        KeyOrder::AsGiven => ordered_line(alloc, run, form, bytes),
-    }
-}
-
-// Returns the line of the document that the bytes are, in the form and with its keys in their own
-// order. With finite doubles it needs no document in memory.
-fn ordered_line(alloc: Global, run: Run, form: Form, bytes: &[u8]) -> Result<Vec<u8>, RunFault>
-    requires { (run.line ≡ Text form) × (run.options.key_order ≡ AsGiven) }
-    ensures ok { IfOk result (λ line. IsLineOfDocument run bytes.now line.items) }
-    ensures fault { IfErr result (λ run_end_fault. IsConversionFault run_end_fault run bytes.now) }
-{
-    match run.options.doubles {
-        Doubles::Finite => match decode_text(
-            alloc,
-            run.options.layout.form(form),
-            bytes,
-            run.depth,
-        ) {
-            Ok(text) => end_line(text),
-            Err(error) => Err(to_run_fault(error)),
-        },
-        Doubles::Special => value_line(alloc, run, form, read_document(alloc, run, bytes)?),
-    }
-}
-
-// Why the bytes are not a document.
-fn to_run_fault(error: Error) -> RunFault
-    ensures { result ≡ run_fault error }
-{
-    match error {
-        Error::Malformed { kind, offset } => RunFault::Malformed { kind, offset },
-        Error::OutOfMemory => RunFault::OutOfMemory,
-    }
-}
-
-// Returns the line of the document in the form.
-fn value_line(alloc: Global, run: Run, form: Form, document: Document) -> Result<Vec<u8>, RunFault>
-    ensures ok { IfOk result
-        (λ line. WritesLine run.options (Text form) (document_view document) line.items × IsUtf8 line.items) }
-    ensures fault { IfErr result (λ run_end_fault. IsLineFault run_end_fault run.options (Text form) (document_view document)) }
-{
-    match Bson::Document(document).into_text(alloc, run.options, form) {
-        Ok(text) => end_line(text),
-        Err(WriteError::FiniteDouble) => Err(RunFault::FiniteDouble),
-        Err(WriteError::OutOfMemory) => Err(RunFault::OutOfMemory),
-    }
-}
-
-// Returns the line with the output of `Display`.
-fn shown_line(alloc: Global, document: Document) -> Result<Vec<u8>, RunFault>
-    ensures ok { IfOk result (λ line. (line.items ≡ display_text (model.document (document_view document)) ++ line_feed)
-        × IsUtf8 line.items) }
-    ensures fault { IfErr result (λ run_end_fault. run_end_fault ≡ OutOfMemory) }
-{
-    match format!(in alloc; "{document}\n") {
-        Ok(line) => Ok(line.into_bytes()),
-        Err(_) => Err(RunFault::OutOfMemory),
-    }
-}
-
-// Appends a newline.
-fn end_line(text: String) -> Result<Vec<u8>, RunFault>
-    ensures ok { IfOk result (λ line. (line.items ≡ string_bytes text ++ line_feed) × IsUtf8 line.items) }
-    ensures fault { IfErr result (λ run_end_fault. run_end_fault ≡ OutOfMemory) }
-{
-    let mut line = text.into_bytes();
-    match line.push(b'\n') {
-        Ok(()) => Ok(line),
-        Err(_) => Err(RunFault::OutOfMemory),
     }
 }
 

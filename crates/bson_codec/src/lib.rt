@@ -4,6 +4,7 @@
 #![tactic(auto)]
 
 pub mod de;
+mod document_line;
 pub mod documents;
 mod element_writer;
 pub mod laws;

@@ -55,6 +55,7 @@ command_allows SortKeys input output = has_output output
 command_allows Strict Documents output = writes_form output
 command_allows Strict input output = true
 command_allows Legacy input output = reads_texts input output
+command_allows NoDuplicateKeys Documents output = true
 command_allows NoDuplicateKeys input output = reads_texts input output
 command_allows Canonical input output = checks_texts input output
 command_allows Indent Text output = writes_form output

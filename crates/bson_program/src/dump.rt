@@ -57,12 +57,14 @@ pub fn run_dump<'a>(
 // Returns the settings for each document.
 fn run_settings(invocation: &Invocation) -> Run
     ensures depth { result.depth ≡ DEPTH }
+    ensures duplicate_keys { result.duplicate_keys ≡ invocation.now.task.preprocessing.duplicate_keys }
     ensures options { result.options ≡ invocation.now.options }
     ensures line { result.line ≡ document_line invocation.now.task.output }
     ensures keeps_going { IsTrue result.keep_going ↔ (invocation.now.on_refusal ≡ OnRefusal.KeepGoing) }
 {
     Run {
         depth: DEPTH,
+        duplicate_keys: invocation.task.preprocessing.duplicate_keys,
         options: invocation.options,
         line: document_line(invocation.task.output),
         keep_going: invocation.on_refusal == OnRefusal::KeepGoing,

@@ -102,6 +102,7 @@ reported with its number, its offset in the file, and the offset of the error in
 
   --sort-keys             (canonical, relaxed) writes keys in ascending order at every depth
   --strict                (not show, check) rejects finite doubles other than zeros; keys are written in ascending order
+  --no-double-keys        rejects a document in which an object has a duplicate key, at any depth
   --keep-going            (not same) skips a rejected document and reports it, if all the bytes of its length are present
   --jobs N                (not same) converts N parts of named files at a time
   --unordered             (same) ignores the order of documents
@@ -170,8 +171,8 @@ a regular expression has a 0 byte. Each part must have fewer than 2^31 bytes. By
   --legacy                (not decode) also reads three objects of Extended JSON v1, as those of v2: $binary
                           with $type, $regex with $options, and a $date whose offset has no colon, such as +0100. The
                           keys of a scope stay as they are
-  --no-double-keys        (not decode) rejects input in which an object has a duplicate key, at any depth, and
-                          reports the path to the first one; keys are compared after their escapes are decoded
+  --no-double-keys        rejects input in which an object has a duplicate key, at any depth, and reports the path to the
+                          first one, or with `decode` its offset; keys are compared after their escapes are decoded
   --canonical             (check, lines check) accepts only canonical JSON with keys in ascending order, byte for byte as
                           `canonical --sort-keys` writes it, with its newline or without; not with the two options above
   --indent N              (canonical, relaxed) writes a document over several lines, one for each member and element,

@@ -150,9 +150,14 @@ fn keep_going_run() -> Run {
     }
 }
 
-/// `LINE BYTES`: a run that goes on, with finite doubles, and writes this of each document.
+/// `LINE BYTES`: a run that goes on, with finite doubles, and writes this of each document. It rejects
+/// duplicate keys if the line ends in `_once`.
 fn write_dump(alloc: Global, text: &str, output_line: &mut RowOutput) -> RowResult {
     let (line, bytes) = split_at_space(text);
+    let (line, duplicate_keys) = match line.strip_suffix("_once") {
+        Some(line) => (line, DuplicateKeys::Reject),
+        None => (line, DuplicateKeys::LastWins),
+    };
     let (line, base_options) = match line.strip_suffix("_mongodb") {
         Some(line) => (line, Options::mongodb()),
         None => (line, Options::default()),
@@ -174,6 +179,7 @@ fn write_dump(alloc: Global, text: &str, output_line: &mut RowOutput) -> RowResu
         ..base_options
     };
     let run_settings = Run {
+        duplicate_keys,
         options,
         line,
         ..keep_going_run()

@@ -1,5 +1,6 @@
 -- A block of concatenated documents.
 use Rattle.std.specs.Prelude.{◌≡◌, ◌⊎◌, ℕ, IsUtf8, List, ◌++◌, Some, length, true}
+use Rattle.bson_model.specs.declared.options.DuplicateKeys.TheVariants.{LastWins}
 use Rattle.bson_model.specs.declared.options.Options.{Options}
 use Rattle.bson_codec.specs.DumpRuns.{Dump, EndsInside, IsFaultOfDocument}
 use Rattle.bson_codec.specs.Diagnostics.{diagnostic_of}
@@ -25,7 +26,7 @@ dump_line_format Show = Shown
 -- a rejected document adds a diagnostic, and the run continues
 abbrev pub dump_run_of_mode : Options → Mode → Run
 dump_run_of_mode options mode =
-    record { depth = depth; options = options; line = dump_line_format mode; keep_going = true }
+    record { depth = depth; duplicate_keys = LastWins; options = options; line = dump_line_format mode; keep_going = true }
 
 -- the whole block consists of so many documents, with this output and these diagnostics
 pub record IsWholeDump (run : Run) (block output all_diagnostics : List ℕ)

@@ -12,7 +12,7 @@ use crate::options::{CallOptions, are_not_for_conversion, options_of};
 use crate::status;
 use crate::text::{Text, append_newline, text_of_line};
 use bson::extjson::{Form, Options};
-use bson_codec::de::DEPTH;
+use bson_codec::de::{DEPTH, DuplicateKeys};
 use bson_codec::documents::{Line, Run, run_documents};
 use bson_codec::run_end::{RunEnd, RunFault};
 use bson_convert::mode::Mode;
@@ -74,6 +74,7 @@ fn dump_run_of_mode(options: Options, mode: Mode) -> Run
 {
     Run {
         depth: DEPTH,
+        duplicate_keys: DuplicateKeys::LastWins,
         options,
         line: line_kind_of_mode(mode),
         keep_going: true,

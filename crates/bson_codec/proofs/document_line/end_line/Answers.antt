@@ -2,7 +2,7 @@ use Rattle.std.proofs.Common.{◌≡◌, ◌++◌, IsUtf8, refl, rules, string_b
 use Rattle.std.proofs.lemmas.Str.{IsUtf8-append, IsUtf8-string_bytes}
 use Rattle.json.proofs.Printed.Utf8.{IsUtf8-are_ascii}
 use Rattle.bson_codec.specs.Diagnostics.{line_feed}
-use Rattle.bson_codec.proofs.documents.end_line.Goals as goal
+use Rattle.bson_codec.proofs.document_line.end_line.Goals as goal
 
 pub returns-in-Ok-clause-ok : goal.returns-in-Ok-clause-ok
 returns-in-Ok-clause-ok c =

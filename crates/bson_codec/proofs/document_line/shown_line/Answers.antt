@@ -1,6 +1,6 @@
 use Rattle.std.proofs.Common.{IsUtf8, rules, subst, sym}
 use Rattle.std.proofs.lemmas.Str.{IsUtf8-string_bytes}
-use Rattle.bson_codec.proofs.documents.shown_line.Goals as goal
+use Rattle.bson_codec.proofs.document_line.shown_line.Goals as goal
 
 pub returns-in-Ok-clause-ok : goal.returns-in-Ok-clause-ok
 returns-in-Ok-clause-ok c =
