@@ -64,7 +64,7 @@ abbrev pub accepted_doubles : (is_strict : Bool) → Doubles
 accepted_doubles true = Special
 accepted_doubles false = Finite
 
--- the layout of the specification, or that of MongoDB's tools
+-- the layout of the specification, or that of libbson and PyMongo
 abbrev pub requested_layout : (is_strict : Bool) → Layout
 requested_layout true = Specified
 requested_layout false = MongoDb

@@ -21,7 +21,6 @@ use std::alloc::{AllocError, Global};
 
 /// The greatest number of spaces.
 const MAX_INDENT_SPACES: usize = 16;
-
 /// The greatest number of jobs.
 const MAX_JOBS: usize = 9999;
 

@@ -47,7 +47,7 @@ pub fn accepted_doubles(is_strict: bool) -> Doubles
     }
 }
 
-/// Returns the layout of the output: that of the specification, or that of MongoDB's tools.
+/// Returns the layout of the output: that of the specification, or that of libbson and PyMongo.
 pub fn requested_layout(is_strict: bool) -> Layout
     ensures { result ≡ requested_layout is_strict }
 {

@@ -21,7 +21,7 @@ pub const DUPLICATE_KEYS_REJECT: u32 = 1;
 /// Extended JSON v1 is read too.
 pub const V1_ACCEPT: u32 = 1;
 
-/// The two forms have the layout of MongoDB's tools.
+/// The two forms have the layout of libbson and PyMongo.
 pub const LAYOUT_MONGODB: u32 = 1;
 
 /// The size of `CallOptions` in bytes. A later version with more fields has another size.
