@@ -44,7 +44,7 @@ impl fmt::Debug for Text {
 }
 
 /// What is accepted and written. The default is what libbson and PyMongo do: finite doubles, the order of keys, and the
-/// tools' layout.
+/// layout of both.
 ///
 /// ```
 /// use vbson::{convert, convert_with, Mode, Options};
