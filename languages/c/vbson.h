@@ -137,7 +137,7 @@ typedef struct vbson_options {
 #define VBSON_OPTIONS_INIT { sizeof(vbson_options), VBSON_DOUBLES_SPECIAL, VBSON_KEYS_ASCENDING, \
     VBSON_DUPLICATE_KEYS_LAST_WINS, VBSON_V1_REJECT, VBSON_LAYOUT_SPECIFIED }
 
-/* Returns the options of libbson and PyMongo: finite doubles, keys as given, and their layout. */
+/* Returns the options for MongoDB's documents: finite doubles, keys as given, and the layout of libbson and PyMongo. */
 static inline vbson_options vbson_options_mongodb(void) {
     vbson_options options = VBSON_OPTIONS_INIT;
     options.doubles = VBSON_DOUBLES_FINITE;
@@ -195,7 +195,7 @@ uint32_t vbson_convert_nonnull(uint32_t mode, const vbson_options *options, cons
  * decimal number under $numberDouble, is read as the nearest double, and rejected if that is not finite. A finite double is
  * written as its shortest decimal: {"$numberDouble":"12.5"} in the canonical form, and 12.5 in the relaxed form, in which a
  * zero is a number too.
- * VBSON_LAYOUT_MONGODB: the two forms are laid out as libbson and PyMongo write them. In the relaxed form the
+ * VBSON_LAYOUT_MONGODB: the two forms are laid out as libbson and json_util of PyMongo write them. In the relaxed form the
  * fraction of a second has three digits: "00:00:00.500Z" in place of "00:00:00.5Z". A whole second has no fraction. With
  * VBSON_KEYS_AS_GIVEN "t" is before "i", "pattern" before "options", and "$ref" before "$id" in their wrappers. Both layouts
  * denote the same values. The layout changes nothing in VBSON_SHOW.

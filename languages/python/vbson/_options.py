@@ -23,9 +23,9 @@ class Options(TypedDict, total=False):
     reject_duplicate_keys   reject input in which an object or a document has a duplicate key; without it the last value
                             wins, at the position of the first (False by default)
     legacy                  accept Extended JSON v1 too (False by default)
-    mongodb_layout          write dates and wrappers as libbson and json_util of PyMongo do: a fraction of a
-                            second has three digits, and with keep_order "t" is before "i", "pattern" before "options",
-                            and "$ref" before "$id". False writes no zeros at the end of a fraction, and ascending keys in
+    mongodb_layout          write dates and wrappers as libbson and json_util of PyMongo do: a fraction of a second has
+                            three digits, and with keep_order "t" is before "i", "pattern" before "options", and "$ref"
+                            before "$id". False writes no zeros at the end of a fraction, and ascending keys in
                             wrappers (True by default)
 
     A call that only compares, hashes or checks has no order of keys to keep and no layout, and BSON bytes have their doubles

@@ -164,7 +164,7 @@ pub const KEYS_AS_GIVEN: u32 = 1;
 pub const DUPLICATE_KEYS_REJECT: u32 = 1;
 /// The option for Extended JSON v1.
 pub const V1_ACCEPT: u32 = 1;
-/// The option for the layout of libbson and PyMongo.
+/// The option for MongoDB's layout.
 pub const LAYOUT_MONGODB: u32 = 1;
 
 /// No string of a scalar is longer: see the greatest lengths in `vbson.h`.

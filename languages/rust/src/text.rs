@@ -43,8 +43,8 @@ impl fmt::Debug for Text {
     }
 }
 
-/// What is accepted and written. The default is what libbson and PyMongo do: finite doubles, the order of keys, and the
-/// layout of both.
+/// What is accepted and written. The default is what MongoDB's data need: finite doubles, the order of keys, and the layout of
+/// libbson and PyMongo.
 ///
 /// ```
 /// use vbson::{convert, convert_with, Mode, Options};
@@ -67,14 +67,14 @@ pub struct Options {
     /// Preserves the order of the keys in the input or the document; without it keys are sorted. The last value of a
     /// duplicate key wins, at the position of the first.
     pub keep_order: bool,
-    /// Lays out the two forms as libbson and PyMongo do. A fraction of a second has three digits. With
+    /// Lays out the two forms as libbson and `json_util` of PyMongo do. A fraction of a second has three digits. With
     /// `keep_order`, `t` is before `i`, `pattern` before `options`, and `$ref` before `$id` in their wrappers. Without it a
     /// fraction has no zeros at its end, and the keys of a wrapper ascend. Both layouts denote the same values.
     pub mongodb_layout: bool,
 }
 
 impl Default for Options {
-    /// Returns the options with finite doubles, the order of keys, and the layout of libbson and PyMongo.
+    /// Returns the options with finite doubles, the order of keys, and MongoDB's layout.
     fn default() -> Options {
         Options { doubles: true, keep_order: true, mongodb_layout: true }
     }
