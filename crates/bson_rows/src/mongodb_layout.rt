@@ -1,4 +1,4 @@
-//! `mongodb FORM VALUE`: what the options of MongoDB write of a value that is read or made.
+//! `mongodb FORM VALUE`: a value that is read or made, and written by `Options::mongodb`.
 use crate::arguments::split_at_space;
 use crate::finite_doubles::write_text_result;
 use crate::row_error::{RowError, RowResult};

@@ -1,5 +1,5 @@
 -- Rows of `$date`, computed: the texts of RFC 3339 section 5.6 that are read, and those that the relaxed form has in the
--- specified layout and in that of MongoDB's tools.
+-- specified layout and in that of libbson and PyMongo.
 use Rattle.std.proofs.Common.{◌≡◌, ◌∙◌, ℤ, pos, refl, subst, rules}
 use Rattle.std.specs.Prelude.{codes, ℕ, List}
 use Rattle.jiff_core.specs.Calendar.{days_of_years, days_of_months, day_count, days_from_civil}

@@ -162,7 +162,7 @@ decimal_tree : (f : Form) (b : List ℕ)
     (one_key_object (codes "$numberDecimal") (tree.string (decimal_text b)))
 decimal_tree f b = canon_from f (model.scalar (kind.decimal b)) _ refl
 
--- dates, in the specified layout and in that of MongoDB's tools: the number of their milliseconds, or a text
+-- dates, in the specified layout and in that of libbson and PyMongo: the number of their milliseconds, or a text
 
 abbrev IsWrittenAs : Form → ℤ → Data → Type 0
 IsWrittenAs f z t = Written f (normal_form (model.scalar (kind.date z))) (one_key_object (codes "$date") t)
