@@ -145,8 +145,8 @@ scope_that_is_null : (D : Doubles)
     (two_key_object (codes "$scope") tree.null (codes "$code") (tree.string (codes "x"))) (scalar (code (codes "x")))
 scope_that_is_null D = means_from D _ _ refl
 
--- ---- inside any other wrapper the order says nothing. The keys are written in ascending order, or as MongoDB's tools
--- write them
+-- ---- inside any other wrapper the order says nothing. The keys are written in ascending order, or as libbson and
+-- PyMongo write them
 
 abbrev i_then_t : Data
 i_then_t = one_key_object (codes "$timestamp") (two_key_object (codes "i") (whole 2) (codes "t") (whole 1))
