@@ -1,5 +1,5 @@
--- Rows of `$date`, computed: the texts of RFC 3339 section 5.6 that are read, and those that the relaxed form has in the
--- specified layout and in that of libbson and PyMongo.
+-- Rows of `$date`, computed: the texts of RFC 3339 section 5.6 that are read, and those that the relaxed form has in
+-- each layout.
 use Rattle.std.proofs.Common.{◌≡◌, ◌∙◌, ℤ, pos, refl, subst, rules}
 use Rattle.std.specs.Prelude.{codes, ℕ, List}
 use Rattle.jiff_core.specs.Calendar.{days_of_years, days_of_months, day_count, days_from_civil}
@@ -63,7 +63,8 @@ first_as_specified = refl
 
 first_written_for_mongodb : HasText MongoDbRelaxed (pos 0) (codes "1970-01-01T00:00:00Z")
 unfolding first
-first_written_for_mongodb = subst (HasText MongoDbRelaxed (pos 0)) (first_as_specified ∙ rfc-fields (pos 0) first first_is)
+first_written_for_mongodb = subst (HasText MongoDbRelaxed (pos 0))
+    (first_as_specified ∙ rfc-fields (pos 0) first first_is)
     (canon_from MongoDbRelaxed (model.scalar (kind.date (pos 0))) _ refl)
 
 -- half a second later, in which the layouts differ
