@@ -1,5 +1,5 @@
 -- The text of an array or an object from the texts of its parts.
-use Rattle.std.proofs.Common.{◌≡◌, ℕ, Bool, true, false, List, [], ◌∷◌, ◌++◌, sym, ap, ◌∙◌}
+use Rattle.std.proofs.Common.{◌≡◌, ℕ, Bool, true, false, List, [], ◌∷◌, ◌++◌, refl, sym, ap, ◌∙◌}
 use Rattle.json.specs.Print.{quoted, print, print_from}
 use Rattle.json.specs.Token.{Token, end_object}
 use Rattle.json.proofs.Printed.Tokens.{print_from-append}
