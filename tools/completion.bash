@@ -8,7 +8,7 @@ _bson() {
             decode) own='--sort-keys --strict ' options='--sort-keys --strict --no-double-keys --keep-going --jobs --output --help --version' ;;
             encode) modes='' mode=$it options='--sort-keys --strict --legacy --no-double-keys --keep-going --jobs --output --help --version' ;;
             show) mode=$it options=${options/ --indent/} options=${options#"$own"} ;;
-            check) mode=$it options=${options#"$own"} options=${options/--sort-keys /} options=${options/ --indent/} options=${options/ --output/} options=${options/ --no-double-keys/ --no-double-keys --canonical} ;;
+            check) mode=$it options=${options#"$own"} options=${options/--sort-keys /} options=${options/ --indent/} options=${options/ --output/} options=${options/ --legacy --no-double-keys/ --legacy --no-double-keys --canonical} ;;
             hash) mode=$it options=${options/--sort-keys /} options=${options/ --indent/} ;;
             same) mode=$it options=${options/--sort-keys /} options=${options/ --indent/} options=${options/ --keep-going --jobs/} options=${options/ --output/ --unordered} ;;
             canonical | relaxed) mode=$it ;;
