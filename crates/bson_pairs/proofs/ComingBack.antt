@@ -14,13 +14,12 @@ use Rattle.bson.specs.Scalar.{code, regex, timestamp, binary, object_id, date, d
 use Rattle.bson.specs.Texts.{IsTextInOrder}
 use Rattle.bson.specs.Value.{Value, scalar, code_scope, array, document, Values, no_values, value, Pairs, no_pairs, pair}
 use Rattle.bson.specs.WrittenInOrder.{WrittenInOrder}
-use Rattle.bson.specs.NamedOptions.{mongodb_options}
 use Rattle.bson.specs.KeyOrder.TheVariants.{AsGiven}
 use Rattle.bson_codec.specs.Canonical.{PairsNestUpTo, pairs_read_back, with_written_subtype, document_bytes}
 use Rattle.bson_codec.specs.ReadDocuments.{IsReadAsDocument}
 use Rattle.bson_run.specs.Encode.{Encodes}
 use Rattle.bson_scalar.specs.Normal.{normal_scalar}
-use Rattle.bson_pairs.specs.RoundTrip.{RoundTrips, NestsAtMost}
+use Rattle.bson_pairs.specs.RoundTrip.{RoundTrips, NestsAtMost, round_trip_options}
 
 -- ---- what is in normal form has the subtypes that its bytes name
 
@@ -97,11 +96,11 @@ module _ (ps : Pairs) (text : List ℕ) (is : IsTextInOrder Finite Canonical (do
   -- ---- bytes
 
   -- the bytes that the text is encoded as are those of the document
-  pub encoded_again : (out : List ℕ) → Encodes AsGiven mongodb_options text out → out ≡ document_bytes ps
+  pub encoded_again : (out : List ℕ) → Encodes AsGiven round_trip_options text out → out ≡ document_bytes ps
   encoded_again out e = e.canonical ∙ ap document_bytes (meant e.pairs e.meaning.1)
 
   -- and they are read as it
-  pub decoded_again : (out : List ℕ) (depth : ℕ) → Encodes AsGiven mongodb_options text out → NestsAtMost depth ps
+  pub decoded_again : (out : List ℕ) (depth : ℕ) → Encodes AsGiven round_trip_options text out → NestsAtMost depth ps
       → IsReadAsDocument depth out ps
   decoded_again out depth e nests =
       let same = meant e.pairs e.meaning.1 in

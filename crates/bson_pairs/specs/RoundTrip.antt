@@ -4,10 +4,13 @@ use Rattle.serde_json.specs.Data.{Data, depth}
 use Rattle.serde_json.specs.Read.{max_depth}
 use Rattle.bson.specs.Doubles.TheVariants.{Finite}
 use Rattle.bson.specs.Form.TheVariants.{Canonical}
+use Rattle.bson.specs.KeyOrder.TheVariants.{AsGiven}
+use Rattle.bson.specs.Options.{Options}
 use Rattle.bson.specs.Normal.{normal_form, plain}
 use Rattle.bson.specs.Value.{Pairs, document}
 use Rattle.bson.specs.WriteError.TheVariants as write_errors
 use Rattle.bson.specs.WrittenInOrder.{WrittenInOrder}
+use Rattle.bson_scalar.specs.declared.form.Layout.TheVariants.{Specified}
 use Rattle.bson_codec.specs.Canonical.{PairsNestUpTo}
 use Rattle.bson_codec.specs.declared.de.Error.TheVariants as read_errors
 use Rattle.bson_convert.specs.declared.error.Error.TheVariants as errors
@@ -29,3 +32,7 @@ abbrev pub IsAllocationFailure : RoundTripError → Type 0
 IsAllocationFailure (NoBytes inner_error) = inner_error ≡ errors.OutOfMemory
 IsAllocationFailure (NoDocument inner_error) = inner_error ≡ read_errors.OutOfMemory
 IsAllocationFailure (NoText inner_error) = inner_error ≡ write_errors.OutOfMemory
+
+-- finite doubles, keys as given, and the specified layout
+abbrev pub round_trip_options : Options
+round_trip_options = record { doubles = Finite; key_order = AsGiven; layout = Specified }

@@ -14,6 +14,7 @@ pub mod second_conversion;
 
 use bson::Bson;
 use bson::extjson::{Doubles, Form, KeyOrder, Options, WriteError};
+use bson_scalar::form::Layout;
 use std::alloc::Global;
 
 /// Returns whether the canonical texts of two values are equal. Of plain values, in which no
@@ -53,6 +54,7 @@ pub fn have_one_text_in_form(
     let options = Options {
         doubles,
         key_order: KeyOrder::Ascending,
+        layout: Layout::Specified,
     };
     let left_text = left.to_text(alloc, options, form)?;
     let right_text = right.to_text(alloc, options, form)?;

@@ -3,18 +3,18 @@
 ghost use Rattle.std.specs.Prelude.{◌≡◌, IfOk, IfErr, string_bytes};
 ghost use Rattle.bson.specs.Doubles.TheVariants.{Finite};
 ghost use Rattle.bson.specs.Form.TheVariants.{Canonical};
-ghost use Rattle.bson.specs.NamedOptions.{mongodb_options};
 ghost use Rattle.bson.specs.Texts.{IsTextInOrder};
 ghost use Rattle.bson.specs.Value.{Pairs, document};
 ghost use Rattle.bson_codec.specs.Canonical.{FitsDocument};
 ghost use Rattle.bson_codec.specs.ReadDocuments.{IsCanonical, IsReadAsDocument};
-ghost use Rattle.bson_pairs.specs.RoundTrip.{RoundTrips, IsAllocationFailure, NestsAtMost};
+ghost use Rattle.bson_pairs.specs.RoundTrip.{RoundTrips, IsAllocationFailure, NestsAtMost, round_trip_options};
 
 use bson::Bson;
 use bson::extjson::{Form, Options, WriteError};
 use bson_codec::{de, from_slice};
 use bson_convert::error::Error;
 use bson_run::encode::encode;
+use bson_scalar::form::Layout;
 use std::alloc::Global;
 
 /// Why a conversion and its inverse fail.
@@ -28,11 +28,14 @@ pub enum RoundTripError {
     NoText(WriteError),
 }
 
-// Finite doubles are accepted, and keys are as given.
+// Finite doubles are accepted, keys are as given, and the layout is the specified one.
 fn options() -> Options
-    ensures { result ≡ mongodb_options }
+    ensures { result ≡ round_trip_options }
 {
-    Options::mongodb()
+    Options {
+        layout: Layout::Specified,
+        ..Options::mongodb()
+    }
 }
 
 /// Returns the text of the document that the bytes encode: canonical, its keys in their own order.

@@ -1,4 +1,5 @@
 use Rattle.std.proofs.Common.{◌≡◌, ◌∙◌, ap, subst, string_bytes}
+use Rattle.bson_scalar.specs.Forms.{form_in}
 use Rattle.bson.specs.Doubles.TheVariants.{Finite}
 use Rattle.bson.specs.Form.TheVariants.{Canonical}
 use Rattle.bson.specs.Texts.{IsTextInKeyOrder, IsTextInOrder}
@@ -18,5 +19,5 @@ returns-in-Ok-into_text-clause-ok c = λ ps read.
     let text = string_bytes c.in-Ok-into_text.text in
     let is : bson_view (held d) ≡ document ps = document_seen d ∙ ap document (c.in-Ok.ensures.only ps read).0 in
     subst (λ v. IsTextInOrder Finite Canonical v text) is
-    (subst (λ (o : Options). IsTextInKeyOrder o.key_order o.doubles Canonical (bson_view (held d)) text) c.options.ensures
+    (subst (λ (o : Options). IsTextInKeyOrder o.key_order o.doubles (form_in o.layout Canonical) (bson_view (held d)) text) c.options.ensures
     c.in-Ok-into_text.ensures.text)

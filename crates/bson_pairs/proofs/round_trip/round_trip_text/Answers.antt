@@ -5,7 +5,7 @@ use Rattle.bson.specs.Form.TheVariants.{Canonical}
 use Rattle.bson.specs.Texts.{IsTextInOrder}
 use Rattle.bson.specs.Value.{document}
 use Rattle.bson_codec.specs.ReadDocuments.{IsReadAsDocument}
-use Rattle.bson.specs.NamedOptions.{mongodb_options}
+use Rattle.bson_pairs.specs.RoundTrip.{round_trip_options}
 use Rattle.bson.specs.KeyOrder.TheVariants.{AsGiven}
 use Rattle.bson.specs.Options.{Options}
 use Rattle.bson_run.specs.Encode.{Encodes}
@@ -17,7 +17,7 @@ returns-clause-same c = λ ps is back nests.
     let text = c.args.text.now in
     let read =
     decoded_again ps text is back c.in-Ok.bytes.items c.args.depth
-    (subst (λ l. Encodes AsGiven mongodb_options l c.in-Ok.bytes.items) c.as_bytes.ensures.value
+    (subst (λ l. Encodes AsGiven round_trip_options l c.in-Ok.bytes.items) c.as_bytes.ensures.value
     (subst (λ (o : Options). Encodes o.key_order o c.as_bytes.result.now c.in-Ok.bytes.items) c.options.ensures c.in-Ok.ensures.ok))
     nests in
     IfOk-weaker c.decode_bytes.result (λ round_trip. IsTextInOrder Finite Canonical (document ps) (string_bytes round_trip))
