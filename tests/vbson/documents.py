@@ -86,7 +86,7 @@ def by_python(line):
             return f"0 {vbson.explain_document(given).encode().hex()}"
         if call == "encode":
             return f"0 {vbson.encode(given, keep_order=False).hex()}"
-        return f"0 {vbson.decode(given, call, keep_order=False).encode().hex()}"
+        return f"0 {vbson.decode(given, call, keep_order=False, mongodb_layout=False).encode().hex()}"
     except vbson.NotADocument as error:
         words = vbson.explain_document(given) if call != "encode" else "not a document"
         # (the error is made of those words, and offset and reason are all of them)
