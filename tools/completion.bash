@@ -1,14 +1,14 @@
 # Completions of bash for bson.
 _bson() {
-    local word=${COMP_WORDS[COMP_CWORD]} before=${COMP_WORDS[COMP_CWORD - 1]} it mode='' own='' options='--sort-keys --strict --legacy --no-double-keys --indent --output --help --version'
+    local word=${COMP_WORDS[COMP_CWORD]} before=${COMP_WORDS[COMP_CWORD - 1]} it mode='' own='' options='--sort-keys --strict --v1 --no-double-keys --indent --output --help --version'
     local modes='canonical relaxed show check hash same'
     for it in "${COMP_WORDS[@]:1:COMP_CWORD-1}"; do
         case $it in
             lines) options=${options/--indent/--keep-going --jobs} ;;
             decode) own='--sort-keys --strict ' options='--sort-keys --strict --no-double-keys --keep-going --jobs --output --help --version' ;;
-            encode) modes='' mode=$it options='--sort-keys --strict --legacy --no-double-keys --keep-going --jobs --output --help --version' ;;
+            encode) modes='' mode=$it options='--sort-keys --strict --v1 --no-double-keys --keep-going --jobs --output --help --version' ;;
             show) mode=$it options=${options/ --indent/} options=${options#"$own"} ;;
-            check) mode=$it options=${options#"$own"} options=${options/--sort-keys /} options=${options/ --indent/} options=${options/ --output/} options=${options/ --legacy --no-double-keys/ --legacy --no-double-keys --canonical} ;;
+            check) mode=$it options=${options#"$own"} options=${options/--sort-keys /} options=${options/ --indent/} options=${options/ --output/} options=${options/ --v1 --no-double-keys/ --v1 --no-double-keys --canonical} ;;
             hash) mode=$it options=${options/--sort-keys /} options=${options/ --indent/} ;;
             same) mode=$it options=${options/--sort-keys /} options=${options/ --indent/} options=${options/ --keep-going --jobs/} options=${options/ --output/ --unordered} ;;
             canonical | relaxed) mode=$it ;;

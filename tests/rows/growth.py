@@ -12,8 +12,8 @@ from many_keys import encoded
 COMMANDS = (
     "canonical --strict", "relaxed --strict", "show --strict", "check --strict",
     "canonical", "relaxed", "show", "check", "canonical --sort-keys",
-    "canonical --strict --no-double-keys", "canonical --strict --legacy", "canonical --strict --indent 1",
-    "canonical --no-double-keys", "canonical --legacy", "canonical --indent 1",
+    "canonical --strict --no-double-keys", "canonical --strict --v1", "canonical --strict --indent 1",
+    "canonical --no-double-keys", "canonical --v1", "canonical --indent 1",
     "check --canonical", "hash", "same /dev/stdin /dev/stdin",
     "lines canonical --strict", "lines canonical", "lines hash", "encode", "encode --sort-keys", "encode --strict",
 )

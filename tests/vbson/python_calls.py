@@ -185,7 +185,7 @@ def try_canonical():
                 wanted = vbson.convert(text, doubles=doubles, keep_order=False) == text
             except vbson.Error:
                 wanted = False
-            want(f"canonical {text!r}", vbson.is_canonical_text(text, doubles=doubles, legacy=True, keep_order=False), wanted)
+            want(f"canonical {text!r}", vbson.is_canonical_text(text, doubles=doubles, v1=True, keep_order=False), wanted)
     want("canonical bytes", vbson.is_canonical_text(memoryview(one.encode())), True)
     raises("a number", TypeError, vbson.is_canonical_text, 5)
     raises("doubles that are no bool", TypeError, lambda it: vbson.is_canonical_text("1", doubles=it), 1)
@@ -207,11 +207,11 @@ def try_reading():
     want("the hash of a duplicate key", refusal(lambda it: vbson.hash_of(it, **strict), twice), wanted)
     want("a duplicate key explained", (vbson.explain(twice), vbson.explain(twice, **strict)), ("", words))
     want("the last value", vbson.same(twice, '{"a":[{"b":2}]}'), True)
-    want("v1", (vbson.same(v1, v2, legacy=True), vbson.hash_of(v1, legacy=True) == vbson.hash_of(v2)), (True, True))
-    raises("v1 without legacy", vbson.NotExtendedJson, vbson.same, v2, v1)
-    want("v1 explained", (vbson.explain(v1, legacy=True), vbson.explain(v1) != ""), ("", True))
+    want("v1", (vbson.same(v1, v2, v1=True), vbson.hash_of(v1, v1=True) == vbson.hash_of(v2)), (True, True))
+    raises("v1 without its option", vbson.NotExtendedJson, vbson.same, v2, v1)
+    want("v1 explained", (vbson.explain(v1, v1=True), vbson.explain(v1) != ""), ("", True))
     for call in (vbson.hash_of, vbson.explain, lambda it, **options: vbson.same(it, it, **options)):
-        for name in ("doubles", "reject_duplicate_keys", "legacy"):
+        for name in ("doubles", "reject_duplicate_keys", "v1"):
             raises(f"{name} that is no bool", TypeError, lambda it: call("1", **{it: 1}), name)
     document, turned = vbson.encode(price, **SORTED), vbson.encode(other)
     want("documents", (document != turned, vbson.same_documents(document, turned)), (True, True))

@@ -125,13 +125,13 @@ def try_options():
                                    vbson.loads_lines, lambda given, **options: vbson.same(given, given, **options))]
     calls += [(it, document) for it in (vbson.decode, vbson.decode_documents, vbson.is_document, vbson.explain_document, vbson.hash_of_document, vbson.loads_documents)]
     for call, given in calls:
-        want(f"{call.__name__} with its defaults", call(given, doubles=True, keep_order=True, reject_duplicate_keys=False, legacy=False, mongodb_layout=True), call(given))
+        want(f"{call.__name__} with its defaults", call(given, doubles=True, keep_order=True, reject_duplicate_keys=False, v1=False, mongodb_layout=True), call(given))
         want(f"{call.__name__} with another layout", call(given, mongodb_layout=False), call(given))
         raises(f"{call.__name__} with another option", TypeError, call, given, sorted=True)
         for name in vbson.Options.__annotations__:
             raises(f"{call.__name__} with {name} that is no bool", TypeError, call, given, **{name: 1})
     for call in (vbson.convert, vbson.encode, vbson.loads, vbson.convert_lines):
-        raises(f"{call.__name__} of v1", ValueError, call, "{}", legacy=True)
+        raises(f"{call.__name__} of v1", ValueError, call, "{}", v1=True)
     for call in (vbson.convert_lines, vbson.encode_lines, vbson.loads_lines):
         raises(f"{call.__name__} without duplicate keys", ValueError, call, "{}", reject_duplicate_keys=True)
     for call in (vbson.convert, vbson.encode, vbson.loads, vbson.hash_of):

@@ -125,7 +125,7 @@ def option_values():
 
 
 # What stands for them in Python: a bit for each field of the struct, in their order.
-FLAGS = {"DOUBLES": 1, "KEEP_ORDER": 2, "REJECT_DUPLICATE_KEYS": 4, "LEGACY": 8, "MONGODB_LAYOUT": 16}
+FLAGS = {"DOUBLES": 1, "KEEP_ORDER": 2, "REJECT_DUPLICATE_KEYS": 4, "V1": 8, "MONGODB_LAYOUT": 16}
 
 
 def answers(contract):

@@ -6,7 +6,7 @@ use Rattle.bson_run.specs.declared.task.Output as task
 use Rattle.bson_run.specs.declared.task.Output.TheVariants as output
 use Rattle.bson_program.specs.declared.arguments.ArgsSoFar.{ArgsSoFar}
 use Rattle.bson_program.specs.declared.invocation.Flag.{Flag}
-use Rattle.bson_program.specs.declared.invocation.Flag.TheVariants.{SortKeys, Strict, Legacy, NoDuplicateKeys, Canonical, Indent, KeepGoing, Jobs}
+use Rattle.bson_program.specs.declared.invocation.Flag.TheVariants.{SortKeys, Strict, V1, NoDuplicateKeys, Canonical, Indent, KeepGoing, Jobs}
 use Rattle.bson_program.specs.declared.invocation.Flag.TheVariants.{Output, Unordered}
 use Rattle.bson_program.specs.declared.invocation.Input.{Input}
 use Rattle.bson_program.specs.declared.invocation.Input.TheVariants.{Text, Documents}
@@ -54,7 +54,7 @@ command_allows SortKeys Documents output = writes_form output
 command_allows SortKeys input output = has_output output
 command_allows Strict Documents output = writes_form output
 command_allows Strict input output = true
-command_allows Legacy input output = reads_texts input output
+command_allows V1 input output = reads_texts input output
 command_allows NoDuplicateKeys Documents output = true
 command_allows NoDuplicateKeys input output = reads_texts input output
 command_allows Canonical input output = checks_texts input output
@@ -83,7 +83,7 @@ purpose_allows flag purpose = true
 abbrev pub has_flag : Flag → ArgsSoFar → Bool
 has_flag SortKeys args_so_far = args_so_far.sorts_keys
 has_flag Strict args_so_far = args_so_far.is_strict
-has_flag Legacy args_so_far = args_so_far.is_legacy
+has_flag V1 args_so_far = args_so_far.reads_v1
 has_flag NoDuplicateKeys args_so_far = args_so_far.rejects_duplicates
 has_flag Canonical args_so_far = args_so_far.is_canonical
 has_flag Indent args_so_far = is_some args_so_far.indent
@@ -103,7 +103,7 @@ is_unsupported flag args_so_far output =
 abbrev pub flag_name : Flag → List ℕ
 flag_name SortKeys = codes "--sort-keys"
 flag_name Strict = codes "--strict"
-flag_name Legacy = codes "--legacy"
+flag_name V1 = codes "--v1"
 flag_name NoDuplicateKeys = codes "--no-double-keys"
 flag_name Canonical = codes "--canonical"
 flag_name Indent = codes "--indent"

@@ -213,9 +213,9 @@ abbrev pub IsReadUpgraded : Options → Preprocessing → (text : List ℕ) → 
 IsReadUpgraded options preprocessing text =
     (upgraded : List ℕ) × IsPreprocessedAs preprocessing text upgraded × IsAccepted options upgraded
 
--- `--legacy` is not set, and the text has a value with it
-abbrev pub IsReadWithLegacy : Invocation → (text : List ℕ) → Type 0
-IsReadWithLegacy invocation text = (invocation.task.preprocessing.v1 ≡ false)
+-- `--v1` is not set, and the text has a value with it
+abbrev pub IsReadWithV1 : Invocation → (text : List ℕ) → Type 0
+IsReadWithV1 invocation text = (invocation.task.preprocessing.v1 ≡ false)
     × (is_canonical invocation.task.output ≡ false)
     × IsReadUpgraded invocation.options (record invocation.task.preprocessing { v1 = true }) text
 
@@ -223,7 +223,7 @@ IsReadWithLegacy invocation text = (invocation.task.preprocessing.v1 ≡ false)
 abbrev pub IsAdviceFor : Invocation → Error → (text : List ℕ) → Advice → Type 0
 IsAdviceFor invocation error.NotJson text given_advice = IsSyntaxAdvice invocation text given_advice
 IsAdviceFor invocation (error.NotExtendedJson place) text given_advice =
-    (given_advice ≡ advice.Legacy) × IsReadWithLegacy invocation text
+    (given_advice ≡ advice.V1) × IsReadWithV1 invocation text
 IsAdviceFor invocation (error.NoBytes reason) text given_advice = (reason ≡ NoDocument)
     × (given_advice ≡ advice.NotADocument)
 IsAdviceFor invocation fault text given_advice = ⊥
@@ -293,7 +293,7 @@ advice_text advice.SeveralTextsOnOneLine = codes "has several texts on one line;
 advice_text advice.ControlCharacter =
     codes "has a control character in a string; write a tab as \\t, a newline as \\n, any other as \\u0001"
 advice_text advice.NotUtf8 = codes "is not UTF-8; if it is Latin-1, give it through 'iconv -f latin1 -t utf-8'"
-advice_text advice.Legacy = codes "has Extended JSON v1, which is read with --legacy"
+advice_text advice.V1 = codes "has Extended JSON v1, which is read with --v1"
 advice_text advice.NotADocument =
     codes "has a value that is not a document, and encode makes bytes of documents alone"
 
@@ -334,9 +334,9 @@ is_strict Special = true
 is_strict Finite = false
 
 abbrev pub options_of_preprocessing : (reads_v1 : Bool) → DuplicateKeys → List ℕ
-options_of_preprocessing true LastWins = codes " --legacy"
+options_of_preprocessing true LastWins = codes " --v1"
 options_of_preprocessing false Reject = codes " --no-double-keys"
-options_of_preprocessing true Reject = codes " --legacy --no-double-keys"
+options_of_preprocessing true Reject = codes " --v1 --no-double-keys"
 options_of_preprocessing false LastWins = []
 
 abbrev pub preprocessing_options : Preprocessing → List ℕ

@@ -55,9 +55,9 @@ requested_duplicate_keys true = Reject
 requested_duplicate_keys false = LastWins
 
 -- the preprocessing of a text before it is read: the check for duplicate keys, and rewriting Extended JSON v1
-abbrev pub requested_preprocessing : (rejects_duplicates is_legacy : Bool) → Preprocessing
-requested_preprocessing rejects_duplicates is_legacy =
-    record { duplicate_keys = requested_duplicate_keys rejects_duplicates; v1 = is_legacy }
+abbrev pub requested_preprocessing : (rejects_duplicates reads_v1 : Bool) → Preprocessing
+requested_preprocessing rejects_duplicates reads_v1 =
+    record { duplicate_keys = requested_duplicate_keys rejects_duplicates; v1 = reads_v1 }
 
 -- all doubles have a text; or, if the run is strict, those of the specification
 abbrev pub accepted_doubles : (is_strict : Bool) → Doubles
@@ -86,7 +86,7 @@ IsInvalidCount maximum arg = (count : ℕ) → 0 < count → count ≤ maximum �
 
 -- the arguments that are options, each with its value in the argument or after it
 abbrev pub is_option : (arg : List ℕ) → Bool
-is_option arg = bytes_eq arg (codes "--sort-keys") || bytes_eq arg (codes "--strict") || bytes_eq arg (codes "--legacy")
+is_option arg = bytes_eq arg (codes "--sort-keys") || bytes_eq arg (codes "--strict") || bytes_eq arg (codes "--v1")
     || bytes_eq arg (codes "--no-double-keys") || bytes_eq arg (codes "--canonical") || bytes_eq arg (codes "--unordered")
     || bytes_eq arg (codes "--keep-going") || bytes_eq arg (codes "--indent")
     || bytes_eq arg (codes "--jobs") || bytes_eq arg (codes "-o") || bytes_eq arg (codes "--output")
@@ -151,7 +151,7 @@ set_flags arg args_so_far = record args_so_far {
   sorts_keys = bytes_eq arg (codes "--sort-keys") || args_so_far.sorts_keys;
   is_strict = bytes_eq arg (codes "--strict") || args_so_far.is_strict;
   rejects_duplicates = bytes_eq arg (codes "--no-double-keys") || args_so_far.rejects_duplicates;
-  is_legacy = bytes_eq arg (codes "--legacy") || args_so_far.is_legacy;
+  reads_v1 = bytes_eq arg (codes "--v1") || args_so_far.reads_v1;
   is_canonical = bytes_eq arg (codes "--canonical") || args_so_far.is_canonical;
   is_unordered = bytes_eq arg (codes "--unordered") || args_so_far.is_unordered;
   expected_arg = if bytes_eq arg (codes "--") then Operand
@@ -197,7 +197,7 @@ IsInitialState args_so_far = args_so_far ≡ record args_so_far {
   sorts_keys = false;
   is_strict = false;
   rejects_duplicates = false;
-  is_legacy = false;
+  reads_v1 = false;
   is_canonical = false;
   is_unordered = false;
   indent = None;
@@ -259,7 +259,7 @@ IsParsed args_so_far arg (parsed.InvalidUsage error_kind) = IsUsageError args_so
 pub record AllOptionsSupported (args_so_far : ArgsSoFar) (output_kind : Output) : Type 0 where
   pub sort_keys : is_unsupported flag.SortKeys args_so_far output_kind ≡ false
   pub strict : is_unsupported flag.Strict args_so_far output_kind ≡ false
-  pub legacy : is_unsupported flag.Legacy args_so_far output_kind ≡ false
+  pub v1 : is_unsupported flag.V1 args_so_far output_kind ≡ false
   pub no_double_keys : is_unsupported flag.NoDuplicateKeys args_so_far output_kind ≡ false
   pub canonical : is_unsupported flag.Canonical args_so_far output_kind ≡ false
   pub indent : is_unsupported flag.Indent args_so_far output_kind ≡ false
@@ -304,7 +304,7 @@ option_without_value expected_arg = None
 -- the task of a mode with the options
 abbrev pub requested_task : ArgsSoFar → (named_kind : Output) → Task
 requested_task args_so_far named_kind = record {
-  preprocessing = requested_preprocessing args_so_far.rejects_duplicates args_so_far.is_legacy;
+  preprocessing = requested_preprocessing args_so_far.rejects_duplicates args_so_far.reads_v1;
   output = with_criterion args_so_far.is_canonical named_kind;
 }
 

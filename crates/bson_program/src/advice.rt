@@ -1,7 +1,7 @@
 //! Which mistake a rejected text makes, and what reads it.
 ghost use Rattle.std.specs.Prelude.{◌≡◌, ◌<◌, ◌⊎◌, IfSome, length, true};
 ghost use Rattle.bson_run.specs.ErrorMessages.{IsSubslice};
-ghost use Rattle.bson_program.specs.Hints.{IsAdvice, IsAdviceFor, IsSyntaxAdvice, IsReadUpgraded, IsReadWithLegacy, IsSplit};
+ghost use Rattle.bson_program.specs.Hints.{IsAdvice, IsAdviceFor, IsSyntaxAdvice, IsReadUpgraded, IsReadWithV1, IsSplit};
 ghost use Rattle.bson_program.specs.Hints.{advice_for_trailing_data, advice_for_bytes, advice_for_rule};
 ghost use Rattle.bson_program.specs.Hints.{is_canonical, is_comment, is_python_or_js_literal, is_not_finite, is_shell_call, is_shell_value};
 
@@ -47,8 +47,8 @@ pub enum Advice {
     ControlCharacter,
     /// Bytes that are not UTF-8.
     NotUtf8,
-    /// Extended JSON v1, which `--legacy` reads.
-    Legacy,
+    /// Extended JSON v1, which `--v1` reads.
+    V1,
     /// A value that is not a document, where bytes are made.
     NotADocument,
 }
@@ -300,9 +300,9 @@ fn is_python_or_js_literal(remaining_bytes: &[u8]) -> bool
         || remaining_bytes.starts_with(b"undefined")
 }
 
-// Returns what helps with a text that is not Extended JSON: `--legacy`, if it reads the text.
+// Returns what helps with a text that is not Extended JSON: `--v1`, if it reads the text.
 fn advice_for_value_error(alloc: Global, invocation: &Invocation, text: &[u8]) -> Option<Advice>
-    ensures { IfSome result (λ advice. (advice ≡ Advice.Legacy) × IsReadWithLegacy invocation.now text.now) }
+    ensures { IfSome result (λ advice. (advice ≡ Advice.V1) × IsReadWithV1 invocation.now text.now) }
 {
     let preprocessing = invocation.task.preprocessing;
     if preprocessing.v1 || is_canonical(invocation.task.output) {
@@ -313,7 +313,7 @@ fn advice_for_value_error(alloc: Global, invocation: &Invocation, text: &[u8]) -
         ..preprocessing
     };
     if reads_upgraded(alloc, invocation.options, with_v1, text) {
-        Some(Advice::Legacy)
+        Some(Advice::V1)
     } else {
         None
     }

@@ -53,8 +53,8 @@ fn unsupported_option(args_so_far: &ArgsSoFar, output: Output) -> Option<Flag>
     if is_unsupported(Flag::Strict, args_so_far, output) {
         return Some(Flag::Strict);
     }
-    if is_unsupported(Flag::Legacy, args_so_far, output) {
-        return Some(Flag::Legacy);
+    if is_unsupported(Flag::V1, args_so_far, output) {
+        return Some(Flag::V1);
     }
     if is_unsupported(Flag::NoDuplicateKeys, args_so_far, output) {
         return Some(Flag::NoDuplicateKeys);
@@ -101,7 +101,7 @@ fn purpose_allows(flag: Flag, purpose: Purpose) -> bool
         Flag::SortKeys | Flag::Indent => purpose == Purpose::Output,
         Flag::KeepGoing | Flag::Jobs | Flag::Output => purpose != Purpose::Comparison,
         Flag::Unordered => purpose == Purpose::Comparison,
-        Flag::Strict | Flag::Legacy | Flag::NoDuplicateKeys | Flag::Canonical => true,
+        Flag::Strict | Flag::V1 | Flag::NoDuplicateKeys | Flag::Canonical => true,
     }
 }
 
@@ -113,7 +113,7 @@ fn command_allows(flag: Flag, input: Input, output: Output) -> bool
         Flag::SortKeys if input == Input::Documents => writes_form(output),
         Flag::SortKeys | Flag::Output => !is_check(output),
         Flag::Strict => input != Input::Documents || writes_form(output),
-        Flag::Legacy => reads_texts(input, output),
+        Flag::V1 => reads_texts(input, output),
         Flag::NoDuplicateKeys => input == Input::Documents || reads_texts(input, output),
         Flag::Canonical => input != Input::Documents && is_check(output),
         Flag::Indent => input == Input::Text && writes_form(output),

@@ -35,7 +35,7 @@ pub struct ArgsSoFar {
     pub sorts_keys: bool,
     pub is_strict: bool,
     pub rejects_duplicates: bool,
-    pub is_legacy: bool,
+    pub reads_v1: bool,
     pub is_canonical: bool,
     pub is_unordered: bool,
     pub indent: Option<usize>,
@@ -85,7 +85,7 @@ impl ArgsSoFar {
             sorts_keys: false,
             is_strict: false,
             rejects_duplicates: false,
-            is_legacy: false,
+            reads_v1: false,
             is_canonical: false,
             is_unordered: false,
             indent: None,
@@ -116,7 +116,7 @@ impl ArgsSoFar {
         match flag {
             Flag::SortKeys => self.sorts_keys,
             Flag::Strict => self.is_strict,
-            Flag::Legacy => self.is_legacy,
+            Flag::V1 => self.reads_v1,
             Flag::NoDuplicateKeys => self.rejects_duplicates,
             Flag::Canonical => self.is_canonical,
             Flag::Indent => self.indent.is_some(),
@@ -168,7 +168,7 @@ impl ArgsSoFar {
             "--sort-keys" => Ok(set_flag(&mut self.sorts_keys, Flag::SortKeys)),
             "--strict" => Ok(set_flag(&mut self.is_strict, Flag::Strict)),
             "--no-double-keys" => Ok(set_flag(&mut self.rejects_duplicates, Flag::NoDuplicateKeys)),
-            "--legacy" => Ok(set_flag(&mut self.is_legacy, Flag::Legacy)),
+            "--v1" => Ok(set_flag(&mut self.reads_v1, Flag::V1)),
             "--canonical" => Ok(set_flag(&mut self.is_canonical, Flag::Canonical)),
             "--unordered" => Ok(set_flag(&mut self.is_unordered, Flag::Unordered)),
             "--doubles" | "--keep-order" => Ok(ParsedArg::InvalidUsage(UsageError::RemovedOption)),
@@ -352,7 +352,7 @@ impl ArgsSoFar {
             sorts_keys,
             is_strict,
             rejects_duplicates,
-            is_legacy,
+            reads_v1,
             is_unordered,
             indent,
             output,
@@ -365,7 +365,7 @@ impl ArgsSoFar {
         };
         Ok(Request::Run(Invocation {
             task: Task {
-                preprocessing: requested_preprocessing(rejects_duplicates, is_legacy),
+                preprocessing: requested_preprocessing(rejects_duplicates, reads_v1),
                 output: output_kind,
             },
             options: Options {

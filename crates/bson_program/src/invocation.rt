@@ -82,8 +82,8 @@ pub enum Flag {
     SortKeys,
     /// `--strict`.
     Strict,
-    /// `--legacy`.
-    Legacy,
+    /// `--v1`.
+    V1,
     /// `--no-double-keys`.
     NoDuplicateKeys,
     /// `--canonical`.

@@ -80,8 +80,8 @@ pub fn with_criterion(is_canonical: bool, output: Output) -> Output
 }
 
 /// Returns the requested preprocessing.
-pub fn requested_preprocessing(rejects_duplicates: bool, is_legacy: bool) -> Preprocessing
-    ensures { result ≡ requested_preprocessing rejects_duplicates is_legacy }
+pub fn requested_preprocessing(rejects_duplicates: bool, reads_v1: bool) -> Preprocessing
+    ensures { result ≡ requested_preprocessing rejects_duplicates reads_v1 }
 {
     let duplicate_keys = if rejects_duplicates {
         DuplicateKeys::Reject
@@ -90,6 +90,6 @@ pub fn requested_preprocessing(rejects_duplicates: bool, is_legacy: bool) -> Pre
     };
     Preprocessing {
         duplicate_keys,
-        v1: is_legacy,
+        v1: reads_v1,
     }
 }

@@ -140,9 +140,9 @@ fn preprocessing_options(preprocessing: Preprocessing) -> &'static str
     ensures { result.now ≡ preprocessing_options preprocessing }
 {
     match (preprocessing.v1, preprocessing.duplicate_keys) {
-        (true, DuplicateKeys::LastWins) => " --legacy",
+        (true, DuplicateKeys::LastWins) => " --v1",
         (false, DuplicateKeys::Reject) => " --no-double-keys",
-        (true, DuplicateKeys::Reject) => " --legacy --no-double-keys",
+        (true, DuplicateKeys::Reject) => " --v1 --no-double-keys",
         (false, DuplicateKeys::LastWins) => "",
     }
 }
@@ -222,7 +222,7 @@ fn advice_text(advice: Advice) -> &'static str
             "has several texts on one line; write each on a line of its own",
         Advice::ControlCharacter => CONTROL_CHARACTER_MESSAGE,
         Advice::NotUtf8 => NOT_UTF_8_MESSAGE,
-        Advice::Legacy => "has Extended JSON v1, which is read with --legacy",
+        Advice::V1 => "has Extended JSON v1, which is read with --v1",
         Advice::NotADocument => NOT_A_DOCUMENT_MESSAGE,
     }
 }

@@ -205,7 +205,7 @@ fn flag_name(flag: Flag) -> &'static str
     match flag {
         Flag::SortKeys => "--sort-keys",
         Flag::Strict => "--strict",
-        Flag::Legacy => "--legacy",
+        Flag::V1 => "--v1",
         Flag::NoDuplicateKeys => "--no-double-keys",
         Flag::Canonical => "--canonical",
         Flag::Indent => "--indent",

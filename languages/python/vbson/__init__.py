@@ -22,7 +22,7 @@ built if there is a Python.h, returns the same faster; the variable VBSON_EXTENS
 Input is `str`, or `bytes` (or another object with a buffer) in UTF-8; anything else is a TypeError. Any number of threads
 may call at once.
 """
-from ._options import (CANONICAL, DOUBLES, KEEP_ORDER, LEGACY, MONGODB_LAYOUT, REJECT_DUPLICATE_KEYS, RELAXED, SHOW, SPECIFIED,
+from ._options import (CANONICAL, DOUBLES, KEEP_ORDER, V1, MONGODB_LAYOUT, REJECT_DUPLICATE_KEYS, RELAXED, SHOW, SPECIFIED,
                        Options)
 from .documents import decode, decode_documents, explain_document, hash_of_document, is_document, same_documents
 from .errors import (BAD_OBJECT_ID, BUFFER_TOO_SMALL, DIFFERENT, INVALID_ARGUMENT, INVALID_STRING, NOT_A_DOCUMENT, NOT_CANONICAL, NOT_EXTENDED_JSON,

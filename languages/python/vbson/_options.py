@@ -9,8 +9,8 @@ Given = Union[str, bytes, bytearray, memoryview]
 CANONICAL, RELAXED, SHOW = 0, 1, 2
 Mode = Union[int, str]
 _MODES = {"canonical": CANONICAL, "relaxed": RELAXED, "show": SHOW}
-DOUBLES, KEEP_ORDER, REJECT_DUPLICATE_KEYS, LEGACY, MONGODB_LAYOUT = 1, 2, 4, 8, 16
-_FLAGS = {"doubles": DOUBLES, "keep_order": KEEP_ORDER, "reject_duplicate_keys": REJECT_DUPLICATE_KEYS, "legacy": LEGACY,
+DOUBLES, KEEP_ORDER, REJECT_DUPLICATE_KEYS, V1, MONGODB_LAYOUT = 1, 2, 4, 8, 16
+_FLAGS = {"doubles": DOUBLES, "keep_order": KEEP_ORDER, "reject_duplicate_keys": REJECT_DUPLICATE_KEYS, "v1": V1,
           "mongodb_layout": MONGODB_LAYOUT}
 _DEFAULT = DOUBLES | KEEP_ORDER | MONGODB_LAYOUT
 
@@ -22,7 +22,7 @@ class Options(TypedDict, total=False):
     keep_order              keep the order of keys; False sorts them (True by default)
     reject_duplicate_keys   reject input in which an object or a document has a duplicate key; without it the last value
                             wins, at the position of the first (False by default)
-    legacy                  accept Extended JSON v1 too (False by default)
+    v1                  accept Extended JSON v1 too (False by default)
     mongodb_layout          write dates and wrappers as libbson and json_util of PyMongo do: a fraction of a second has
                             three digits, and with keep_order "t" is before "i", "pattern" before "options", and "$ref"
                             before "$id". False writes no zeros at the end of a fraction, and ascending keys in
@@ -35,7 +35,7 @@ class Options(TypedDict, total=False):
     doubles: bool
     keep_order: bool
     reject_duplicate_keys: bool
-    legacy: bool
+    v1: bool
     mongodb_layout: bool
 
 
@@ -60,7 +60,7 @@ def flags_of(options, accepted, ignored=0):
 
 
 # The flags of the calls that write, of those that only read, and those that change nothing in reading.
-WRITING, READING = DOUBLES | KEEP_ORDER | MONGODB_LAYOUT, DOUBLES | REJECT_DUPLICATE_KEYS | LEGACY
+WRITING, READING = DOUBLES | KEEP_ORDER | MONGODB_LAYOUT, DOUBLES | REJECT_DUPLICATE_KEYS | V1
 ONLY_WRITING = KEEP_ORDER | MONGODB_LAYOUT
 
 

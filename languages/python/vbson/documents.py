@@ -2,12 +2,12 @@
 from typing import List, Tuple
 
 from . import _calls, errors
-from ._options import (CANONICAL, DOUBLES, LEGACY, ONLY_WRITING, REJECT_DUPLICATE_KEYS, WRITING, Bytes, Mode, document_bytes, flags_of,
+from ._options import (CANONICAL, DOUBLES, V1, ONLY_WRITING, REJECT_DUPLICATE_KEYS, WRITING, Bytes, Mode, document_bytes, flags_of,
                        mode_of)
 from .errors import Error
 
 # What changes nothing on bytes that are only read.
-NO_CHANGE = DOUBLES | ONLY_WRITING | LEGACY
+NO_CHANGE = DOUBLES | ONLY_WRITING | V1
 
 
 def of_bytes(document, flags=0):
@@ -89,7 +89,7 @@ def decode(document: Bytes, mode: Mode = CANONICAL, **options: bool) -> str:
     without doubles.
     """
     mode, given = mode_of(mode), document_bytes(document)
-    flags = flags_of(options, WRITING | REJECT_DUPLICATE_KEYS, LEGACY)
+    flags = flags_of(options, WRITING | REJECT_DUPLICATE_KEYS, V1)
     if flags & REJECT_DUPLICATE_KEYS:
         status, _ = _calls.hash_by(_calls.library.vbson_hash_document, REJECT_DUPLICATE_KEYS, given)
         expect_documents(status, REJECT_DUPLICATE_KEYS, given)
@@ -119,7 +119,7 @@ def decode_documents(block: Bytes, mode: Mode = CANONICAL, **options: bool) -> T
     The next document begins where the length of the one before it ends, also if that was rejected. If the block has no
     valid length there, or fewer bytes, that document is the last, and the rest is not read. Raises MemoryError.
     """
-    mode, flags, given = mode_of(mode), flags_of(options, WRITING, LEGACY), document_bytes(block)
+    mode, flags, given = mode_of(mode), flags_of(options, WRITING, V1), document_bytes(block)
     out = _calls.Documents(_calls.empty(), _calls.empty(), 0, 0)
     status, made, diagnostics = _calls.block_by(_calls.library.vbson_decode_documents, out, mode, flags, given, len(given))
     errors.expect_ok(status)

@@ -3,7 +3,7 @@ import re
 from typing import Any, Callable, IO, Iterable, List, Optional, Tuple, Union
 
 from . import _calls, documents, errors
-from ._options import CANONICAL, LEGACY, REJECT_DUPLICATE_KEYS, SHOW, WRITING, Given, Mode, flags_of, mode_of, text_bytes
+from ._options import CANONICAL, V1, REJECT_DUPLICATE_KEYS, SHOW, WRITING, Given, Mode, flags_of, mode_of, text_bytes
 from ._types import types_of
 from .errors import Error
 from .texts import encode_lines, expect_accepted, writing_flags
@@ -113,7 +113,7 @@ def dumps(value: Any, form: Mode = CANONICAL, types: str = "plain", default: Opt
     form = mode_of(form)
     if form == SHOW:
         raise ValueError("a form is CANONICAL, RELAXED, 'canonical' or 'relaxed'")
-    flags = flags_of(options, WRITING, REJECT_DUPLICATE_KEYS | LEGACY)
+    flags = flags_of(options, WRITING, REJECT_DUPLICATE_KEYS | V1)
     document = types_of(types).document_of(value, default)
     if document[4] == 3:
         made = documents.decoded(form, flags, document[7:-1])

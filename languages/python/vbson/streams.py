@@ -2,7 +2,7 @@
 from typing import IO, Any, Callable, Iterable, Iterator, List, Optional, Tuple, Union
 
 from . import documents, errors
-from ._options import (CANONICAL, DOUBLES, KEEP_ORDER, LEGACY, MONGODB_LAYOUT, REJECT_DUPLICATE_KEYS, Bytes, Given, Mode,
+from ._options import (CANONICAL, DOUBLES, KEEP_ORDER, V1, MONGODB_LAYOUT, REJECT_DUPLICATE_KEYS, Bytes, Given, Mode,
                        document_bytes, flags_of, text_bytes)
 from ._types import types_of
 from .errors import Error
@@ -14,7 +14,7 @@ _Hook = Optional[Callable[[dict], Any]]
 
 def _is_strict(options):
     """Returns whether duplicate keys are rejected. The documents of a dump keep the order of their keys."""
-    flags = flags_of(options, KEEP_ORDER | REJECT_DUPLICATE_KEYS, DOUBLES | LEGACY | MONGODB_LAYOUT)
+    flags = flags_of(options, KEEP_ORDER | REJECT_DUPLICATE_KEYS, DOUBLES | V1 | MONGODB_LAYOUT)
     if not flags & KEEP_ORDER:
         raise ValueError("documents of a dump keep the order of their keys")
     return bool(flags & REJECT_DUPLICATE_KEYS)

@@ -112,7 +112,7 @@ def same(a: Given, b: Given, **options: bool) -> bool:
     >>> same('{"a": 1, "b": 2.5}', '{"b": 2.50, "a": {"$numberInt": "1"}}')
     True
 
-    legacy accepts Extended JSON v1 too: {"$binary": .., "$type": ..}, {"$regex": .., "$options": ..}, and a $date with an
+    v1 accepts Extended JSON v1 too: {"$binary": .., "$type": ..}, {"$regex": .., "$options": ..}, and a $date with an
     offset such as +0100. Raises the errors of `convert`, for a first.
     """
     flags, a, b = flags_of(options, READING, ONLY_WRITING), text_bytes(a), text_bytes(b)

@@ -111,7 +111,7 @@ impl Error {
     }
 
     /// Returns the keys and indexes that lead to the wrong value. They are none if the error is that of the whole value, or if
-    /// the input is not JSON. With `legacy` they lead into the Extended JSON v2 that is read instead.
+    /// the input is not JSON. With `v1` they lead into the Extended JSON v2 that is read instead.
     pub fn path(&self) -> &Path {
         &self.0.path
     }

@@ -105,7 +105,7 @@ pub struct ReadOptions {
     pub reject_duplicate_keys: bool,
     /// Accepts Extended JSON v1 too: `{"$binary": .., "$type": ..}`, `{"$regex": .., "$options": ..}`, and a
     /// `$date` with an offset such as `+0100`. It changes nothing for the bytes of a document.
-    pub legacy: bool,
+    pub v1: bool,
 }
 
 impl Default for ReadOptions {
@@ -117,13 +117,13 @@ impl Default for ReadOptions {
 
 impl ReadOptions {
     /// The defaults of the specification and of the C library: no finite doubles.
-    pub const SPECIFIED: ReadOptions = ReadOptions { doubles: false, reject_duplicate_keys: false, legacy: false };
+    pub const SPECIFIED: ReadOptions = ReadOptions { doubles: false, reject_duplicate_keys: false, v1: false };
 
     pub(crate) fn raw(self) -> RawOptions {
         RawOptions {
             doubles: if self.doubles { call::DOUBLES_FINITE } else { 0 },
             duplicate_keys: if self.reject_duplicate_keys { call::DUPLICATE_KEYS_REJECT } else { 0 },
-            v1: if self.legacy { call::V1_ACCEPT } else { 0 },
+            v1: if self.v1 { call::V1_ACCEPT } else { 0 },
             ..RawOptions::INIT
         }
     }

@@ -74,7 +74,7 @@ fn the_layout_is_an_option() {
 
 #[test]
 fn canonical_texts_are_told() {
-    let (doubles, specified) = (ReadOptions::default(), ReadOptions { legacy: true, ..ReadOptions::SPECIFIED });
+    let (doubles, specified) = (ReadOptions::default(), ReadOptions { v1: true, ..ReadOptions::SPECIFIED });
     for text in [r#"{"a":{"$numberDouble":"1.5"},"b":[true]}"#, r#"{"a":1,"a":2}"#, r#"{"b":1,"a":{"$numberInt":"2"}}"#, "null ", "[1.5]", "", "{"] {
         for options in [doubles, specified] {
             let writes = Options { doubles: options.doubles, ..Options::SPECIFIED };
@@ -212,10 +212,10 @@ fn what_is_compared_has_options() {
     assert_eq!(error.path()[..], ["a".into(), 0.into(), "b".into()]);
     assert_eq!(hash(strict, twice), Err(error));
     assert_eq!(same(default, twice, br#"{"a":[{"b":2}]}"#), Ok(true));
-    let legacy = ReadOptions { legacy: true, ..default };
+    let reads_v1 = ReadOptions { v1: true, ..default };
     let (v1, v2) = (br#"{"$binary":"AQI=","$type":"00"}"#, br#"{"$binary":{"base64":"AQI=","subType":"00"}}"#);
-    assert_eq!(same(legacy, v1, v2), Ok(true));
-    assert_eq!(hash(legacy, v1), hash(default, v2));
+    assert_eq!(same(reads_v1, v1, v2), Ok(true));
+    assert_eq!(hash(reads_v1, v1), hash(default, v2));
     assert_eq!(kind(same(default, v1, v2)), Some(ErrorKind::NotExtendedJson));
 }
 
