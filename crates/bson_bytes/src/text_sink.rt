@@ -19,7 +19,7 @@ use bson_scalar::code::put_code;
 use bson_scalar::form::{Doubles, Form};
 use bson_scalar::key_hash::{are_distinct_hashes, hash_key};
 use bson_scalar::scalar::Scalar;
-use bson_scalar::write::print_scalar_in_order;
+use bson_scalar::write::print_ordered_scalar;
 use bson_scalar::write_error::WriteError;
 use bson_types::binary::Binary;
 use bson_types::db_pointer::DbPointer;
@@ -89,7 +89,7 @@ impl TextSink {
         ensures { OnOk result (TextValueWritten self.old (scalar (scalar_view value)) self.new) }
     {
         can_be_written(&value);
-        match print_scalar_in_order(
+        match print_ordered_scalar(
             self.alloc,
             Doubles::Finite,
             self.form,

@@ -8,7 +8,7 @@ use lib.Signed.{mag}
 use Rattle.serde_json.specs.Data.{Data, Items, no_items, item, Members, no_members, member, put}
 use Rattle.serde_json.specs.Data as tree
 use Rattle.serde_json.specs.Find.{of_integer}
-use Rattle.bson_scalar.specs.Dates.{is_in_years_1970_to_9999, mongodb_date_tree, relaxed_date_tree}
+use Rattle.bson_scalar.specs.Dates.{is_in_years_1970_to_9999, relaxed_date_tree}
 use Rattle.bson_scalar.specs.Normal.{ScalarInRange}
 use Rattle.bson_scalar.specs.Scalar.{Scalar, null, undefined, min_key, max_key, boolean, double, int32, int64, text}
 use Rattle.bson_scalar.specs.Scalar.{symbol, code, regex, timestamp, binary, object_id, date, decimal, db_pointer}
@@ -89,19 +89,15 @@ int64_is MongoDbRelaxed z r = whole_is z r.sfits
 long_date_is : (z : ℤ) → IsTree (date_form Canonical z)
 long_date_is z = ((tt, tt), (((tt, tt), (tt, tt)), tt))
 
-recent_is : (b : Bool) (z : ℤ) → is_in_years_1970_to_9999 z ≡ b → IsTree (relaxed_date_tree z)
-recent_is true z e = rw e ((tt, tt), (tt, tt))
-recent_is false z e = rw e (long_date_is z)
-
-millis_is : (b : Bool) (z : ℤ) → is_in_years_1970_to_9999 z ≡ b → IsTree (mongodb_date_tree z)
-millis_is true z e = rw e ((tt, tt), (tt, tt))
-millis_is false z e = rw e (long_date_is z)
+recent_is : (s : List ℕ) (b : Bool) (z : ℤ) → is_in_years_1970_to_9999 z ≡ b → IsTree (relaxed_date_tree s z)
+recent_is s true z e = rw e ((tt, tt), (tt, tt))
+recent_is s false z e = rw e (long_date_is z)
 
 date_is : (f : Form) (z : ℤ) → IsTree (date_form f z)
 date_is Canonical z = long_date_is z
-date_is Relaxed z = recent_is _ z refl
+date_is Relaxed z = recent_is _ _ z refl
 date_is MongoDbCanonical z = long_date_is z
-date_is MongoDbRelaxed z = millis_is _ z refl
+date_is MongoDbRelaxed z = recent_is _ _ z refl
 
 double_is : (D : Doubles) (f : Form) (p : ℕ) (t : Data) → p < 2 ^ 64 → IsDoubleTree D f p t → IsTree t
 double_is D f p t r (inl (s, has, is)) = rw is ((tt, tt), (tt, tt))

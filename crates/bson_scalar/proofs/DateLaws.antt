@@ -5,15 +5,16 @@ use Rattle.std.proofs.lemmas.Bool.{and_parts}
 use Rattle.std.proofs.lemmas.Bool.Decides.{nat_tests}
 use Rattle.jiff.proofs.SpanFacts.{signed_arith}
 use Rattle.bson_datetime.specs.Rfc3339Parser.{parsed_rfc3339_millis, IsRfc3339Millis}
-use Rattle.bson_datetime.specs.DateTimeText.{rfc3339_millis_text, rfc3339_text}
 use Rattle.bson_datetime.proofs.Offered.{denotes-names, named_moment-millis, named_moment-rfc}
 use Rattle.serde_json.specs.Data.{Data}
 use Rattle.serde_json.specs.Data as tree
-use Rattle.bson_scalar.specs.Dates.{is_in_years_1970_to_9999}
+use Rattle.bson_scalar.specs.Dates.{is_in_years_1970_to_9999, relaxed_date_text}
 use Rattle.bson_scalar.specs.Means.{MeansScalar, date_of_millis, date_of_text, date_of_number}
 use Rattle.bson_scalar.specs.Reading.{date_read, date_millis_of}
 use Rattle.bson_scalar.specs.Scalar.{Scalar, date}
 use Rattle.bson_scalar.specs.TreeParts.{one_key_object}
+use Rattle.bson_scalar.specs.declared.form.Form.{Form}
+use Rattle.bson_scalar.specs.declared.form.Form.TheVariants.{Canonical, MongoDbCanonical, MongoDbRelaxed, Relaxed}
 use Rattle.bson_scalar.proofs.InverseLemmas.{means_by, un_ok, then_ok, or_bad_ok, text_then, lone_then}
 use Rattle.bson_scalar.proofs.IntText.{int_of_from}
 
@@ -38,8 +39,9 @@ recent_in_years : (z : ℤ) → is_in_years_1970_to_9999 z ≡ true → IsRfc333
 recent_in_years z h = let p = and_parts (int_le (pos 0) z) (int_le z (pos 253_402_300_799_999)) h in
     grind (arith, signed_arith, nat_tests, p.0, p.1)
 
-pub recent_denoted : (z : ℤ) → is_in_years_1970_to_9999 z ≡ true → parsed_rfc3339_millis (rfc3339_text z) ≡ Some z
-recent_denoted z h = named_moment-rfc z (recent_in_years z h)
-
-pub millis_denoted : (z : ℤ) → is_in_years_1970_to_9999 z ≡ true → parsed_rfc3339_millis (rfc3339_millis_text z) ≡ Some z
-millis_denoted z h = named_moment-millis z (recent_in_years z h)
+pub relaxed_denoted : (f : Form) (z : ℤ) → is_in_years_1970_to_9999 z ≡ true
+    → parsed_rfc3339_millis (relaxed_date_text f z) ≡ Some z
+relaxed_denoted Canonical z h = named_moment-rfc z (recent_in_years z h)
+relaxed_denoted Relaxed z h = named_moment-rfc z (recent_in_years z h)
+relaxed_denoted MongoDbCanonical z h = named_moment-millis z (recent_in_years z h)
+relaxed_denoted MongoDbRelaxed z h = named_moment-millis z (recent_in_years z h)

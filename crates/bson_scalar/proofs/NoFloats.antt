@@ -1,10 +1,10 @@
 -- No float is written, so that a tree's compact text is known.
-use Rattle.std.proofs.Common.{◌≡◌, ℤ, pos, negsuc, Bool, true, false, Ok, inl, inr, refl}
+use Rattle.std.proofs.Common.{◌≡◌, ℕ, ℤ, List, pos, negsuc, Bool, true, false, Ok, inl, inr, refl}
 use Rattle.serde_json.specs.Data.{Data}
 use Rattle.serde_json.specs.Data as tree
 use Rattle.serde_json.specs.Find.{of_integer}
 use Rattle.serde_json.specs.Written.{has_float}
-use Rattle.bson_scalar.specs.Dates.{is_in_years_1970_to_9999, mongodb_date_tree, relaxed_date_tree}
+use Rattle.bson_scalar.specs.Dates.{is_in_years_1970_to_9999, relaxed_date_tree}
 use Rattle.bson_scalar.specs.Forms.{is_relaxed}
 use Rattle.bson_scalar.specs.Scalar.{Scalar, date, double, int32, int64}
 use Rattle.bson_scalar.specs.Written.{date_form, int32_form, int64_form, writes_scalar_in}
@@ -30,19 +30,15 @@ int64_none MongoDbCanonical z = refl
 int64_none Relaxed z = whole_none z
 int64_none MongoDbRelaxed z = whole_none z
 
-recent_none : (b : Bool) (z : ℤ) → is_in_years_1970_to_9999 z ≡ b → has_float (relaxed_date_tree z) ≡ false
-recent_none true z e = rw e refl
-recent_none false z e = rw e refl
-
-millis_none : (b : Bool) (z : ℤ) → is_in_years_1970_to_9999 z ≡ b → has_float (mongodb_date_tree z) ≡ false
-millis_none true z e = rw e refl
-millis_none false z e = rw e refl
+recent_none : (s : List ℕ) (b : Bool) (z : ℤ) → is_in_years_1970_to_9999 z ≡ b → has_float (relaxed_date_tree s z) ≡ false
+recent_none s true z e = rw e refl
+recent_none s false z e = rw e refl
 
 date_none : (f : Form) (z : ℤ) → has_float (date_form f z) ≡ false
 date_none Canonical z = refl
 date_none MongoDbCanonical z = refl
-date_none Relaxed z = recent_none _ z refl
-date_none MongoDbRelaxed z = millis_none _ z refl
+date_none Relaxed z = recent_none _ _ z refl
+date_none MongoDbRelaxed z = recent_none _ _ z refl
 
 -- (but of a finite double in the relaxed form of the mode `Finite`)
 pub scalar_no_float : (m : Doubles) (f : Form) (x : Scalar) (t : Data) → writes_scalar_in m f x ≡ Ok t

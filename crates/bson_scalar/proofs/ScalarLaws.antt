@@ -13,7 +13,7 @@ use Rattle.bson_scalar.specs.TreeParts.{one_key_object, two_key_object}
 use Rattle.bson_types.specs.BinarySubtypes.{subtype_byte, subtype_of}
 use Rattle.bson_decimal.specs.DecimalBits.{canonical_decimal}
 use Rattle.bson_decimal.proofs.Offered.{display_text-canon, parses-form}
-use Rattle.bson_scalar.specs.Dates.{is_in_years_1970_to_9999, mongodb_date_tree, relaxed_date_tree}
+use Rattle.bson_scalar.specs.Dates.{is_in_years_1970_to_9999, relaxed_date_text, relaxed_date_tree}
 use lib.Signed.{mag}
 use Rattle.bson_scalar.specs.Decimals.{decimal_tree}
 use Rattle.bson_scalar.specs.Doubles.{normal_double}
@@ -45,7 +45,7 @@ use Rattle.bson_scalar.proofs.IntText.{fits_true, int_of_some}
 use Rattle.bson_scalar.proofs.BinaryLaws.{binary_from, uuid_from, bytes_to, bytes_again, byte_again, subtype_byte-of}
 use Rattle.bson_datetime.proofs.Offered.{denotes-names}
 use Rattle.bson_types.proofs.Offered.{hyphenated_to, sized_to, sorted_regex_options-again}
-use Rattle.bson_scalar.proofs.DateLaws.{date_from, millis_denoted, recent_denoted}
+use Rattle.bson_scalar.proofs.DateLaws.{date_from, relaxed_denoted}
 use Rattle.bson_scalar.proofs.DecimalLaws.{decimal_from, decimal_of-some, decimal_of-display_text, canon-again}
 use Rattle.bson_scalar.proofs.DoubleLaws.{nan_form-again}
 use Rattle.bson_scalar.proofs.DoubleModes.{in_each, double_from, double_to, finite_to, finite_form, double_form_in}
@@ -290,19 +290,16 @@ int64_back m MongoDbCanonical z r = rw (int64_again z r) refl
 int64_back m Relaxed z r = number_again m z r
 int64_back m MongoDbRelaxed z r = number_again m z r
 
-recent_back : (m : Doubles) (b : Bool) (z : ℤ) → is_in_years_1970_to_9999 z ≡ b → FitsSigned w64 z → scalar_read_in m (relaxed_date_tree z) ≡ Ok (date z)
-recent_back m true z e r = rw e (rw (recent_denoted z e) refl)
-recent_back m false z e r = rw e (rw (int64_again z r) refl)
-
-millis_back : (m : Doubles) (b : Bool) (z : ℤ) → is_in_years_1970_to_9999 z ≡ b → FitsSigned w64 z → scalar_read_in m (mongodb_date_tree z) ≡ Ok (date z)
-millis_back m true z e r = rw e (rw (millis_denoted z e) refl)
-millis_back m false z e r = rw e (rw (int64_again z r) refl)
+recent_back : (m : Doubles) (f : Form) (b : Bool) (z : ℤ) → is_in_years_1970_to_9999 z ≡ b → FitsSigned w64 z
+    → scalar_read_in m (relaxed_date_tree (relaxed_date_text f z) z) ≡ Ok (date z)
+recent_back m f true z e r = rw e (rw (relaxed_denoted f z e) refl)
+recent_back m f false z e r = rw e (rw (int64_again z r) refl)
 
 date_back : (m : Doubles) (f : Form) (z : ℤ) → FitsSigned w64 z → scalar_read_in m (date_form f z) ≡ Ok (date z)
 date_back m Canonical z r = rw (int64_again z r) refl
 date_back m MongoDbCanonical z r = rw (int64_again z r) refl
-date_back m Relaxed z r = recent_back m _ z refl r
-date_back m MongoDbRelaxed z r = millis_back m _ z refl r
+date_back m Relaxed z r = recent_back m Relaxed _ z refl r
+date_back m MongoDbRelaxed z r = recent_back m MongoDbRelaxed _ z refl r
 
 double_back : (m : Doubles) (f : Form) (p : ℕ) (t : Data) → p < 2 ^ 64 → IsDoubleTree m f p t
     → scalar_read_in m t ≡ Ok (double (normal_double p))
@@ -351,14 +348,10 @@ pub as_read_again : (f : Form) (x : Scalar) → scalar_as_read_back f (scalar_as
 as_read_again f (int64 z) = int64_twice f z
 as_read_again f x = refl
 
--- in the canonical form nothing is narrowed
-pub as_read_canonical : (x : Scalar) → scalar_as_read_back Canonical x ≡ x
-as_read_canonical (int64 z) = refl
-as_read_canonical x = refl
-
-pub as_read_mongodb : (x : Scalar) → scalar_as_read_back MongoDbCanonical x ≡ x
-as_read_mongodb (int64 z) = refl
-as_read_mongodb x = refl
+-- in a canonical form nothing is narrowed
+pub as_read_canonical : (f : Form) (x : Scalar) → is_relaxed f ≡ false → scalar_as_read_back f x ≡ x
+as_read_canonical f (int64 z) is = rw is refl
+as_read_canonical f x is = refl
 
 -- the relaxed forms are read back alike
 pub as_read_relaxed : (x : Scalar) → scalar_as_read_back MongoDbRelaxed x ≡ scalar_as_read_back Relaxed x

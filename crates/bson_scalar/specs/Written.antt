@@ -7,7 +7,7 @@ use Rattle.serde_json.specs.Data.{Data, float}
 use Rattle.serde_json.specs.Data as tree
 use Rattle.serde_json.specs.Find.{of_integer}
 use Rattle.bson_scalar.specs.Binaries.{binary_tree}
-use Rattle.bson_scalar.specs.Dates.{date_tree, mongodb_date_tree, relaxed_date_tree}
+use Rattle.bson_scalar.specs.Dates.{date_tree, relaxed_date_text, relaxed_date_tree}
 use Rattle.bson_scalar.specs.Forms.{is_relaxed}
 use Rattle.bson_scalar.specs.Decimals.{decimal_tree}
 use Rattle.bson_scalar.specs.Doubles.{double_tree, double_text, IsDoubleTextIn, double_text_in}
@@ -37,9 +37,9 @@ int64_form written_form integer =
     if is_relaxed written_form then tree.number (of_integer integer) else int64_tree integer
 
 abbrev pub date_form : Form → (integer : ℤ) → Data
-date_form Relaxed integer = relaxed_date_tree integer
-date_form MongoDbRelaxed integer = mongodb_date_tree integer
-date_form _ integer = date_tree integer
+date_form written_form integer =
+    if is_relaxed written_form then relaxed_date_tree (relaxed_date_text written_form integer) integer
+    else date_tree integer
 
 -- the JSON number of a finite double
 abbrev pub number_tree : (pattern : ℕ) → Data

@@ -5,8 +5,7 @@ ghost use Rattle.std.specs.Prelude.{◌≡◌, IfOk, OnOk, FitsSigned, codes, po
 ghost use Rattle.std.specs.Int.{w64};
 ghost use Rattle.serde_json.specs.View.{view};
 ghost use Rattle.bson_datetime.specs.Rfc3339Parser.{parsed_rfc3339_millis};
-ghost use Rattle.bson_datetime.specs.DateTimeText.{rfc3339_millis_text, rfc3339_text};
-ghost use Rattle.bson_scalar.specs.Dates.{date_tree, mongodb_date_tree, relaxed_date_tree};
+ghost use Rattle.bson_scalar.specs.Dates.{date_tree, relaxed_date_text, relaxed_date_tree};
 ghost use Rattle.bson_scalar.specs.Faults.{IsReadResult, or_wrong_shape};
 ghost use Rattle.bson_scalar.specs.Reading.{date_millis_of, date_read};
 ghost use Rattle.bson_scalar.specs.Written.{date_form};
@@ -65,25 +64,18 @@ pub(crate) fn read_date(value: Value) -> Result<Scalar, Error>
     Ok(Scalar::DateTime(DateTime::from_millis(millis)))
 }
 
-fn date_text(alloc: Global, date: DateTime) -> Result<String, AllocError>
+// Returns the string of a date in a relaxed form.
+fn date_text(alloc: Global, form: Form, date: DateTime) -> Result<String, AllocError>
     requires from_1970 { pos 0 ≤ℤ date }
     requires until_9999 { date ≤ℤ pos 253_402_300_799_999 }
-    ensures { IfOk result (λ written_text. string_bytes written_text ≡ rfc3339_text date) }
+    ensures { IfOk result (λ written_text. string_bytes written_text ≡ relaxed_date_text form date) }
 {
-    match date.try_to_rfc3339_string(alloc) {
-        Ok(text) => Ok(text),
-        Err(bson_datetime::Error::OutOfMemory) => Err(AllocError),
-        Err(_) => unreachable!(),
-    }
-}
-
-// The same with three digits of the fraction.
-fn millis_date_text(alloc: Global, date: DateTime) -> Result<String, AllocError>
-    requires from_1970 { pos 0 ≤ℤ date }
-    requires until_9999 { date ≤ℤ pos 253_402_300_799_999 }
-    ensures { IfOk result (λ written_text. string_bytes written_text ≡ rfc3339_millis_text date) }
-{
-    match date.try_to_rfc3339_millis_string(alloc) {
+    let written = if form.is_mongodb() {
+        date.try_to_rfc3339_millis_string(alloc)
+    } else {
+        date.try_to_rfc3339_string(alloc)
+    };
+    match written {
         Ok(text) => Ok(text),
         Err(bson_datetime::Error::OutOfMemory) => Err(AllocError),
         Err(_) => unreachable!(),
@@ -100,38 +92,21 @@ fn write_date_millis<S: Sink>(date: DateTime, sink: &mut S) -> Result<S::Tree, A
     end_one_key_object(key, millis, sink)
 }
 
+// Writes the tree of a date in a relaxed form.
 fn write_relaxed_date<S: Sink>(
     alloc: Global,
+    form: Form,
     date: DateTime,
     sink: &mut S,
 ) -> Result<S::Tree, AllocError>
     ensures written { IfOk result
-        (λ written_tree. S.wrote_tree sink.old (relaxed_date_tree date) written_tree sink.new) }
+        (λ written_tree. S.wrote_tree sink.old (relaxed_date_tree (relaxed_date_text form date) date) written_tree sink.new) }
     ensures before { S.before sink.new ≡ S.before sink.old }
 {
     let millis = date.timestamp_millis();
     if 0 <= millis && millis <= LAST_RELAXED_MILLIS {
-        let rfc3339_date = date_text(alloc, date)?;
+        let rfc3339_date = date_text(alloc, form, date)?;
         write_owned_text_object("$date", rfc3339_date, sink)
-    } else {
-        write_date_millis(date, sink)
-    }
-}
-
-// The same with three digits of the fraction.
-fn write_mongodb_date<S: Sink>(
-    alloc: Global,
-    date: DateTime,
-    sink: &mut S,
-) -> Result<S::Tree, AllocError>
-    ensures written { IfOk result
-        (λ written_tree. S.wrote_tree sink.old (mongodb_date_tree date) written_tree sink.new) }
-    ensures before { S.before sink.new ≡ S.before sink.old }
-{
-    let millis = date.timestamp_millis();
-    if 0 <= millis && millis <= LAST_RELAXED_MILLIS {
-        let millis_date = millis_date_text(alloc, date)?;
-        write_owned_text_object("$date", millis_date, sink)
     } else {
         write_date_millis(date, sink)
     }
@@ -148,10 +123,9 @@ pub(crate) fn write_date<S: Sink>(
     ensures before { S.before sink.new ≡ S.before sink.old }
     ensures within_type_range { OnOk result (FitsSigned w64 date) }
 {
-    match form {
-        Form::Canonical => write_date_millis(date, sink),
-        Form::MongoDbCanonical => write_date_millis(date, sink),
-        Form::Relaxed => write_relaxed_date(alloc, date, sink),
-        Form::MongoDbRelaxed => write_mongodb_date(alloc, date, sink),
+    if form.is_relaxed() {
+        write_relaxed_date(alloc, form, date, sink)
+    } else {
+        write_date_millis(date, sink)
     }
 }

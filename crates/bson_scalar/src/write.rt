@@ -116,7 +116,7 @@ pub fn print_scalar_in(
 /// # Errors
 ///
 /// The errors of `print_scalar_in`.
-pub fn print_scalar_in_order(
+pub fn print_ordered_scalar(
     alloc: Global,
     doubles: Doubles,
     form: Form,

@@ -7,7 +7,7 @@ use crate::value_writer::ValueWriter;
 use bson_scalar::code::put_code;
 use bson_scalar::form::{Doubles, Form};
 use bson_scalar::scalar::Scalar;
-use bson_scalar::write::print_scalar_in_order;
+use bson_scalar::write::print_ordered_scalar;
 use itoa::Buffer;
 use json::Writer;
 use std::alloc::Global;
@@ -61,7 +61,7 @@ impl ValueWriter for TextWriter {
     }
 
     fn scalar(&mut self, _name: &str, value: Scalar) -> Result<(), TraversalError> {
-        print_scalar_in_order(
+        print_ordered_scalar(
             self.alloc,
             self.doubles,
             self.form,

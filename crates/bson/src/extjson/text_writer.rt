@@ -28,7 +28,7 @@ use crate::scalar::scalar_ref;
 use bson_model::options::{KeyOrder, Options};
 use bson_scalar::form::{Doubles, Form};
 use bson_scalar::scalar_ref::ScalarRef;
-use bson_scalar::write::{print_scalar_in, print_scalar_in_order, put_binary};
+use bson_scalar::write::{print_scalar_in, print_ordered_scalar, put_binary};
 use bson_scalar::write_error::WriteError;
 use bson_store::small::Iter;
 use bson_types::binary::Binary;
@@ -197,7 +197,7 @@ fn print_scalar_ref(
         let scalar = scalar.to_owned(alloc)?;
         match key_order {
             KeyOrder::Ascending => print_scalar_in(alloc, doubles, form, scalar, writer),
-            KeyOrder::AsGiven => print_scalar_in_order(alloc, doubles, form, scalar, writer),
+            KeyOrder::AsGiven => print_ordered_scalar(alloc, doubles, form, scalar, writer),
         }
     }
 }
