@@ -7,7 +7,7 @@ use Rattle.bson_convert.specs.Convert.{IsRejectedIn}
 use Rattle.bson_run.specs.Preprocessed.{IsPreprocessedAs, IsPreprocessingError, preprocessed_of}
 use Rattle.vbson.proofs.Explained.{long_first, long_of_read, of_read, refused_first}
 use Rattle.vbson.specs.Explain.{Explains, ExplainsWithoutPreprocessing, ExplainsError, HasTooLongPath, ErrorPathIsTooLong, IsUnexplained}
-use Rattle.vbson.specs.Reading.{preprocessing_of}
+use Rattle.vbson.specs.Convert.{preprocessing_of}
 use Rattle.vbson.specs.declared.explain.Rejection.{Rejection}
 use Rattle.vbson.proofs.explain.explain_text.Goals as goal
 
