@@ -29,10 +29,10 @@ static void convert_lines(void) {
     CHECK(gives(VBSON_RELAXED, FINITE, "[1.5]\n", "[1.5]\n", "", 1, 0));
     const char *mixed = "{\"b\":1,\"b\":2}\n{\"$date\":\"1970-01-01T01:00:00+0100\"}\n{\"b\":1}\n", *date = "{\"$date\":\"1970-01-01T00:00:00Z\"}\n";
     const char *twice = "bson: line 1: not Extended JSON at b (duplicate key)\n";
-    char all[100];
-    snprintf(all, sizeof all, "{\"b\":2}\n%s{\"b\":1}\n", date);
-    CHECK(gives(VBSON_RELAXED, V1, mixed, all, "", 3, 0) && gives(VBSON_RELAXED, AS_GIVEN | V1, mixed, all, "", 3, 0));
-    CHECK(gives(VBSON_RELAXED, DISTINCT | V1, mixed, all + 8, twice, 3, 1) && gives(VBSON_RELAXED, FINITE | AS_GIVEN | DISTINCT | V1 | LAYOUT, mixed, all + 8, twice, 3, 1));
+    char written[100];
+    snprintf(written, sizeof written, "{\"b\":2}\n%s{\"b\":1}\n", date);
+    CHECK(gives(VBSON_RELAXED, V1, mixed, written, "", 3, 0) && gives(VBSON_RELAXED, AS_GIVEN | V1, mixed, written, "", 3, 0));
+    CHECK(gives(VBSON_RELAXED, DISTINCT | V1, mixed, written + 8, twice, 3, 1) && gives(VBSON_RELAXED, FINITE | AS_GIVEN | DISTINCT | V1 | LAYOUT, mixed, written + 8, twice, 3, 1));
     CHECK(gives(VBSON_RELAXED, AS_GIVEN, "{\"b\":1,\"a\":2}\n[1.5]\n", "{\"b\":1,\"a\":2}\n",
         "bson: line 2: not Extended JSON at 0 (not a 64-bit integer; found 1.5)\n", 2, 1));
     CHECK(gives(VBSON_RELAXED, FINITE | AS_GIVEN, "{\"b\":1.5,\"a\":2}", "{\"b\":1.5,\"a\":2}\n", "", 1, 0));
