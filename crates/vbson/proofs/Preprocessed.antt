@@ -1,5 +1,5 @@
 -- What is read in the place of a text, and what a status says of it.
-use Rattle.std.proofs.Common.{◌≡◌, ◌≢◌, ◌≤◌, inl, inr, ℕ, List, Some, refl, ap, subst, arith}
+use Rattle.std.proofs.Common.{◌≡◌, ◌≢◌, ◌≤◌, ◌⊎◌, inl, inr, ℕ, List, Some, refl, ap, subst, arith}
 use Rattle.json.specs.Json.{Json}
 use Rattle.json.specs.Strict.{HasUniqueKeys}
 use Rattle.serde_json.specs.Data.{Data}
@@ -94,14 +94,6 @@ without_bytes options status text read is h = record {
   regex_has_zero = λ twelve. record { read_text = read; read_as = is; has = h.regex_has_zero twelve };
   too_long = λ thirteen. record { read_text = read; read_as = is; has = h.too_long thirteen };
   possible_statuses = h.possible_statuses;
-}
-
--- when memory runs out
-pub no_memory : (options : CallOptions) (text : List ℕ) → IsPreprocessingFailure options 5 text
-no_memory options text = record {
-  has_rejected_key = λ is. absurd (omega (arith, is));
-  accepts = λ read is. refl;
-  possible_statuses = inr refl;
 }
 
 -- a text that preprocessing rejects is not read

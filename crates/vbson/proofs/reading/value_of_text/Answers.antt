@@ -1,10 +1,10 @@
-use Rattle.std.proofs.Common.{◌≡◌, subst, sym}
+use Rattle.std.proofs.Common.{subst, sym}
 use Rattle.std.proofs.lemmas.Result.{IfErr-weaker, IfOk-weaker}
 use Rattle.bson.specs.TextMeaning.{HasTextMeaningIn}
 use Rattle.bson.specs.View.{bson_view}
 use Rattle.bson_run.specs.Preprocessed.{IsPreprocessedAs}
 use Rattle.vbson.proofs.Preprocessed.{meant, unread, without_value}
-use Rattle.vbson.specs.Convert.{options_of_call, preprocessing_of}
+use Rattle.vbson.specs.Convert.{preprocessing_of}
 use Rattle.vbson.specs.Reading.{IsReadFailure, IsTextReadFailure, MeansUnder}
 use Rattle.vbson.proofs.reading.value_of_text.Goals as goal
 
