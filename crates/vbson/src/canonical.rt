@@ -4,8 +4,9 @@ ghost use Rattle.bson_convert.specs.Convert.{IsCanonicalText};
 ghost use Rattle.vbson.specs.Convert.{options_of_call};
 ghost use Rattle.vbson.specs.Options.{AreNotForDecoding, AreNotForReading};
 
-use crate::options::{CallOptions, DUPLICATE_KEYS_REJECT, are_not_for_decoding, are_not_for_reading};
-use crate::options::options_of;
+use crate::options::{
+    CallOptions, DUPLICATE_KEYS_REJECT, are_not_for_decoding, are_not_for_reading, options_of,
+};
 use crate::status;
 use bson_convert::canonical::is_canonical_text;
 use std::alloc::Global;

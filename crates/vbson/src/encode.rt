@@ -64,11 +64,7 @@ fn encode_under(alloc: Global, options: CallOptions, text: &[u8]) -> Result<Vec<
     ensures error_status { IfErr result (λ status. IsTextEncodeFailure options status text.now) }
 {
     match preprocess(alloc, options, text) {
-        Ok(new_text) => encode_text(
-            alloc,
-            options_of(options),
-            text_to_read(&new_text, text),
-        ),
+        Ok(new_text) => encode_text(alloc, options_of(options), text_to_read(&new_text, text)),
         Err(status) => Err(status),
     }
 }

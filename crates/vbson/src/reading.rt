@@ -67,11 +67,7 @@ pub fn value_of_text(alloc: Global, options: CallOptions, text: &[u8]) -> Result
     ensures rejected { IfErr result (λ status. IsTextReadFailure options status text.now) }
 {
     match preprocess(alloc, options, text) {
-        Ok(new_text) => meaning_of(
-            alloc,
-            options_of(options),
-            text_to_read(&new_text, text),
-        ),
+        Ok(new_text) => meaning_of(alloc, options_of(options), text_to_read(&new_text, text)),
         Err(status) => Err(status),
     }
 }
