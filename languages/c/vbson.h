@@ -121,10 +121,11 @@ enum vbson_layout {
 /* The options of a call. Start with VBSON_OPTIONS_INIT or with vbson_options_mongodb(), and set the fields that differ. A
  * null pointer to options stands for VBSON_OPTIONS_INIT, which is the behaviour that the specification describes. A call
  * returns VBSON_INVALID_ARGUMENT if the size is not sizeof(vbson_options), if a field is not a value of its enum, or for
- * an option that the call does not accept:
- *   - The calls that convert, encode or decode do not accept VBSON_DUPLICATE_KEYS_REJECT and VBSON_V1_ACCEPT.
- *   - The calls that compare or hash do not accept VBSON_KEYS_AS_GIVEN and VBSON_LAYOUT_MONGODB.
- *   - The calls that explain accept every option. */
+ * an option that has no meaning for the call:
+ *   - The calls that convert, encode or explain accept every option.
+ *   - The calls that decode do not accept VBSON_V1_ACCEPT, since BSON bytes are not Extended JSON.
+ *   - The calls that compare or hash do not accept VBSON_KEYS_AS_GIVEN and VBSON_LAYOUT_MONGODB, since they write nothing.
+ *   - vbson_is_canonical_text accepts VBSON_DOUBLES_FINITE alone. */
 typedef struct vbson_options {
     size_t size;             /* sizeof(vbson_options): a later version can have more fields */
     uint32_t doubles;        /* one of vbson_doubles */
@@ -199,6 +200,9 @@ uint32_t vbson_convert_nonnull(uint32_t mode, const vbson_options *options, cons
  * fraction of a second has three digits: "00:00:00.500Z" in place of "00:00:00.5Z". A whole second has no fraction. With
  * VBSON_KEYS_AS_GIVEN "t" is before "i", "pattern" before "options", and "$ref" before "$id" in their wrappers. Both layouts
  * denote the same values. The layout changes nothing in VBSON_SHOW.
+ * VBSON_DUPLICATE_KEYS_REJECT: the input is VBSON_NOT_EXTENDED_JSON if one of its objects has a duplicate key, at any depth.
+ * VBSON_V1_ACCEPT: the objects {"$binary": .., "$type": ..} and {"$regex": .., "$options": ..}, and a $date with an offset
+ * such as +0100, have their value of Extended JSON v1. The output is Extended JSON v2.
  * The output can denote another value in two cases: a NaN of Decimal128 loses its sign and its payload, and in the relaxed
  * form an Int64 that fits is read again as an Int32. *out is overwritten: its old block is not freed.
  * VBSON_INVALID_ARGUMENT, VBSON_NOT_JSON, VBSON_BAD_OBJECT_ID, VBSON_NOT_EXTENDED_JSON, VBSON_OUT_OF_MEMORY. */
@@ -212,7 +216,8 @@ uint32_t vbson_is_canonical_text_nonnull(const vbson_options *options, const uin
 /* Checks that the input is canonical: byte for byte the canonical form of its value, with keys in ascending order at every
  * depth, and without a newline. Values that are equal in normal form have one such text, so it can be signed, hashed or
  * compared in place of its value. VBSON_NOT_CANONICAL if the input is anything else, also if it is not Extended JSON.
- * VBSON_DOUBLES_FINITE: finite doubles are accepted, as by vbson_convert. No other option is accepted.
+ * VBSON_DOUBLES_FINITE: finite doubles are accepted, as by vbson_convert. No other option has a meaning here, and none is
+ * accepted: the keys and the layout of a canonical text are fixed, it has no duplicate key, and it is not v1.
  * VBSON_INVALID_ARGUMENT, VBSON_NOT_CANONICAL, VBSON_OUT_OF_MEMORY. */
 static inline uint32_t vbson_is_canonical_text(const vbson_options *options, const uint8_t *text, size_t len) {
     return vbson_is_canonical_text_nonnull(vbson_options_or_init(options), text, len);
@@ -307,11 +312,8 @@ uint32_t vbson_same_nonnull(const vbson_options *options, const uint8_t *left_in
 /* Compares the values of two inputs. Arrays are compared element by element; documents are the same if they have the same
  * keys with the same values, in any order. VBSON_OK if the values are the same, VBSON_DIFFERENT if not; otherwise the error
  * of the left one, or that of the right one if the left one has none.
- * VBSON_DOUBLES_FINITE: finite doubles are accepted, as by vbson_convert.
- * VBSON_DUPLICATE_KEYS_REJECT: an input is VBSON_NOT_EXTENDED_JSON if one of its objects has a duplicate key, at any depth.
- * VBSON_V1_ACCEPT: the objects {"$binary": .., "$type": ..} and {"$regex": .., "$options": ..}, and a $date with an offset
- * such as +0100, have their value of Extended JSON v1. VBSON_INVALID_ARGUMENT for VBSON_KEYS_AS_GIVEN and for
- * VBSON_LAYOUT_MONGODB, since the order of keys and the layout change nothing here.
+ * VBSON_DOUBLES_FINITE, VBSON_DUPLICATE_KEYS_REJECT and VBSON_V1_ACCEPT change what is accepted, as in vbson_convert.
+ * VBSON_INVALID_ARGUMENT for VBSON_KEYS_AS_GIVEN and for VBSON_LAYOUT_MONGODB, since nothing is written.
  * VBSON_INVALID_ARGUMENT, VBSON_NOT_JSON, VBSON_BAD_OBJECT_ID, VBSON_NOT_EXTENDED_JSON, VBSON_OUT_OF_MEMORY. */
 static inline uint32_t vbson_same(const vbson_options *options, const uint8_t *left_input, size_t left_len,
         const uint8_t *right_input, size_t right_len) {
@@ -381,8 +383,10 @@ uint32_t vbson_decode_nonnull(uint32_t mode, const vbson_options *options, const
 /* Reads the bytes as one document, and writes it in the mode, with the options of vbson_convert. In the canonical and
  * relaxed forms keys are in ascending order, at every depth, and with VBSON_KEYS_AS_GIVEN in the document's own order, which
  * VBSON_SHOW always has. The last value of a duplicate key wins, at the position of the first; the keys of an array are
- * dropped. VBSON_NOT_REPRESENTABLE in both forms if the document has a finite double other than 0.0, without
- * VBSON_DOUBLES_FINITE. The output can nest deeper than input may. *out is overwritten: its old block is not freed.
+ * dropped. VBSON_DUPLICATE_KEYS_REJECT: bytes with a duplicate key in a document, at any depth, are VBSON_NOT_A_DOCUMENT.
+ * VBSON_INVALID_ARGUMENT for VBSON_V1_ACCEPT, since bytes are not Extended JSON. VBSON_NOT_REPRESENTABLE in both forms if the
+ * document has a finite double other than 0.0, without VBSON_DOUBLES_FINITE. The output can nest deeper than input may.
+ * *out is overwritten: its old block is not freed.
  * VBSON_INVALID_ARGUMENT, VBSON_NOT_A_DOCUMENT, VBSON_NOT_REPRESENTABLE, VBSON_OUT_OF_MEMORY. */
 static inline uint32_t vbson_decode(uint32_t mode, const vbson_options *options, const uint8_t *bytes, size_t len,
         vbson_buffer *out) {

@@ -27,6 +27,12 @@ static void convert_lines(void) {
         "bson: line 3: not Extended JSON at 0 (not a 64-bit integer; found 1.5)\n"
         "bson: line 4: bad object id at $oid (an object id has 24 digits, but \"5\" has 1)\n", 4, 3));
     CHECK(gives(VBSON_RELAXED, FINITE, "[1.5]\n", "[1.5]\n", "", 1, 0));
+    const char *mixed = "{\"b\":1,\"b\":2}\n{\"$date\":\"1970-01-01T01:00:00+0100\"}\n{\"b\":1}\n", *date = "{\"$date\":\"1970-01-01T00:00:00Z\"}\n";
+    const char *twice = "bson: line 1: not Extended JSON at b (duplicate key)\n";
+    char written[100];
+    snprintf(written, sizeof written, "{\"b\":2}\n%s{\"b\":1}\n", date);
+    CHECK(gives(VBSON_RELAXED, V1, mixed, written, "", 3, 0) && gives(VBSON_RELAXED, AS_GIVEN | V1, mixed, written, "", 3, 0));
+    CHECK(gives(VBSON_RELAXED, DISTINCT | V1, mixed, written + 8, twice, 3, 1) && gives(VBSON_RELAXED, FINITE | AS_GIVEN | DISTINCT | V1 | LAYOUT, mixed, written + 8, twice, 3, 1));
     CHECK(gives(VBSON_RELAXED, AS_GIVEN, "{\"b\":1,\"a\":2}\n[1.5]\n", "{\"b\":1,\"a\":2}\n",
         "bson: line 2: not Extended JSON at 0 (not a 64-bit integer; found 1.5)\n", 2, 1));
     CHECK(gives(VBSON_RELAXED, FINITE | AS_GIVEN, "{\"b\":1.5,\"a\":2}", "{\"b\":1.5,\"a\":2}\n", "", 1, 0));
@@ -37,7 +43,7 @@ static void convert_lines(void) {
     static const uint8_t before[] = "before";
     vbson_lines out = {{before, 7, 6}, {before, 7, 5}, 3, 4};
     CHECK(vbson_convert_lines(3, NULL, TEXT("1"), &out) == VBSON_INVALID_ARGUMENT);
-    CHECK(vbson_convert_lines(VBSON_RELAXED, with(4), TEXT("1"), &out) == VBSON_INVALID_ARGUMENT);
+    CHECK(vbson_convert_lines(VBSON_RELAXED, with(OTHER_SIZE), TEXT("1"), &out) == VBSON_INVALID_ARGUMENT);
     CHECK(out.text.bytes == before && out.text.size == 7 && out.text.len == 6 && out.diagnostics.bytes == before && out.diagnostics.len == 5);
     CHECK(out.lines == 3 && out.refused == 4);
 
@@ -69,12 +75,15 @@ static void first_lines(void) {
         CHECK(first_of(0, mode, 0, "[1\n[") == 1 && first_of(0, mode, 0, "\xef\xbb\xbf[\n") == 1 && first_of(0, mode, AS_GIVEN, "\n1\n[1.5]\n[\n") == 3);
         CHECK(first_of(0, mode, FINITE, "\n1\n[1.5]\n[\n") == 4 && first_of(0, mode, FINITE | AS_GIVEN, "\n\xef\xbb\xbf[1]") == 2);
         CHECK(first_of(0, mode, AS_GIVEN | LAYOUT, "\n1\n[1.5]\n[\n") == 3 && first_of(0, mode, FINITE | LAYOUT, "\n1\n[1.5]\n[\n") == 4);
-        CHECK(first_of(0, mode, DISTINCT, "[") == 1001 && first_of(0, mode, V1, "[") == 1001 && first_of(0, 3 + mode, 0, "[") == 1001);
+        CHECK(first_of(0, mode, DISTINCT, "{}\n{\"a\":1,\"a\":2}") == 2 && first_of(0, mode, 0, "{\"a\":1,\"a\":2}") == 0);
+        CHECK(first_of(0, mode, V1, "{\"$date\":\"1970-01-01T01:00:00+0100\"}") == 0 && first_of(0, mode, 0, "{\"$date\":\"1970-01-01T01:00:00+0100\"}") == 1);
+        CHECK(first_of(0, mode, OTHER_SIZE, "[") == 1001 && first_of(0, 3 + mode, 0, "[") == 1001);
     }
     CHECK(first_of(1, 0, 0, "{\"n\": 5}\n\n{}") == 0 && first_of(1, 0, 0, "{}\n[1]\n[") == 2 && first_of(1, 0, AS_GIVEN, "{\"a\\u0000\":1}\n[") == 1);
     CHECK(first_of(1, 0, 0, "{}\n[\n[1]") == 2 && first_of(1, 0, AS_GIVEN, "{\"a\":1.5}") == 1 && first_of(1, 0, FINITE | AS_GIVEN, "{\"a\":1.5}") == 0);
     CHECK(first_of(1, 0, AS_GIVEN | LAYOUT, "{\"a\":1.5}") == 1 && first_of(1, 0, FINITE | LAYOUT, "{\"a\":1.5}") == 0);
-    CHECK(first_of(1, 0, DISTINCT, "[") == 1001 && first_of(1, 0, V1, "[") == 1001);
+    CHECK(first_of(1, 0, DISTINCT, "{}\n{\"a\":1,\"a\":2}") == 2 && first_of(1, 0, 0, "{\"a\":1,\"a\":2}") == 0 && first_of(1, 0, OTHER_SIZE, "[") == 1001);
+    CHECK(first_of(1, 0, V1, "{\"a\":{\"$date\":\"1970-01-01T01:00:00+0100\"}}\n[") == 2 && first_of(1, 0, 0, "{\"a\":{\"$date\":\"1970-01-01T01:00:00+0100\"}}") == 1);
 
     /* each, in the rest from the newline of the one before */
     enum { LINES = 50000 };
@@ -130,6 +139,11 @@ static void decode_documents(void) {
         vbson_buffer_free(&out.text);
         vbson_buffer_free(&out.diagnostics);
     }
+    static const char twice[] = "\x13\0\0\0\x10" "b\0\5\0\0\0\x10" "b\0\6\0\0\0\0" "\x0c\0\0\0\x10n\0\5\0\0\0\0";
+    const char *duplicate = "document 1 at byte 0: duplicate key at its byte 12\n";
+    CHECK(decodes_all(VBSON_RELAXED, 0, twice, 31, "{\"b\":6}\n{\"n\":5}\n", "", 2, 31));
+    CHECK(decodes_all(VBSON_RELAXED, DISTINCT, twice, 31, "{\"n\":5}\n", duplicate, 2, 31) && decodes_all(VBSON_SHOW, DISTINCT, twice, 31, "{ \"n\": 5 }\n", duplicate, 2, 31));
+    CHECK(decodes_all(VBSON_CANONICAL, FINITE | AS_GIVEN | DISTINCT, twice, 31, "{\"n\":{\"$numberInt\":\"5\"}}\n", duplicate, 2, 31));
     CHECK(decodes_all(VBSON_RELAXED, 0, "\xff\xff\xff\xff{}", 6, "", "document 1 at byte 0: invalid length at its byte 0\n", 1, 0));
     vbson_buffer one = VBSON_BUFFER_INIT;
     CHECK(vbson_encode(with(FINITE | AS_GIVEN), TEXT("{\"b\":1.5,\"a\":2}"), &one) == VBSON_OK && one.len == 23);
@@ -142,7 +156,7 @@ static void decode_documents(void) {
     static const uint8_t before[] = "before";
     vbson_documents out = {{before, 7, 6}, {before, 7, 5}, 3, 4};
     CHECK(vbson_decode_documents(3, NULL, (const uint8_t *)block, 12, &out) == VBSON_INVALID_ARGUMENT);
-    CHECK(vbson_decode_documents(VBSON_RELAXED, with(4), (const uint8_t *)block, 12, &out) == VBSON_INVALID_ARGUMENT);
+    CHECK(vbson_decode_documents(VBSON_RELAXED, with(V1), (const uint8_t *)block, 12, &out) == VBSON_INVALID_ARGUMENT);
     CHECK(out.text.bytes == before && out.text.size == 7 && out.text.len == 6 && out.diagnostics.bytes == before && out.diagnostics.len == 5);
     CHECK(out.documents == 3 && out.consumed == 4);
 }
@@ -167,7 +181,13 @@ static void encode_lines(void) {
     }
     static const uint8_t before[] = "before";
     vbson_lines kept = {{before, 7, 6}, {before, 7, 5}, 3, 4};
-    CHECK(vbson_encode_lines(with(4), TEXT("{}"), &kept) == VBSON_INVALID_ARGUMENT && kept.text.bytes == before && kept.diagnostics.len == 5 && kept.lines == 3);
+    for (uint32_t fields = 0; fields < OTHER_SIZE; fields++) {
+        CHECK(vbson_encode_lines(with(fields), TEXT("{}\n{\"n\":5,\"n\":5}"), &out) == VBSON_OK && out.lines == 2);
+        CHECK(out.refused == ((fields & DISTINCT) != 0) && out.text.len == ((fields & DISTINCT) != 0 ? 5 : 17));
+        vbson_buffer_free(&out.text);
+        vbson_buffer_free(&out.diagnostics);
+    }
+    CHECK(vbson_encode_lines(with(OTHER_SIZE), TEXT("{}"), &kept) == VBSON_INVALID_ARGUMENT && kept.text.bytes == before && kept.diagnostics.len == 5 && kept.lines == 3);
 }
 
 int main(void) {

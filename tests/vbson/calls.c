@@ -88,9 +88,31 @@ static void convert_options(void) {
     CHECK(refuses_with(VBSON_RELAXED, FINITE, "[1.5,{\"$oid\":\"5\"}]", VBSON_BAD_OBJECT_ID));
     CHECK(refuses_with(3, 0, "{}", VBSON_INVALID_ARGUMENT));
     CHECK(refuses_with(3, FINITE, "{}", VBSON_INVALID_ARGUMENT));
-    CHECK(refuses_with(VBSON_CANONICAL, 4, "{}", VBSON_INVALID_ARGUMENT));
-    CHECK(refuses_with(VBSON_CANONICAL, 7, "{}", VBSON_INVALID_ARGUMENT));
+    CHECK(refuses_with(VBSON_CANONICAL, OTHER_SIZE, "{}", VBSON_INVALID_ARGUMENT));
     CHECK(refuses_with(VBSON_SHOW, UINT32_MAX, "not JSON", VBSON_INVALID_ARGUMENT));
+}
+
+/* v1 and duplicate keys, in each order and mode. */
+static void convert_preprocessed(void) {
+    const char *v1 = "{\"b\":{\"$type\":\"00\",\"$binary\":\"AQI=\"},\"a\":{\"$date\":\"1970-01-01T01:00:00+0100\"}}";
+    const char *binary = "{\"$binary\":{\"base64\":\"AQI=\",\"subType\":\"00\"}}", *moment = "{\"$date\":\"1970-01-01T00:00:00Z\"}";
+    const char *twice = "{\"b\":1,\"b\":2}", *within = "[{\"b\":{\"\\u0061\":1,\"a\":2}}]";
+    char sorted[200], given[200];
+    snprintf(sorted, sizeof sorted, "{\"a\":%s,\"b\":%s}", moment, binary), snprintf(given, sizeof given, "{\"b\":%s,\"a\":%s}", binary, moment);
+    for (uint32_t fields = 0; fields < OTHER_SIZE; fields++) {
+        uint32_t other = fields & ~(uint32_t)(DISTINCT | V1);
+        if ((fields & V1) != 0) {
+            CHECK(converts_with(VBSON_RELAXED, fields, v1, (fields & AS_GIVEN) != 0 ? given : sorted));
+            CHECK(refuses_with(VBSON_RELAXED, fields & ~(uint32_t)V1, v1, VBSON_NOT_EXTENDED_JSON));
+            CHECK(converts_with(VBSON_SHOW, fields, "{\"$regex\":\"a\",\"$options\":\"i\"}", "/a/i"));
+        }
+        if ((fields & DISTINCT) != 0) {
+            CHECK(refuses_with(VBSON_RELAXED, fields, twice, VBSON_NOT_EXTENDED_JSON) && refuses_with(VBSON_SHOW, fields, within, VBSON_NOT_EXTENDED_JSON));
+            CHECK(converts_with(VBSON_RELAXED, other, twice, "{\"b\":2}") && refuses_with(3, fields, twice, VBSON_INVALID_ARGUMENT));
+        }
+        CHECK(converts_with(VBSON_RELAXED, fields, "{\"b\":1}", "{\"b\":1}") && refuses_with(VBSON_RELAXED, fields, "[1", VBSON_NOT_JSON));
+        CHECK(refuses_with(VBSON_CANONICAL, fields, "{\"$oid\":\"5\"}", VBSON_BAD_OBJECT_ID));
+    }
 }
 
 static void keep_order(void) {
@@ -248,6 +270,7 @@ static void explain(void) {
     CHECK(vbson_explain(with(OTHER_SIZE), TEXT("{}"), &out) == VBSON_INVALID_ARGUMENT && memcmp(&out, &was, sizeof out) == 0);
     CHECK(explains(DISTINCT, "{\"a\":[{\"b\":1,\"b\":2}]}", "not Extended JSON at a.0.b (duplicate key)"));
     CHECK(explains(0, "{\"a\":[{\"b\":1,\"b\":2}]}", "") && explains(DISTINCT, "{\"a\":[{\"b\":1},{\"b\":2}]}", ""));
+    CHECK(explains(DISTINCT | V1, "[{\"b\":{\"\\u0061\":1,\"a\":2}}]", "not Extended JSON at 0.b.a (duplicate key)"));
     CHECK(explains(DISTINCT | V1, "[1.5,", "not JSON at column 5 (unexpected end of input)"));
     CHECK(explains(V1, "{\"$binary\":\"AQI=\",\"$type\":\"00\"}", ""));
     CHECK(explains(0, "{\"$binary\":\"AQI=\",\"$type\":\"00\"}",
@@ -418,7 +441,15 @@ static void decode(void) {
     CHECK(decodes(VBSON_RELAXED, FINITE | LAYOUT, BYTES(stored), stamp) && decodes(VBSON_RELAXED, LAYOUT, BYTES(stored), stamp));
     stamp = "{\"ts\":{\"$timestamp\":{\"t\":1,\"i\":2}},\"at\":{\"$date\":{\"$numberLong\":\"500\"}}}";
     CHECK(decodes(VBSON_CANONICAL, FINITE | AS_GIVEN | LAYOUT, BYTES(stored), stamp) && decodes(VBSON_CANONICAL, AS_GIVEN | LAYOUT, BYTES(stored), stamp));
-    CHECK(refuses_bytes(VBSON_RELAXED, 4, five, sizeof five, VBSON_INVALID_ARGUMENT));
+    /* {"b": 5, "b": 6}, in each order and mode */
+    static const uint8_t twice[] = {0x13, 0, 0, 0, 0x10, 'b', 0, 5, 0, 0, 0, 0x10, 'b', 0, 6, 0, 0, 0, 0};
+    for (uint32_t fields = 0; fields < OTHER_SIZE; fields++) {
+        uint32_t status = (fields & V1) != 0 ? VBSON_INVALID_ARGUMENT : (fields & DISTINCT) != 0 ? VBSON_NOT_A_DOCUMENT : VBSON_OK;
+        for (uint32_t mode = 0; mode < 3; mode++)
+            if (status != VBSON_OK) CHECK(refuses_bytes(mode, fields, BYTES(twice), status));
+        if (status == VBSON_OK) CHECK(decodes(VBSON_RELAXED, fields, BYTES(twice), "{\"b\":6}"));
+        if ((fields & V1) == 0) CHECK(decodes(VBSON_RELAXED, fields | FINITE, BYTES(pair), (fields & AS_GIVEN) != 0 ? "{\"b\":5,\"a\":1.5}" : "{\"a\":1.5,\"b\":5}"));
+    }
     CHECK(refuses_bytes(UINT32_MAX, UINT32_MAX, five, 0, VBSON_INVALID_ARGUMENT));
     for (size_t len = 0; len < sizeof five; len++) {
         CHECK(refuses_bytes(VBSON_SHOW, 0, five, len, VBSON_NOT_A_DOCUMENT) && vbson_is_document(five, len) == VBSON_NOT_A_DOCUMENT);
@@ -480,7 +511,14 @@ static void encode(void) {
     CHECK(refuses_text(AS_GIVEN, "{\"b\\u0000\":1,\"a\":{\"$regularExpression\":{\"pattern\":\"\\u0000\",\"options\":\"\"}}}", VBSON_ZERO_IN_KEY));
     CHECK(encodes(FINITE | AS_GIVEN | LAYOUT, "{\"b\":5,\"a\":1.5}", pair, sizeof pair) && encodes(FINITE | LAYOUT, "{\"b\":5,\"a\":1.5}", sorted, sizeof sorted));
     CHECK(encodes(AS_GIVEN | LAYOUT, "{\"ts\":{\"$timestamp\":{\"i\":2,\"t\":1}},\"at\":{\"$date\":\"1970-01-01T00:00:00.5Z\"}}", BYTES(stored)));
-    CHECK(refuses_text(4, "{}", VBSON_INVALID_ARGUMENT));
+    for (uint32_t fields = 0; fields < OTHER_SIZE; fields++) {
+        const char *v1 = "{\"a\":{\"$date\":\"1970-01-01T01:00:00+0100\"}}", *twice = "{\"a\":7,\"a\":5}";
+        static const uint8_t epoch[] = {0x10, 0, 0, 0, 9, 'a', 0, 0, 0, 0, 0, 0, 0, 0, 0, 0};
+        CHECK((fields & V1) != 0 ? encodes(fields, v1, BYTES(epoch)) : refuses_text(fields, v1, VBSON_NOT_EXTENDED_JSON));
+        CHECK((fields & DISTINCT) != 0 ? refuses_text(fields, twice, VBSON_NOT_EXTENDED_JSON) : encodes(fields, twice, BYTES(five)));
+        CHECK(encodes(fields, "{\"a\":5}", BYTES(five)) && refuses_text(fields, "[5]", VBSON_NOT_A_DOCUMENT) && refuses_text(fields, "{\"a\\u0000\":1}", VBSON_ZERO_IN_KEY));
+    }
+    CHECK(refuses_text(OTHER_SIZE, "{}", VBSON_INVALID_ARGUMENT));
     CHECK(refuses_text(UINT32_MAX, "!", VBSON_INVALID_ARGUMENT));
     CHECK(refuses_text(0, "{", VBSON_NOT_JSON));
     CHECK(refuses_text(0, "{\"a\":{\"$oid\":\"5\"}}", VBSON_BAD_OBJECT_ID));
@@ -634,7 +672,7 @@ static void same_documents(void) {
 
 /* ---- options */
 
-enum { WRITES = 1, READS = 2, EXPLAINS = 4, MIXED = 8 };
+enum { WRITES = 1, READS = 2, EXPLAINS = 4, DECODES = 8, MIXED = 16, ALL = WRITES | READS | EXPLAINS | DECODES };
 
 /* The kind, or MIXED, if some of these calls reject the options and leave everything as it was, and others don't. */
 static int all_of(int kind, const uint32_t *statuses, int count, int is_kept) {
@@ -651,16 +689,17 @@ static int rejecting(const vbson_options *it) {
     vbson_error errors[] = {{77, 7, 8, 9, {kept, 7, 6}, {kept, 7, 6}, {kept, 7, 6}}, {77, 7, 8, 9, {kept, 7, 6}, {kept, 7, 6}, {kept, 7, 6}}};
     uint64_t numbers[] = {7, 7, 7, 7};
     uint32_t writes[] = {vbson_convert(VBSON_RELAXED, it, TEXT("{}"), &out[0]), vbson_encode(it, TEXT("{}"), &out[1]),
-        vbson_decode(VBSON_RELAXED, it, BYTES(five), &out[2]), vbson_convert_lines(VBSON_RELAXED, it, TEXT("{}"), &lines[0]),
-        vbson_encode_lines(it, TEXT("{}"), &lines[1]), vbson_decode_documents(VBSON_RELAXED, it, BYTES(five), &documents),
+        vbson_convert_lines(VBSON_RELAXED, it, TEXT("{}"), &lines[0]), vbson_encode_lines(it, TEXT("{}"), &lines[1]),
         vbson_first_rejected_line(VBSON_RELAXED, it, TEXT("["), &numbers[2]), vbson_first_unencoded_line(it, TEXT("[]"), &numbers[3])};
+    uint32_t decoded[] = {vbson_decode(VBSON_RELAXED, it, BYTES(five), &out[2]), vbson_decode_documents(VBSON_RELAXED, it, BYTES(five), &documents)};
     uint32_t reads[] = {vbson_same(it, TEXT("1"), TEXT("1")), vbson_hash(it, TEXT("1"), &numbers[0]),
         vbson_same_documents(it, BYTES(five), BYTES(five)), vbson_hash_document(it, BYTES(five), &numbers[1])};
     uint32_t explains[] = {vbson_explain(it, TEXT("{}"), &errors[0]), vbson_explain_document(it, BYTES(five), &errors[1])};
-    int is_kept_by_writes = is_kept(&out[0]) && is_kept(&out[1]) && is_kept(&out[2]) && is_kept(&lines[0].text) && is_kept(&lines[1].text)
-        && is_kept(&documents.text) && lines[0].lines == 3 && lines[1].refused == 4 && documents.consumed == 4 && numbers[2] == 7 && numbers[3] == 7;
-    int found = all_of(WRITES, writes, 8, is_kept_by_writes) | all_of(READS, reads, 4, numbers[0] == 7 && numbers[1] == 7)
-        | all_of(EXPLAINS, explains, 2, is_kept(&errors[0].path) && is_kept(&errors[1].message) && errors[0].code == 77);
+    int is_kept_by_writes = is_kept(&out[0]) && is_kept(&out[1]) && is_kept(&lines[0].text) && is_kept(&lines[1].text)
+        && lines[0].lines == 3 && lines[1].refused == 4 && numbers[2] == 7 && numbers[3] == 7;
+    int found = all_of(WRITES, writes, 6, is_kept_by_writes) | all_of(READS, reads, 4, numbers[0] == 7 && numbers[1] == 7)
+        | all_of(EXPLAINS, explains, 2, is_kept(&errors[0].path) && is_kept(&errors[1].message) && errors[0].code == 77)
+        | all_of(DECODES, decoded, 2, is_kept(&out[2]) && is_kept(&documents.text) && documents.consumed == 4);
     vbson_buffer *const texts[] = {&out[0], &out[1], &out[2], &lines[0].text, &lines[0].diagnostics, &lines[1].text, &lines[1].diagnostics,
         &documents.text, &documents.diagnostics, &errors[0].path, &errors[0].reason, &errors[0].message, &errors[1].path, &errors[1].reason,
         &errors[1].message};
@@ -675,21 +714,21 @@ static void options(void) {
     CHECK(mongodb.doubles == VBSON_DOUBLES_FINITE && mongodb.key_order == VBSON_KEYS_AS_GIVEN && mongodb.duplicate_keys == 0 && mongodb.v1 == 0);
     CHECK(mongodb.layout == VBSON_LAYOUT_MONGODB && specified.layout == VBSON_LAYOUT_SPECIFIED && sizeof specified == 32);
     for (uint32_t fields = 0; fields < OTHER_SIZE; fields++) {
-        int wanted = ((fields & (DISTINCT | V1)) != 0 ? WRITES : 0) | ((fields & (AS_GIVEN | LAYOUT)) != 0 ? READS : 0);
+        int wanted = ((fields & V1) != 0 ? DECODES : 0) | ((fields & (AS_GIVEN | LAYOUT)) != 0 ? READS : 0);
         CHECK(rejecting(with(fields)) == wanted);
     }
     static const size_t sizes[] = {0, 1, 8, 24, 28, sizeof specified - 1, sizeof specified + 1, 2 * sizeof specified, SIZE_MAX};
     for (size_t i = 0; i < sizeof sizes / sizeof *sizes; i++) {
         vbson_options it = mongodb;
         it.size = sizes[i];
-        CHECK(rejecting(&it) == (WRITES | READS | EXPLAINS));
+        CHECK(rejecting(&it) == ALL);
     }
     static const uint32_t values[] = {2, 3, 256, 1u << 31, UINT32_MAX};
     for (size_t i = 0; i < 5 * sizeof values / sizeof *values; i++) {
         vbson_options it = VBSON_OPTIONS_INIT;
         uint32_t *const fields[] = {&it.doubles, &it.key_order, &it.duplicate_keys, &it.v1, &it.layout};
         *fields[i % 5] = values[i / 5];
-        CHECK(rejecting(&it) == (WRITES | READS | EXPLAINS));
+        CHECK(rejecting(&it) == ALL);
     }
 }
 
@@ -698,6 +737,7 @@ int main(void) {
     convert();
     convert_refused();
     convert_options();
+    convert_preprocessed();
     keep_order();
     layout();
     explain();

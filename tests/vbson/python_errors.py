@@ -130,10 +130,20 @@ def try_options():
         raises(f"{call.__name__} with another option", TypeError, call, given, sorted=True)
         for name in vbson.Options.__annotations__:
             raises(f"{call.__name__} with {name} that is no bool", TypeError, call, given, **{name: 1})
-    for call in (vbson.convert, vbson.encode, vbson.loads, vbson.convert_lines):
-        raises(f"{call.__name__} of v1", ValueError, call, "{}", v1=True)
+    older, newer = '{"a":{"$binary":"AQI=","$type":"00"}}', '{"a":{"$binary":{"base64":"AQI=","subType":"00"}}}'
+    for call in (vbson.convert, vbson.encode, vbson.loads, vbson.hash_of, vbson.convert_lines, vbson.encode_lines, vbson.loads_lines):
+        want(f"{call.__name__} of v1", call(older, v1=True), call(newer))
+        want(f"{call.__name__} of v1 and no duplicate key", call(older, v1=True, reject_duplicate_keys=True), call(newer))
+    for call in (vbson.convert, vbson.encode, vbson.loads, vbson.hash_of):
+        raises(f"{call.__name__} of v1 without its option", vbson.NotExtendedJson, call, older)
+    for call in (vbson.decode, vbson.decode_documents):
+        raises(f"{call.__name__} of v1", ValueError, call, document, v1=True)
+    twice = '{"a":[{"b":1,"b":2}]}'
     for call in (vbson.convert_lines, vbson.encode_lines, vbson.loads_lines):
-        raises(f"{call.__name__} without duplicate keys", ValueError, call, "{}", reject_duplicate_keys=True)
+        made, refused = call(f"{{}}\n{twice}\n", reject_duplicate_keys=True)
+        want(f"{call.__name__} without duplicate keys", made, call("{}\n")[0])
+        want(f"{call.__name__} with a duplicate key", [(it, error.path, error.reason) for it, error in refused], [(2, ["a", 0, "b"], "duplicate key")])
+        want(f"{call.__name__} with the last value", call(twice), call('{"a":[{"b":2}]}'))
     for call in (vbson.convert, vbson.encode, vbson.loads, vbson.hash_of):
         found = fields(call, '{"a":[{"b":1,"b":2}]}', reject_duplicate_keys=True)
         want(f"{call.__name__} with a duplicate key", found[:3], (vbson.NotExtendedJson, vbson.NOT_EXTENDED_JSON, ["a", 0, "b"]))
@@ -142,6 +152,10 @@ def try_options():
     for call in (vbson.decode, vbson.hash_of_document):
         want(f"{call.__name__} with a duplicate key", refusal(call, doubled, reject_duplicate_keys=True)[:3], ("not a document at byte 12 (duplicate key)", ["b"], "duplicate key"))
     strict = {"reject_duplicate_keys": True}
+    for mode in ("canonical", "relaxed", "show"):
+        made, refused = vbson.decode_documents(doubled + document, mode, **strict)
+        want(f"a duplicate key among documents, {mode}", (made, [(*it[:2], it[2].path, it[2].reason) for it in refused]), (b"{}\n", [(1, 0, ["b"], "duplicate key")]))
+        want(f"the last value among documents, {mode}", len(vbson.decode_documents(doubled + document, mode)[1]), 0)
     want("is_document with a duplicate key", (vbson.is_document(doubled), vbson.is_document(doubled, **strict)), (True, False))
     want("a duplicate key explained", (vbson.explain_document(doubled), vbson.explain_document(doubled, **strict)), ("", "not a document at byte 12 (duplicate key)"))
     want("no duplicate key explained", vbson.explain_document(document, **strict), "")

@@ -38,7 +38,7 @@ static const char *const texts[] = {
     "\"k\":{\"$uuid\":\"c8edabc3-f738-4ca3-b68d-ab92a91478a3\"},\"l\":{\"$numberDouble\":\"-Infinity\"}}",
     "[1,{\"$oid\":\"53e3\"}]", "[{\"a\":[1.5]}]", "{\"a\":[\"b\"", "[]", "\"a\\u0000b\"",
     "{\"a\":{\"b\":1,\"b\":{\"$binary\":\"AQI=\",\"$type\":\"0\"}}}"};
-enum { TEXTS = sizeof texts / sizeof *texts, KINDS = 37 };
+enum { TEXTS = sizeof texts / sizeof *texts, KINDS = 44 };
 
 /* What a call of each kind answers, and all that it can write. */
 struct answer {
@@ -145,7 +145,12 @@ static struct answer call(int kind, const char *text, long number) {
     else if (kind == 33) it.status = vbson_convert(VBSON_RELAXED, with(LAYOUT), TEXT(text), &it.text);
     else if (kind == 34) it.status = vbson_decode(VBSON_RELAXED, with(FINITE | AS_GIVEN | LAYOUT), document.bytes, document.len, &it.text);
     else if (kind == 35) it.status = convert_lines(FINITE | AS_GIVEN | LAYOUT, text, &it);
-    else it.status = decode_documents(AS_GIVEN | LAYOUT, &it);
+    else if (kind == 36) it.status = decode_documents(AS_GIVEN | LAYOUT, &it);
+    else if (kind < 39) it.status = vbson_convert(VBSON_RELAXED, with(kind == 37 ? V1 : AS_GIVEN | DISTINCT), TEXT(text), &it.text);
+    else if (kind < 41) it.status = vbson_encode(with(kind == 39 ? V1 : AS_GIVEN | DISTINCT), TEXT(text), &it.text);
+    else if (kind == 41) it.status = vbson_decode(VBSON_RELAXED, with(FINITE | AS_GIVEN | DISTINCT), document.bytes, document.len, &it.text);
+    else if (kind == 42) it.status = convert_lines(DISTINCT | V1, text, &it);
+    else it.status = decode_documents(FINITE | AS_GIVEN | DISTINCT, &it);
     refused = 0;
     return it;
 }

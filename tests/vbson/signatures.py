@@ -177,7 +177,7 @@ def status_faults():
     kinds["call.rs"] = {name: int(number) for name, number in rust}
     sources = (PACKAGE / "errors.py").read_text() + (PACKAGE / "_options.py").read_text()
     kinds["Python"] = {}
-    for names, values in re.findall(r"(?m)^([A-Z_, ]+) = ([\d, ]+)$", sources):
+    for names, values in re.findall(r"(?m)^([A-Z_\d, ]+) = ([\d, ]+)$", sources):
         kinds["Python"] |= dict(zip(names.split(", "), map(int, values.split(", "))))
     modes = {"CANONICAL": 0, "RELAXED": 1, "SHOW": 2}
     for file, found in kinds.items():

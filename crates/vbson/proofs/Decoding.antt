@@ -19,7 +19,7 @@ use Rattle.bson.specs.declared.document.Document.{Document}
 use Rattle.bson_model.specs.declared.options.Options.{Options}
 use Rattle.bson.specs.OrderedTrees.{read_in_order}
 use Rattle.bson.specs.MeansInOrder.{MeansInOrder}
-use Rattle.bson_codec.specs.ReadDocuments.{IsReadAsDocument}
+use Rattle.bson_bytes.specs.ReadDocuments.{IsReadAsDocumentIn}
 use Rattle.bson_codec.specs.DocumentText.{IsDocumentTextOf}
 use Rattle.bson_model.specs.Means.{MeansIn}
 use Rattle.bson_model.specs.Normal.{writable_in}
@@ -28,6 +28,8 @@ use Rattle.bson_model.specs.Value.{Value, Pairs, document}
 use Rattle.bson_convert.specs.declared.mode.Mode.{Mode}
 use Rattle.bson_convert.specs.declared.mode.Mode.TheVariants.{Canonical, Relaxed, Show}
 use Rattle.vbson.specs.Documents.{Decodes, PairsHaveNoTextIn, IsOneDocument, IsDecodeFailure, depth, streaming_form, streaming_form_in_order, form_of_mode}
+use Rattle.bson_model.specs.declared.options.DuplicateKeys.{DuplicateKeys}
+use Rattle.bson_model.specs.declared.options.DuplicateKeys.TheVariants.{LastWins, Reject}
 use Rattle.bson_model.specs.declared.options.KeyOrder.{KeyOrder}
 use Rattle.bson_model.specs.declared.options.KeyOrder.TheVariants.{Ascending, AsGiven}
 
@@ -40,16 +42,16 @@ unwritable o Relaxed ps none writes = true≢false (sym writes ∙ none)
 unwritable o Show ps none writes = none
 
 -- the one document that the bytes are has no text, or memory ran out
-pub undecoded : (o : Options) (mode : Mode) (status : ℕ) (bytes : List ℕ) (ps : Pairs) → IsReadAsDocument depth bytes ps
-    → ((qs : Pairs) → IsReadAsDocument depth bytes qs → ps ≡ qs) → (status ≡ 5) ⊎ ((status ≡ 7) × PairsHaveNoTextIn o mode ps)
-    → IsDecodeFailure o mode status bytes
-undecoded o mode status bytes ps is one (inl five) = record {
+pub undecoded : (keys : DuplicateKeys) (o : Options) (mode : Mode) (status : ℕ) (bytes : List ℕ) (ps : Pairs)
+    → IsReadAsDocumentIn keys depth bytes ps → ((qs : Pairs) → IsReadAsDocumentIn keys depth bytes qs → ps ≡ qs)
+    → (status ≡ 5) ⊎ ((status ≡ 7) × PairsHaveNoTextIn o mode ps) → IsDecodeFailure keys o mode status bytes
+undecoded keys o mode status bytes ps is one (inl five) = record {
   no_document = λ ten other. absurd (omega (arith, five, ten));
   no_text = λ seven. absurd (omega (arith, five, seven));
   accepts = λ qs also writes. five;
   possible_statuses = inl five;
 }
-undecoded o mode status bytes ps is one (inr (seven, none)) = record {
+undecoded keys o mode status bytes ps is one (inr (seven, none)) = record {
   no_document = λ ten other. absurd (omega (arith, seven, ten));
   no_text = λ s. (ps, is, none);
   accepts = λ qs also writes.
@@ -58,8 +60,9 @@ undecoded o mode status bytes ps is one (inr (seven, none)) = record {
 }
 
 -- the bytes are no document
-pub no_document : (o : Options) (mode : Mode) (bytes : List ℕ) → (IsOneDocument bytes → ⊥) → IsDecodeFailure o mode 10 bytes
-no_document o mode bytes none = record {
+pub no_document : (keys : DuplicateKeys) (o : Options) (mode : Mode) (bytes : List ℕ) → (IsOneDocument keys bytes → ⊥)
+    → IsDecodeFailure keys o mode 10 bytes
+no_document keys o mode bytes none = record {
   no_document = λ ten is. none is;
   no_text = λ seven. absurd (omega (arith, seven));
   accepts = λ ps is writes. absurd (none (ps, is));
@@ -67,19 +70,27 @@ no_document o mode bytes none = record {
 }
 
 -- memory ran out
-pub no_memory : (o : Options) (mode : Mode) (bytes : List ℕ) → IsDecodeFailure o mode 5 bytes
-no_memory o mode bytes = record {
+pub no_memory : (keys : DuplicateKeys) (o : Options) (mode : Mode) (bytes : List ℕ) → IsDecodeFailure keys o mode 5 bytes
+no_memory keys o mode bytes = record {
   no_document = λ ten is. absurd (omega (arith, ten));
   no_text = λ seven. absurd (omega (arith, seven));
   accepts = λ ps is writes. refl;
   possible_statuses = inl refl;
 }
 
-pub unread : (o : Options) (mode : Mode) (status : ℕ) (bytes : List ℕ)
-    → (status ≡ 5) ⊎ ((status ≡ 10) × (IsOneDocument bytes → ⊥)) → IsDecodeFailure o mode status bytes
-unread o mode status bytes (inl five) = subst (λ n. IsDecodeFailure o mode n bytes) (sym five) (no_memory o mode bytes)
-unread o mode status bytes (inr (ten, none)) =
-    subst (λ n. IsDecodeFailure o mode n bytes) (sym ten) (no_document o mode bytes none)
+unread : (keys : DuplicateKeys) (o : Options) (mode : Mode) (status : ℕ) (bytes : List ℕ)
+    → (status ≡ 5) ⊎ ((status ≡ 10) × (IsOneDocument keys bytes → ⊥)) → IsDecodeFailure keys o mode status bytes
+unread keys o mode status bytes (inl five) =
+    subst (λ n. IsDecodeFailure keys o mode n bytes) (sym five) (no_memory keys o mode bytes)
+unread keys o mode status bytes (inr (ten, none)) =
+    subst (λ n. IsDecodeFailure keys o mode n bytes) (sym ten) (no_document keys o mode bytes none)
+
+-- a text is written while the bytes are read only if duplicate keys are allowed
+pub unread_directly : (keys : DuplicateKeys) (o : Options) (mode : Mode) (f : Form) (status : ℕ) (bytes : List ℕ)
+    → streaming_form keys o mode ≡ Some f → (status ≡ 5) ⊎ ((status ≡ 10) × (IsOneDocument LastWins bytes → ⊥))
+    → IsDecodeFailure keys o mode status bytes
+unread_directly Reject o mode f status bytes given h = absurd cc
+unread_directly LastWins o mode f status bytes given h = unread LastWins o mode status bytes h
 
 -- the text that is written while the bytes are read is that of the document
 module _ (o : Options) (bytes text : List ℕ) (given : o.key_order ≡ AsGiven) (finite : o.doubles ≡ Finite) where
@@ -88,7 +99,7 @@ module _ (o : Options) (bytes text : List ℕ) (given : o.key_order ≡ AsGiven)
       subst (λ k. IsTextInKeyOrder k o.doubles f v text) (sym given) (subst (λ D. IsTextInOrder D f v text) (sym finite) is)
 
   in_form : (mode : Mode) (f : Form) → form_of_mode mode ≡ Some f
-      → IsDocumentTextOf (form_in o.layout f) depth bytes text → Decodes o mode bytes text
+      → IsDocumentTextOf (form_in o.layout f) depth bytes text → Decodes LastWins o mode bytes text
   in_form Canonical f is it =
       let same : f ≡ form.Canonical = cc in
       record {
@@ -109,14 +120,16 @@ module _ (o : Options) (bytes text : List ℕ) (given : o.key_order ≡ AsGiven)
 
 by_options : (o : Options) (order : KeyOrder) (D : Doubles) (mode : Mode) (f : Form) (bytes text : List ℕ)
     → o.key_order ≡ order → o.doubles ≡ D → streaming_form_in_order order D mode ≡ Some f
-    → IsDocumentTextOf (form_in o.layout f) depth bytes text → Decodes o mode bytes text
+    → IsDocumentTextOf (form_in o.layout f) depth bytes text → Decodes LastWins o mode bytes text
 by_options o Ascending D mode f bytes text given is form it = absurd cc
 by_options o AsGiven Special mode f bytes text given is form it = absurd cc
 by_options o AsGiven Finite mode f bytes text given is form it = in_form o bytes text given is mode f form it
 
-pub directly : (o : Options) (mode : Mode) (f : Form) (bytes text : List ℕ) → streaming_form o mode ≡ Some f
-    → IsDocumentTextOf (form_in o.layout f) depth bytes text → Decodes o mode bytes text
-directly o mode f bytes text given it = by_options o o.key_order o.doubles mode f bytes text refl refl given it
+pub directly : (keys : DuplicateKeys) (o : Options) (mode : Mode) (f : Form) (bytes text : List ℕ)
+    → streaming_form keys o mode ≡ Some f → IsDocumentTextOf (form_in o.layout f) depth bytes text
+    → Decodes keys o mode bytes text
+directly Reject o mode f bytes text given it = absurd cc
+directly LastWins o mode f bytes text given it = by_options o o.key_order o.doubles mode f bytes text refl refl given it
 
 -- ---- texts
 

@@ -4,10 +4,9 @@ use Rattle.bson_model.specs.declared.options.Options.{Options}
 use Rattle.bson_bytes.specs.ReadDocuments.{IsReadAsDocumentIn}
 use Rattle.bson_model.specs.Normal.{writable_in}
 use Rattle.bson_model.specs.Value.{Pairs, document}
-use Rattle.vbson.specs.Convert.{options_of_call}
+use Rattle.vbson.specs.Convert.{duplicate_keys_of, options_of_call}
 use Rattle.vbson.specs.DocumentError.{ExplainsDocument, HasDocumentText, IsFinding, IsFindingOfDocument, finding_code}
 use Rattle.vbson.specs.Documents.{depth}
-use Rattle.vbson.specs.Reading.{duplicate_keys_of}
 use Rattle.vbson.specs.declared.document_error.Finding.{Finding}
 use Rattle.vbson.specs.declared.document_error.Finding.TheVariants.{Nothing, Malformed, FiniteDouble}
 use Rattle.vbson.specs.declared.explain.Rejection.{Rejection}

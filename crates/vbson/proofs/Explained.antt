@@ -22,9 +22,9 @@ use Rattle.bson_run.specs.declared.explain.Explanation.TheVariants as explained
 use Rattle.bson_run.specs.Preprocessed.{IsPreprocessedAs, IsPreprocessingError}
 use Rattle.bson_run.specs.declared.task.Preprocessing.{Preprocessing}
 use Rattle.vbson.proofs.Preprocessed.{meant, not_read, rejected_key}
-use Rattle.vbson.specs.Convert.{options_of_call, status_of_reason}
+use Rattle.vbson.specs.Convert.{options_of_call, preprocessing_of, status_of_reason}
 use Rattle.vbson.specs.Explain.{Explains, ExplainsWithoutPreprocessing, ExplainsError, HasTooLongPath, IsRejectedFor, ErrorPathIsTooLong, IsUnexplained, ExplainsRejection, explanation_code}
-use Rattle.vbson.specs.Reading.{MeansUnder, preprocessing_of}
+use Rattle.vbson.specs.Reading.{MeansUnder}
 use Rattle.vbson.specs.declared.explain.Rejection.{Rejection}
 use Rattle.vbson.specs.declared.options.CallOptions.{CallOptions}
 

@@ -1,5 +1,6 @@
 mod Appending
 mod Causes
+mod Converted
 mod Decoding
 mod DocumentErrors
 mod Dumps

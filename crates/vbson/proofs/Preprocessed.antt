@@ -1,5 +1,5 @@
 -- What is read in the place of a text, and what a status says of it.
-use Rattle.std.proofs.Common.{◌≡◌, ◌≢◌, ◌≤◌, inl, inr, ℕ, List, Some, refl, ap, subst, arith}
+use Rattle.std.proofs.Common.{◌≡◌, ◌≢◌, ◌≤◌, ◌⊎◌, inl, inr, ℕ, List, Some, refl, ap, subst, arith}
 use Rattle.json.specs.Json.{Json}
 use Rattle.json.specs.Strict.{HasUniqueKeys}
 use Rattle.serde_json.specs.Data.{Data}
@@ -20,10 +20,11 @@ use Rattle.bson_run.proofs.Offered.{not_taken, one_taken}
 use Rattle.bson_run.specs.Preprocessed.{IsPreprocessedAs, IsPreprocessingError}
 use Rattle.bson_run.specs.declared.task.Preprocessing.{Preprocessing}
 use Rattle.vbson.proofs.Causes.{causes, reason_status}
-use Rattle.vbson.specs.Convert.{IsTextError, options_of_call, status_of}
-use Rattle.vbson.specs.Documents.{depth}
+use Rattle.vbson.specs.Convert.{IsReadWith, IsTextError, duplicate_keys_of, options_of_call, preprocessing_of}
+use Rattle.vbson.specs.Convert.{status_of}
+use Rattle.vbson.specs.Documents.{IsEncodeFailure, depth}
 use Rattle.vbson.specs.Reading.{HasRejectedKey, IsReadFailure, IsTextReadFailure, MeansUnder}
-use Rattle.vbson.specs.Reading.{IsDocumentReadFailure, duplicate_keys_of, preprocessing_of}
+use Rattle.vbson.specs.Reading.{IsDocumentReadFailure, IsPreprocessingFailure, IsTextEncodeFailure}
 use Rattle.vbson.specs.declared.options.CallOptions.{CallOptions}
 
 -- ---- one value
@@ -43,6 +44,12 @@ pub meant : (options : CallOptions) (text read : List ℕ) (value : Value) → I
 meant options text read value is means =
     subst (λ x. HasTextMeaningIn (options_of_call options).doubles x value)
     (one_taken (preprocessing_of options) text means.read_text read means.read_as is) means.meaning
+
+-- what is read in the place of a text has the property of the text that is read
+pub has_read : (options : CallOptions) (property : List ℕ → Type 0) (text read : List ℕ)
+    → IsPreprocessedAs (preprocessing_of options) text read → IsReadWith options property text → property read
+has_read options property text read is h =
+    subst property (one_taken (preprocessing_of options) text h.read_text read h.read_as is) h.has
 
 -- ---- what a status says
 
@@ -69,21 +76,24 @@ rejected o fault bytes h accepts = record {
 pub without_value : (options : CallOptions) (status : ℕ) (text read : List ℕ) → IsPreprocessedAs (preprocessing_of options) text read
     → IsReadFailure (options_of_call options) status read → IsTextReadFailure options status text
 without_value options status text read is h = record {
-  not_json = λ two. record { read_text = read; read_as = is; rejected = h.cause.not_json two };
-  bad_object_id = λ three. record { read_text = read; read_as = is; rejected = h.cause.bad_object_id three };
-  not_extended_json = λ four. inr (record { read_text = read; read_as = is; rejected = h.cause.not_extended_json four });
+  not_json = λ two. record { read_text = read; read_as = is; has = h.cause.not_json two };
+  bad_object_id = λ three. record { read_text = read; read_as = is; has = h.cause.bad_object_id three };
+  not_extended_json = λ four. inr (record { read_text = read; read_as = is; has = h.cause.not_extended_json four });
   accepts = λ value means. h.accepts value (meant options text read value is means);
   possible_statuses = h.possible_statuses;
 }
 
--- when memory runs out
-pub no_memory : (options : CallOptions) (text : List ℕ) → IsTextReadFailure options 5 text
-no_memory options text = record {
-  not_json = λ is. absurd (omega (arith, is));
-  bad_object_id = λ is. absurd (omega (arith, is));
-  not_extended_json = λ is. absurd (omega (arith, is));
-  accepts = λ value means. refl;
-  possible_statuses = (omega arith, omega arith);
+pub without_bytes : (options : CallOptions) (status : ℕ) (text read : List ℕ) → IsPreprocessedAs (preprocessing_of options) text read
+    → IsEncodeFailure (options_of_call options) status read → IsTextEncodeFailure options status text
+without_bytes options status text read is h = record {
+  not_json = λ two. record { read_text = read; read_as = is; has = h.cause.not_json two };
+  bad_object_id = λ three. record { read_text = read; read_as = is; has = h.cause.bad_object_id three };
+  not_extended_json = λ four. inr (record { read_text = read; read_as = is; has = h.cause.not_extended_json four });
+  no_document = λ ten. record { read_text = read; read_as = is; has = h.no_document ten };
+  key_has_zero = λ eleven. record { read_text = read; read_as = is; has = h.key_has_zero eleven };
+  regex_has_zero = λ twelve. record { read_text = read; read_as = is; has = h.regex_has_zero twelve };
+  too_long = λ thirteen. record { read_text = read; read_as = is; has = h.too_long thirteen };
+  possible_statuses = h.possible_statuses;
 }
 
 -- a text that preprocessing rejects is not read
@@ -103,15 +113,46 @@ rejected_key preprocessing CannotWrite text h some = absurd h
 
 pub turned_away : ((j : Json) (path : List PathSegment) → DuplicateAt j path → ¬ HasUniqueKeys j) → (options : CallOptions)
     (fault : Error) (text : List ℕ) → IsPreprocessingError (preprocessing_of options) fault text → fault ≢ OutOfMemory
-    → IsTextReadFailure options 4 text
+    → IsPreprocessingFailure options 4 text
 turned_away twice options fault text h some =
     let key = rejected_key (preprocessing_of options) fault text h some in
     record {
-      not_json = λ is. absurd (omega (arith, is));
-      bad_object_id = λ is. absurd (omega (arith, is));
-      not_extended_json = λ is. inl key;
-      accepts = λ value means. absurd (not_read twice (preprocessing_of options) text means.read_text key means.read_as);
-      possible_statuses = (omega arith, omega arith);
+      has_rejected_key = λ is. key;
+      accepts = λ read is. absurd (not_read twice (preprocessing_of options) text read key is);
+      possible_statuses = inl refl;
+    }
+
+of_two : (status : ℕ) → (status ≡ 4) ⊎ (status ≡ 5) → (4 ≤ status) × (status ≤ 5)
+of_two status (inl is) = (omega (arith, is), omega (arith, is))
+of_two status (inr is) = (omega (arith, is), omega (arith, is))
+
+-- a text that is not read has no value
+pub unread : (options : CallOptions) (status : ℕ) (text : List ℕ) → IsPreprocessingFailure options status text
+    → IsTextReadFailure options status text
+unread options status text h =
+    let (least, most) = of_two status h.possible_statuses in
+    record {
+      not_json = λ is. absurd (omega (arith, least, is));
+      bad_object_id = λ is. absurd (omega (arith, least, is));
+      not_extended_json = λ is. inl (h.has_rejected_key is);
+      accepts = λ value means. h.accepts means.read_text means.read_as;
+      possible_statuses = (omega (arith, least), most);
+    }
+
+-- and no bytes
+pub unencoded_first : (options : CallOptions) (status : ℕ) (text : List ℕ) → IsPreprocessingFailure options status text
+    → IsTextEncodeFailure options status text
+unencoded_first options status text h =
+    let (least, most) = of_two status h.possible_statuses in
+    record {
+      not_json = λ is. absurd (omega (arith, least, is));
+      bad_object_id = λ is. absurd (omega (arith, least, is));
+      not_extended_json = λ is. inl (h.has_rejected_key is);
+      no_document = λ is. absurd (omega (arith, most, is));
+      key_has_zero = λ is. absurd (omega (arith, most, is));
+      regex_has_zero = λ is. absurd (omega (arith, most, is));
+      too_long = λ is. absurd (omega (arith, most, is));
+      possible_statuses = inl (omega (arith, least), most);
     }
 
 -- an error that bytes have as a text is neither of a reader nor of a writer

@@ -9,9 +9,9 @@ use Rattle.bson_convert.specs.declared.mode.Mode.TheVariants as mode
 use Rattle.bson_convert.specs.declared.error.Error.TheVariants as error
 use Rattle.bson_convert.specs.declared.encode_error.NoBytes.TheVariants as without
 use Rattle.vbson.specs.Convert.{mode_of_number, options_of_call, key_order_of, status_of_reason, status_of}
+use Rattle.vbson.specs.Convert.{duplicate_keys_of, preprocessing_of}
 use Rattle.bson_model.specs.declared.options.DuplicateKeys.TheVariants.{LastWins, Reject}
 use Rattle.vbson.specs.Documents.{depth}
-use Rattle.vbson.specs.Reading.{duplicate_keys_of, preprocessing_of}
 use Rattle.vbson.specs.Comparison.{comparison_status}
 use Rattle.vbson.specs.declared.options.CallOptions.{CallOptions}
 use Rattle.bson_model.specs.declared.options.KeyOrder.TheVariants.{Ascending, AsGiven}

@@ -11,10 +11,9 @@ use Rattle.bson_codec.specs.Diagnostics.{fault_kind_message}
 use Rattle.bson_convert.specs.Convert.{newline}
 use Rattle.bson_model.specs.Normal.{writable_in}
 use Rattle.bson_model.specs.Value.{Pairs, document}
-use Rattle.vbson.specs.Convert.{options_of_call}
+use Rattle.vbson.specs.Convert.{duplicate_keys_of, options_of_call}
 use Rattle.vbson.specs.Documents.{depth}
 use Rattle.vbson.specs.Path.{path_pairs}
-use Rattle.vbson.specs.Reading.{duplicate_keys_of}
 use Rattle.vbson.specs.Text.{IsOwnedText}
 use Rattle.vbson.specs.declared.document_error.Finding.{Finding}
 use Rattle.vbson.specs.declared.document_error.Finding.TheVariants.{Nothing, Malformed, FiniteDouble}

@@ -7,28 +7,32 @@ use Rattle.bson.specs.Form.TheVariants as form
 use Rattle.bson_scalar.specs.Forms.{form_in}
 use Rattle.bson.specs.Texts.{IsTextInKeyOrder}
 use Rattle.bson_model.specs.declared.options.Options.{Options}
-use Rattle.bson_codec.specs.Canonical.{NoBytesCause, nul_in_key, nul_in_regex, too_long}
-use Rattle.bson_codec.specs.ReadDocuments.{IsReadAsDocument}
+use Rattle.bson_codec.specs.Canonical.{NoBytesCause}
+use Rattle.bson_bytes.specs.ReadDocuments.{IsReadAsDocumentIn}
 use Rattle.bson_model.specs.Displayed.{display_text}
 use Rattle.bson_model.specs.Normal.{writable_in}
 use Rattle.bson_model.specs.Value.{Value, Pairs, document}
-use Rattle.bson.specs.TextMeaning.{HasTextMeaningInKeyOrder}
-use Rattle.bson_run.specs.Encode.{Encodes, IsUnencodableFor, IsNoDocument}
+use Rattle.bson.specs.TextMeaning.{HasTextMeaningInKeyOrder, TextMeansInKeyOrder}
+use Rattle.bson_run.specs.Encode.{Encodes, IsUnencodableFor, IsNoDocument, TextHasNoBsonBytes}
+use Rattle.bson_convert.specs.declared.encode_error.NoBytes.TheVariants.{NoDocument, ZeroInKey, ZeroInRegex, TooLong}
 use Rattle.bson_convert.specs.declared.mode.Mode.{Mode}
 use Rattle.bson_convert.specs.declared.mode.Mode.TheVariants.{Canonical, Relaxed, Show}
-use Rattle.vbson.specs.Convert.{IsCauseOfStatus, mode_of_number}
+use Rattle.vbson.specs.Convert.{IsCauseOfStatus, IsReadWith, duplicate_keys_of, mode_of_number, options_of_call}
 use Rattle.vbson.specs.Text.{IsOwnedText}
+use Rattle.bson_model.specs.declared.options.DuplicateKeys.{DuplicateKeys}
+use Rattle.bson_model.specs.declared.options.DuplicateKeys.TheVariants.{LastWins, Reject}
 use Rattle.bson_model.specs.declared.options.KeyOrder.{KeyOrder}
 use Rattle.bson_model.specs.declared.options.KeyOrder.TheVariants.{Ascending, AsGiven}
+use Rattle.vbson.specs.declared.options.CallOptions.{CallOptions}
 use Rattle.vbson.specs.declared.text.Text.{Text}
 
 -- how deep documents, arrays and scopes may nest
 abbrev pub depth : ℕ
 depth = 100
 
--- the bytes are one document
-abbrev pub IsOneDocument : (bytes : List ℕ) → Type 0
-IsOneDocument bytes = (pairs : Pairs) × IsReadAsDocument depth bytes pairs
+-- the bytes are one document; if duplicate keys are rejected, it has none
+abbrev pub IsOneDocument : DuplicateKeys → (bytes : List ℕ) → Type 0
+IsOneDocument keys bytes = (pairs : Pairs) × IsReadAsDocumentIn keys depth bytes pairs
 
 -- ---- from bytes to a text
 
@@ -47,43 +51,59 @@ PairsHaveNoTextIn options Relaxed pairs = writable_in options.doubles (document 
 PairsHaveNoTextIn options Show pairs = ⊥
 
 -- the bytes are a document, whose text in the mode this is
-pub record Decodes (options : Options) (mode : Mode) (bytes text : List ℕ) : Type 0 where
+pub record Decodes (keys : DuplicateKeys) (options : Options) (mode : Mode) (bytes text : List ℕ) : Type 0 where
   pub pairs : Pairs
-  pub read : IsReadAsDocument depth bytes pairs
+  pub read : IsReadAsDocumentIn keys depth bytes pairs
   pub written : IsTextOfDocument options mode pairs text
 
 -- the bytes are a document, and the output is its UTF-8 text in the mode that was selected
-pub record IsDecoded (options : Options) (mode_number : ℕ) (bytes : List ℕ) (owned_text : Text) : Type 0 where
+pub record IsDecoded (options : CallOptions) (mode_number : ℕ) (bytes : List ℕ) (owned_text : Text) : Type 0 where
   pub mode : Mode
   pub mode_selected : mode_of_number mode_number ≡ Some mode
   pub text : List ℕ
-  pub decodes : Decodes options mode bytes text
+  pub decodes : Decodes (duplicate_keys_of options) (options_of_call options) mode bytes text
   pub utf8 : IsUtf8 text
   pub is_text : IsOwnedText text owned_text
 
 -- the bytes are a document that has no text in the mode that was selected
-pub record DocumentHasNoText (options : Options) (mode_number : ℕ) (bytes : List ℕ) : Type 0 where
+pub record DocumentHasNoText (options : CallOptions) (mode_number : ℕ) (bytes : List ℕ) : Type 0 where
   pub mode : Mode
   pub mode_selected : mode_of_number mode_number ≡ Some mode
   pub pairs : Pairs
-  pub read : IsReadAsDocument depth bytes pairs
-  pub unwritable : PairsHaveNoTextIn options mode pairs
+  pub read : IsReadAsDocumentIn (duplicate_keys_of options) depth bytes pairs
+  pub unwritable : PairsHaveNoTextIn (options_of_call options) mode pairs
 
 -- ---- from a text to bytes
 
--- the output is the bytes of the document that the text denotes
-abbrev pub IsEncoded : Options → (text : List ℕ) → Text → Type 0
+-- the text that is read denotes the value, with its keys in the order of the options
+abbrev pub ReadTextMeans : CallOptions → (read_text : List ℕ) → Value → Type 0
+ReadTextMeans options = HasTextMeaningInKeyOrder (options_of_call options).key_order (options_of_call options).doubles
+
+-- under the options the text is that of a tree that denotes the document with these pairs
+abbrev pub IsDocumentTextUnder : CallOptions → Pairs → (text : List ℕ) → Type 0
+IsDocumentTextUnder options pairs text = IsReadWith options
+    (λ read_text. TextMeansInKeyOrder (options_of_call options).key_order (options_of_call options).doubles read_text
+    (document pairs)) text
+
+-- the bytes are those of the document that the text denotes under the options
+abbrev pub EncodesUnder : CallOptions → (text bytes : List ℕ) → Type 0
+EncodesUnder options text bytes = IsReadWith options
+    (λ read_text. Encodes (options_of_call options).key_order (options_of_call options) read_text bytes) text
+
+-- the output is these bytes
+abbrev pub IsEncoded : CallOptions → (text : List ℕ) → Text → Type 0
 IsEncoded options text owned_text =
-    (bytes : List ℕ) × Encodes options.key_order options text bytes × IsOwnedText bytes owned_text
+    (bytes : List ℕ) × EncodesUnder options text bytes × IsOwnedText bytes owned_text
 
--- the text denotes a value that is not a document
-abbrev pub TextIsNotDocumentBy : Options → (text : List ℕ) → Type 0
-TextIsNotDocumentBy options text = IsNoDocument (HasTextMeaningInKeyOrder options.key_order options.doubles text)
+-- under the options the text denotes a value that is not a document
+abbrev pub TextIsNotDocumentUnder : CallOptions → (text : List ℕ) → Type 0
+TextIsNotDocumentUnder options text =
+    IsReadWith options (λ read_text. IsNoDocument (ReadTextMeans options read_text)) text
 
--- the text denotes a document that has no BSON bytes, for this cause
-abbrev pub IsUnencodableText : Options → NoBytesCause → (text : List ℕ) → Type 0
+-- under the options the text denotes a document that has no BSON bytes, for this cause
+abbrev pub IsUnencodableText : CallOptions → NoBytesCause → (text : List ℕ) → Type 0
 IsUnencodableText options cause text =
-    IsUnencodableFor (HasTextMeaningInKeyOrder options.key_order options.doubles text) cause
+    IsReadWith options (λ read_text. IsUnencodableFor (ReadTextMeans options read_text) cause) text
 
 -- ---- for private clauses
 
@@ -101,22 +121,26 @@ abbrev pub streaming_form_in_order : KeyOrder → Doubles → Mode → Option Fo
 streaming_form_in_order Ascending doubles mode = None
 streaming_form_in_order AsGiven doubles mode = form_with_doubles doubles mode
 
-abbrev pub streaming_form : Options → Mode → Option Form
-streaming_form options mode = streaming_form_in_order options.key_order options.doubles mode
+-- and if duplicate keys are not rejected
+abbrev pub streaming_form : DuplicateKeys → Options → Mode → Option Form
+streaming_form Reject options mode = None
+streaming_form LastWins options mode = streaming_form_in_order options.key_order options.doubles mode
 
 -- the cause of each status of a failed decoding
-pub record IsDecodeFailure (options : Options) (mode : Mode) (status : ℕ) (bytes : List ℕ) : Type 0 where
-  pub no_document : status ≡ 10 → IsOneDocument bytes → ⊥
-  pub no_text : status ≡ 7 → (pairs : Pairs) × IsReadAsDocument depth bytes pairs × PairsHaveNoTextIn options mode pairs
-  pub accepts : (pairs : Pairs) → IsReadAsDocument depth bytes pairs
+pub record IsDecodeFailure (keys : DuplicateKeys) (options : Options) (mode : Mode) (status : ℕ)
+    (bytes : List ℕ) : Type 0 where
+  pub no_document : status ≡ 10 → IsOneDocument keys bytes → ⊥
+  pub no_text : status ≡ 7
+      → (pairs : Pairs) × IsReadAsDocumentIn keys depth bytes pairs × PairsHaveNoTextIn options mode pairs
+  pub accepts : (pairs : Pairs) → IsReadAsDocumentIn keys depth bytes pairs
       → writable_in options.doubles (document pairs) ≡ true → status ≡ 5
   pub possible_statuses : (status ≡ 5) ⊎ ((status ≡ 7) ⊎ (status ≡ 10))
 
--- the cause of each status of a failed encoding
+-- the cause of each status of a failed encoding, without preprocessing
 pub record IsEncodeFailure (options : Options) (status : ℕ) (text : List ℕ) : Type 0 where
   pub cause : IsCauseOfStatus options status text
-  pub no_document : status ≡ 10 → TextIsNotDocumentBy options text
-  pub key_has_zero : status ≡ 11 → IsUnencodableText options nul_in_key text
-  pub regex_has_zero : status ≡ 12 → IsUnencodableText options nul_in_regex text
-  pub too_long : status ≡ 13 → IsUnencodableText options too_long text
+  pub no_document : status ≡ 10 → TextHasNoBsonBytes options.key_order options NoDocument text
+  pub key_has_zero : status ≡ 11 → TextHasNoBsonBytes options.key_order options ZeroInKey text
+  pub regex_has_zero : status ≡ 12 → TextHasNoBsonBytes options.key_order options ZeroInRegex text
+  pub too_long : status ≡ 13 → TextHasNoBsonBytes options.key_order options TooLong text
   pub possible_statuses : ((2 ≤ status) × (status ≤ 5)) ⊎ ((10 ≤ status) × (status ≤ 13))

@@ -1,6 +1,6 @@
 -- A block of concatenated documents.
 use Rattle.std.specs.Prelude.{◌≡◌, ◌⊎◌, ℕ, IsUtf8, List, ◌++◌, Some, length, true}
-use Rattle.bson_model.specs.declared.options.DuplicateKeys.TheVariants.{LastWins}
+use Rattle.bson_model.specs.declared.options.DuplicateKeys.{DuplicateKeys}
 use Rattle.bson_model.specs.declared.options.Options.{Options}
 use Rattle.bson_codec.specs.DumpRuns.{Dump, EndsInside, IsFaultOfDocument}
 use Rattle.bson_codec.specs.Diagnostics.{diagnostic_of}
@@ -12,10 +12,11 @@ use Rattle.bson_codec.specs.declared.run_end.RunFault.{RunFault}
 use Rattle.bson_convert.specs.declared.mode.Mode.{Mode}
 use Rattle.bson_convert.specs.declared.mode.Mode.TheVariants.{Canonical, Relaxed, Show}
 use Rattle.bson.specs.Form.TheVariants as form
-use Rattle.vbson.specs.Convert.{mode_of_number}
+use Rattle.vbson.specs.Convert.{duplicate_keys_of, mode_of_number, options_of_call}
 use Rattle.vbson.specs.Documents.{depth}
 use Rattle.vbson.specs.Text.{IsOwnedText}
 use Rattle.vbson.specs.declared.dump.Documents as dump_result
+use Rattle.vbson.specs.declared.options.CallOptions.{CallOptions}
 
 -- the kind of line that is written for each document; the mode Show always uses the document's own order
 abbrev pub dump_line_format : Mode → Line
@@ -24,9 +25,9 @@ dump_line_format Relaxed = Text form.Relaxed
 dump_line_format Show = Shown
 
 -- a rejected document adds a diagnostic, and the run continues
-abbrev pub dump_run_of_mode : Options → Mode → Run
-dump_run_of_mode options mode =
-    record { depth = depth; duplicate_keys = LastWins; options = options; line = dump_line_format mode; keep_going = true }
+abbrev pub dump_run_of_mode : DuplicateKeys → Options → Mode → Run
+dump_run_of_mode keys options mode =
+    record { depth = depth; duplicate_keys = keys; options = options; line = dump_line_format mode; keep_going = true }
 
 -- the whole block consists of so many documents, with this output and these diagnostics
 pub record IsWholeDump (run : Run) (block output all_diagnostics : List ℕ)
@@ -53,14 +54,14 @@ IsOutputOfDocuments run block output all_diagnostics document_count consumed_byt
 
 -- the struct has the output and the diagnostics of the documents in the mode that was selected, both UTF-8, and their
 -- counts
-pub record DocumentsAreDecoded (options : Options) (mode_number : ℕ) (block : List ℕ)
+pub record DocumentsAreDecoded (options : CallOptions) (mode_number : ℕ) (block : List ℕ)
     (decoded_documents : dump_result.Documents) : Type 0 where
   pub mode : Mode
   pub mode_selected : mode_of_number mode_number ≡ Some mode
   pub text : List ℕ
   pub diagnostics : List ℕ
-  pub is_output : IsOutputOfDocuments
-      (dump_run_of_mode options mode) block text diagnostics decoded_documents.documents decoded_documents.consumed
+  pub is_output : IsOutputOfDocuments (dump_run_of_mode (duplicate_keys_of options) (options_of_call options) mode) block
+      text diagnostics decoded_documents.documents decoded_documents.consumed
   pub utf8 : IsUtf8 text
   pub diagnostic_utf8 : IsUtf8 diagnostics
   pub is_text : IsOwnedText text decoded_documents.text

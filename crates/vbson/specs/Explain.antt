@@ -17,9 +17,9 @@ use Rattle.bson_run.specs.TaskNames.{rule_message}
 use Rattle.bson_run.specs.declared.explain.Explanation.{Explanation}
 use Rattle.bson_run.specs.declared.explain.Explanation.TheVariants.{Difference, Syntax, Other}
 use Rattle.bson_run.specs.declared.explain.Explanation.TheVariants as explanations
-use Rattle.vbson.specs.Convert.{options_of_call, status_of_reason}
+use Rattle.vbson.specs.Convert.{options_of_call, preprocessing_of, status_of_reason}
 use Rattle.vbson.specs.Path.{path_pairs}
-use Rattle.vbson.specs.Reading.{MeansUnder, preprocessing_of}
+use Rattle.vbson.specs.Reading.{MeansUnder}
 use Rattle.vbson.specs.Text.{IsOwnedText}
 use Rattle.vbson.specs.declared.explain.RejectionFields.{RejectionFields}
 use Rattle.vbson.specs.declared.explain.Rejection.{Rejection}

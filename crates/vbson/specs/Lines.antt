@@ -9,14 +9,14 @@ use Rattle.bson_run.specs.declared.task.OnRefusal.TheVariants.{KeepGoing, Stop}
 use Rattle.bson_run.specs.declared.task.Task.{Task}
 use Rattle.bson_run.specs.declared.task.Output.{Output}
 use Rattle.bson_run.specs.declared.task.Output.TheVariants.{Text, Bytes}
-use Rattle.bson_run.specs.Preprocessed.{default_preprocessing}
-use Rattle.vbson.specs.Convert.{mode_of_number}
+use Rattle.vbson.specs.Convert.{mode_of_number, options_of_call, preprocessing_of}
 use Rattle.vbson.specs.Text.{IsOwnedText}
 use Rattle.vbson.specs.declared.lines.Lines.{Lines}
+use Rattle.vbson.specs.declared.options.CallOptions.{CallOptions}
 
--- the task that writes the output of each line, without preprocessing
-abbrev pub task_of : Output → Task
-task_of output = record { preprocessing = default_preprocessing; output = output }
+-- the task that writes the output of each line, with the preprocessing that the options request
+abbrev pub task_of : CallOptions → Output → Task
+task_of options output = record { preprocessing = preprocessing_of options; output = output }
 
 -- the task writes this output and these diagnostics for the lines of the block; these are the numbers of lines and of
 -- rejected lines
@@ -34,15 +34,16 @@ pub record IsLinesResult (options : Options) (task : Task) (block : List ℕ) (l
   pub are_diagnostics : IsOwnedText diagnostics lines_result.diagnostics
 
 -- the struct has the result of converting each line in the mode that was selected
-pub record LinesAreConverted (options : Options) (mode_number : ℕ) (block : List ℕ)
+pub record LinesAreConverted (options : CallOptions) (mode_number : ℕ) (block : List ℕ)
     (lines_result : Lines) : Type 0 where
   pub mode : Mode
   pub mode_selected : mode_of_number mode_number ≡ Some mode
-  pub is_result : IsLinesResult options (task_of (Text mode)) block lines_result
+  pub is_result : IsLinesResult (options_of_call options) (task_of options (Text mode)) block lines_result
 
 -- the struct has the result of encoding each line as the bytes of its document
-abbrev pub LinesAreEncoded : Options → (block : List ℕ) → Lines → Type 0
-LinesAreEncoded options block lines_result = IsLinesResult options (task_of Bytes) block lines_result
+abbrev pub LinesAreEncoded : CallOptions → (block : List ℕ) → Lines → Type 0
+LinesAreEncoded options block lines_result =
+    IsLinesResult (options_of_call options) (task_of options Bytes) block lines_result
 
 -- ---- the first line that is rejected
 

@@ -9,9 +9,9 @@ AreInvalid options =
     ⊎ (1 < options.doubles) ⊎ (1 < options.key_order) ⊎ (1 < options.duplicate_keys) ⊎ (1 < options.v1)
     ⊎ (1 < options.layout)
 
--- a conversion rejects them: they are invalid, or request that duplicate keys are rejected, or that Extended JSON v1 is read
-abbrev pub AreNotForConversion : CallOptions → Type 0
-AreNotForConversion options = AreInvalid options ⊎ (options.duplicate_keys ≡ 1) ⊎ (options.v1 ≡ 1)
+-- a call that decodes bytes rejects them: they are invalid, or request that Extended JSON v1 is read
+abbrev pub AreNotForDecoding : CallOptions → Type 0
+AreNotForDecoding options = AreInvalid options ⊎ (options.v1 ≡ 1)
 
 -- a call that only reads values rejects them: they are invalid, or request that keys are kept as given, or MongoDB's layout
 abbrev pub AreNotForReading : CallOptions → Type 0

@@ -9,6 +9,7 @@ ghost use Rattle.bson_types.specs.BinarySubtypes.{subtype_of};
 ghost use Rattle.bson_types.specs.ElementTags.{tag_of};
 ghost use Rattle.bson_types.specs.declared.spec.ElementType.{ElementType};
 ghost use Rattle.bson_types.specs.declared.spec.ElementType.TheVariants as tag;
+ghost use Rattle.bson_model.specs.declared.options.DuplicateKeys.TheVariants.{LastWins};
 ghost use Rattle.vbson.specs.Documents.{IsOneDocument};
 ghost use Rattle.vbson.specs.Builder.{Appends, AppendsScalar, HasSameBytes, is_true, length_placeholder};
 
@@ -80,8 +81,8 @@ pub extern "C" fn vbson_append_value(
 #[unsafe(no_mangle)]
 pub extern "C" fn vbson_append_document(builder: &mut Builder<'_>, key: &[u8], bytes: &[u8]) -> u32
     ensures appended { Appends tag.EmbeddedDocument key.now bytes.now result builder.old builder.new }
-    ensures is_document { result ≡ 0 → IsOneDocument bytes.now }
-    ensures no_document { result ≡ 10 → IsOneDocument bytes.now → ⊥ }
+    ensures is_document { result ≡ 0 → IsOneDocument LastWins bytes.now }
+    ensures no_document { result ≡ 10 → IsOneDocument LastWins bytes.now → ⊥ }
     ensures not_utf8 { result ≡ 6 → is_utf8 key.now ≡ false }
     ensures possible_statuses { (result ≡ 0) ⊎ (result ≡ 6) ⊎ (result ≡ 8) ⊎ (result ≡ 10) ⊎ (result ≡ 11) }
 {
@@ -92,8 +93,8 @@ pub extern "C" fn vbson_append_document(builder: &mut Builder<'_>, key: &[u8], b
 #[unsafe(no_mangle)]
 pub extern "C" fn vbson_append_array(builder: &mut Builder<'_>, key: &[u8], bytes: &[u8]) -> u32
     ensures appended { Appends tag.Array key.now bytes.now result builder.old builder.new }
-    ensures is_document { result ≡ 0 → IsOneDocument bytes.now }
-    ensures no_document { result ≡ 10 → IsOneDocument bytes.now → ⊥ }
+    ensures is_document { result ≡ 0 → IsOneDocument LastWins bytes.now }
+    ensures no_document { result ≡ 10 → IsOneDocument LastWins bytes.now → ⊥ }
     ensures not_utf8 { result ≡ 6 → is_utf8 key.now ≡ false }
     ensures possible_statuses { (result ≡ 0) ⊎ (result ≡ 6) ⊎ (result ≡ 8) ⊎ (result ≡ 10) ⊎ (result ≡ 11) }
 {
@@ -335,8 +336,8 @@ fn append_checked_document(
     bytes: &[u8],
 ) -> u32
     ensures appended { Appends kind key.now bytes.now result builder.old builder.new }
-    ensures is_document { result ≡ 0 → IsOneDocument bytes.now }
-    ensures no_document { result ≡ 10 → IsOneDocument bytes.now → ⊥ }
+    ensures is_document { result ≡ 0 → IsOneDocument LastWins bytes.now }
+    ensures no_document { result ≡ 10 → IsOneDocument LastWins bytes.now → ⊥ }
     ensures not_utf8 { result ≡ 6 → is_utf8 key.now ≡ false }
     ensures possible_statuses { (result ≡ 0) ⊎ (result ≡ 6) ⊎ (result ≡ 8) ⊎ (result ≡ 10) ⊎ (result ≡ 11) }
 {

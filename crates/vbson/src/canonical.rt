@@ -2,16 +2,19 @@
 ghost use Rattle.std.specs.Prelude.{◌≡◌, ◌⊎◌, ◌↔◌};
 ghost use Rattle.bson_convert.specs.Convert.{IsCanonicalText};
 ghost use Rattle.vbson.specs.Convert.{options_of_call};
-ghost use Rattle.vbson.specs.Options.{AreNotForConversion, AreNotForReading};
+ghost use Rattle.vbson.specs.Options.{AreNotForDecoding, AreNotForReading};
 
-use crate::options::{CallOptions, are_not_for_conversion, are_not_for_reading, options_of};
+use crate::options::{
+    CallOptions, DUPLICATE_KEYS_REJECT, are_not_for_decoding, are_not_for_reading, options_of,
+};
 use crate::status;
 use bson_convert::canonical::is_canonical_text;
 use std::alloc::Global;
 
 /// Checks that the text is the canonical text of the value that it means, with keys in ascending
 /// order at every depth and without a newline. The options may request finite doubles, and nothing
-/// else.
+/// else: no canonical text has a duplicate key or is Extended JSON v1, and its keys and layout are
+/// fixed.
 #[unsafe(no_mangle)]
 pub extern "C" fn vbson_is_canonical_text_nonnull(
     alloc: Global,
@@ -20,10 +23,14 @@ pub extern "C" fn vbson_is_canonical_text_nonnull(
 ) -> u32
     ensures success { result ≡ 0 → IsCanonicalText (options_of_call options.now) text.now }
     ensures not_canonical { result ≡ 16 → IsCanonicalText (options_of_call options.now) text.now → ⊥ }
-    ensures invalid_argument { result ≡ 1 ↔ AreNotForConversion options.now ⊎ AreNotForReading options.now }
+    ensures invalid_argument { result ≡ 1
+        ↔ AreNotForDecoding options.now ⊎ AreNotForReading options.now ⊎ (options.now.duplicate_keys ≡ 1) }
     ensures possible_statuses { (result ≡ 0) ⊎ (result ≡ 1) ⊎ (result ≡ 5) ⊎ (result ≡ 16) }
 {
-    if are_not_for_conversion(*options) || are_not_for_reading(*options) {
+    if are_not_for_decoding(*options)
+        || are_not_for_reading(*options)
+        || options.duplicate_keys == DUPLICATE_KEYS_REJECT
+    {
         return status::INVALID_ARGUMENT;
     }
     match is_canonical_text(alloc, options_of(*options), text) {

@@ -1,22 +1,21 @@
 //! Converts one text of Extended JSON to another.
-ghost use Rattle.std.specs.Prelude.{◌≡◌, ◌↔◌, ◌⊎◌, ◌<◌, ◌≤◌, ◌++◌, List, ℕ, Some};
-ghost use Rattle.serde_json.specs.Data.{Data};
+ghost use Rattle.std.specs.Prelude.{◌≡◌, ◌↔◌, ◌⊎◌, ◌<◌, ◌≤◌, ◌++◌, List, ℕ, Some, IfOk, IfErr, IsUtf8};
 ghost use Rattle.bson_model.specs.declared.options.Options.{Options};
-ghost use Rattle.bson_model.specs.Means.{MeansIn};
-ghost use Rattle.bson_model.specs.Value as model;
-ghost use Rattle.bson_convert.specs.Convert.{IsRejectedIn, newline};
-ghost use Rattle.bson.specs.TextMeaning.{IsNotJsonText, IsTextOf};
+ghost use Rattle.bson_convert.specs.Convert.{IsAccepted, IsRejectedIn, newline};
 ghost use Rattle.bson_convert.specs.declared.mode.Mode.{Mode};
-ghost use Rattle.vbson.specs.Convert.{IsInvalidExtendedJson, IsInvalidShape, IsBadObjectId, IsCauseOfStatus};
-ghost use Rattle.bson_convert.specs.InOrder.{ConvertsBy};
-ghost use Rattle.vbson.specs.Convert.{IsConvertedBy, IsTextError};
-ghost use Rattle.vbson.specs.Convert.{mode_of_number, options_of_call, status_of};
-ghost use Rattle.vbson.specs.Options.{AreNotForConversion};
+ghost use Rattle.bson_convert.specs.InOrder.{ConvertsBy, IsFixedPointBy};
+ghost use Rattle.vbson.specs.Convert.{ConvertsUnder, IsAcceptedUnder, IsCauseOfStatus, IsConvertedBy, IsLineUnder};
+ghost use Rattle.vbson.specs.Convert.{IsTextError, mode_of_number, status_of};
+ghost use Rattle.vbson.specs.Options.{AreInvalid};
+ghost use Rattle.vbson.specs.Reading.{HasBadObjectIdUnder, IsInvalidUnder, IsNotJsonUnder};
+ghost use Rattle.vbson.specs.Reading.{IsReadFailure, IsTextReadFailure};
 ghost use Rattle.vbson.specs.Text.{nul};
 
-use crate::options::{CallOptions, are_not_for_conversion, options_of};
+use crate::options::{CallOptions, are_invalid, options_of};
+use crate::reading::{preprocess, text_to_read};
 use crate::status;
 use crate::text::{Text, text_of_line};
+use bson::extjson::Options;
 use bson_convert::convert::convert_text;
 use bson_convert::encode_error::NoBytes;
 use bson_convert::error::Error;
@@ -28,7 +27,8 @@ use std::alloc::Global;
 /// the relaxed form, 2 the text of Display. The options say whether finite doubles are accepted,
 /// whether the keys of each document ascend or have the order of the text, and how the two forms are
 /// laid out. In the order of the text, a duplicate key has its last value at its first position. The
-/// caller frees the block of the output with `free`.
+/// options can reject duplicate keys instead, and accept Extended JSON v1. The caller frees the block
+/// of the output with `free`.
 #[unsafe(no_mangle)]
 pub extern "C" fn vbson_convert_nonnull(
     alloc: Global,
@@ -37,35 +37,76 @@ pub extern "C" fn vbson_convert_nonnull(
     text: &[u8],
     out: &mut Text<'static>,
 ) -> u32
-    ensures success { result ≡ 0 → IsConvertedBy (options_of_call options.now) mode text.now out.new }
+    ensures success { result ≡ 0 → IsConvertedBy options.now mode text.now out.new }
     ensures unique_text { result ≡ 0 → (selected_mode : Mode) (converted_text : List ℕ)
         → mode_of_number mode ≡ Some selected_mode
-        → ConvertsBy (options_of_call options.now).key_order (options_of_call options.now) selected_mode text.now
-        (converted_text ++ newline)
+        → ConvertsUnder options.now selected_mode text.now (converted_text ++ newline)
         → out.new.bytes.now ≡ converted_text ++ nul }
-    ensures accepts { (tree : Data) (value : model.Value) → IsTextOf text.now tree
-        → MeansIn (options_of_call options.now).doubles tree value → 1 < result → result ≡ 5 }
+    ensures accepts { IsAcceptedUnder options.now text.now → 1 < result → result ≡ 5 }
 
     // When each other status comes, and that nothing is left then.
-    ensures invalid_argument { result ≡ 1 ↔ (2 < mode) ⊎ AreNotForConversion options.now }
-    ensures not_json { result ≡ 2 → IsNotJsonText text.now }
-    ensures bad_object_id { result ≡ 3 → IsInvalidExtendedJson (options_of_call options.now) IsBadObjectId text.now }
-    ensures not_extended_json { result ≡ 4
-        → IsInvalidExtendedJson (options_of_call options.now) IsInvalidShape text.now }
+    ensures invalid_argument { result ≡ 1 ↔ (2 < mode) ⊎ AreInvalid options.now }
+    ensures not_json { result ≡ 2 → IsNotJsonUnder options.now text.now }
+    ensures bad_object_id { result ≡ 3 → HasBadObjectIdUnder options.now text.now }
+    ensures not_extended_json { result ≡ 4 → IsInvalidUnder options.now text.now }
     ensures possible_statuses { result ≤ 5 }
     ensures unchanged { 0 < result → out.new ≡ out.old }
 {
-    if are_not_for_conversion(*options) {
+    if are_invalid(*options) {
         return status::INVALID_ARGUMENT;
     }
     let Some(mode) = mode_of(mode) else {
         return status::INVALID_ARGUMENT;
     };
-    match convert_text(alloc, options_of(*options), mode, text) {
+    match convert_under(alloc, *options, mode, text) {
         Ok(line) => *out = text_of_line(line),
-        Err(fault) => return status_of(fault),
+        Err(status) => return status,
     }
     status::OK
+}
+
+// The text in the mode of the value that the text means under the options, and a newline; or the status.
+fn convert_under(
+    alloc: Global,
+    options: CallOptions,
+    mode: Mode,
+    text: &[u8],
+) -> Result<Vec<u8>, u32>
+    ensures ok { IfOk result (λ line. IsLineUnder options mode text.now line.items) }
+    ensures unique { IfOk result
+        (λ line. (other_line : List ℕ) → ConvertsUnder options mode text.now other_line → other_line ≡ line.items) }
+    ensures accepts { IsAcceptedUnder options text.now → IfErr result (λ status. status ≡ 5) }
+    ensures error_status { IfErr result (λ status. IsTextReadFailure options status text.now) }
+{
+    match preprocess(alloc, options, text) {
+        Ok(new_text) => convert_read_text(
+            alloc,
+            options_of(options),
+            mode,
+            text_to_read(&new_text, text),
+        ),
+        Err(status) => Err(status),
+    }
+}
+
+// The text in the mode of the value that the text means, and a newline; or the status.
+fn convert_read_text(
+    alloc: Global,
+    options: Options,
+    mode: Mode,
+    text: &[u8],
+) -> Result<Vec<u8>, u32>
+    ensures ok { IfOk result (λ line. ConvertsBy options.key_order options mode text.now line.items
+        × IsUtf8 line.items × IsFixedPointBy options.key_order options mode line.items) }
+    ensures unique { IfOk result (λ line. (other_line : List ℕ)
+        → ConvertsBy options.key_order options mode text.now other_line → other_line ≡ line.items) }
+    ensures accepts { IsAccepted options text.now → IfErr result (λ status. status ≡ 5) }
+    ensures error_status { IfErr result (λ status. IsReadFailure options status text.now) }
+{
+    match convert_text(alloc, options, mode, text) {
+        Ok(line) => Ok(line),
+        Err(fault) => Err(status_of(fault)),
+    }
 }
 
 /// Returns the mode that a number selects.

@@ -1,30 +1,31 @@
 //! Decodes the BSON bytes of a document to text.
 ghost use Rattle.std.specs.Prelude.{◌≡◌, ◌⊎◌, ◌↔◌, ◌<◌, ◌≤◌, ◌++◌, List, ℕ, IfOk, IfErr, IsUtf8, string_bytes, true};
 ghost use Rattle.bson.specs.View.{document_view};
-ghost use Rattle.bson_codec.specs.ReadDocuments.{IsReadAsDocument};
+ghost use Rattle.bson_bytes.specs.ReadDocuments.{IsReadAsDocumentIn};
 ghost use Rattle.bson_model.specs.Displayed.{display_text};
 ghost use Rattle.bson_model.specs.Normal.{writable_in};
 ghost use Rattle.bson_model.specs.Value as model;
 ghost use Rattle.bson_model.specs.Value.{Pairs};
 ghost use Rattle.bson_convert.specs.Convert.{newline};
-ghost use Rattle.vbson.specs.Convert.{options_of_call};
+ghost use Rattle.vbson.specs.Convert.{duplicate_keys_of, options_of_call};
 ghost use Rattle.vbson.specs.Documents.{Decodes, DocumentHasNoText, IsDecoded, IsOneDocument, IsTextOfDocument, IsDecodeFailure};
 ghost use Rattle.vbson.specs.Documents.{PairsHaveNoTextIn, depth};
-ghost use Rattle.vbson.specs.Options.{AreNotForConversion};
+ghost use Rattle.vbson.specs.Options.{AreNotForDecoding};
 
 use crate::convert::mode_of;
-use crate::options::{CallOptions, are_not_for_conversion, options_of};
+use crate::options::{CallOptions, are_not_for_decoding, duplicate_keys_of, options_of};
 use crate::status;
 use crate::streaming::{decode_streaming, streaming_form};
 use crate::text::{Text, append_newline, text_of_line};
 use bson::extjson::{Form, Options, WriteError};
 use bson::{Bson, Document};
-use bson_codec::de::{DEPTH, Error, from_slice};
+use bson_codec::de::{DEPTH, DuplicateKeys, Error, ReadOptions, from_bytes};
 use bson_convert::mode::Mode;
 use std::alloc::Global;
 
 /// Decodes the bytes of one document to its text in a mode, with the modes and the options of
-/// `vbson_convert_nonnull`. The caller frees the block of the text with `free`.
+/// `vbson_convert_nonnull`. Bytes are not Extended JSON v1, so that option has no meaning here and is
+/// rejected. The caller frees the block of the text with `free`.
 #[unsafe(no_mangle)]
 pub extern "C" fn vbson_decode_nonnull(
     alloc: Global,
@@ -33,59 +34,67 @@ pub extern "C" fn vbson_decode_nonnull(
     bytes: &[u8],
     out: &mut Text<'static>,
 ) -> u32
-    ensures success { result ≡ 0 → IsDecoded (options_of_call options.now) mode bytes.now out.new }
-    ensures accepts { (pairs : Pairs) → IsReadAsDocument depth bytes.now pairs
+    ensures success { result ≡ 0 → IsDecoded options.now mode bytes.now out.new }
+    ensures accepts { (pairs : Pairs) → IsReadAsDocumentIn (duplicate_keys_of options.now) depth bytes.now pairs
         → writable_in (options_of_call options.now).doubles (model.document pairs) ≡ true → 1 < result → result ≡ 5 }
 
     // When each other status comes, and that nothing is left then.
-    ensures invalid_argument { result ≡ 1 ↔ (2 < mode) ⊎ AreNotForConversion options.now }
-    ensures no_document { result ≡ 10 → IsOneDocument bytes.now → ⊥ }
-    ensures no_text { result ≡ 7 → DocumentHasNoText (options_of_call options.now) mode bytes.now }
+    ensures invalid_argument { result ≡ 1 ↔ (2 < mode) ⊎ AreNotForDecoding options.now }
+    ensures no_document { result ≡ 10 → IsOneDocument (duplicate_keys_of options.now) bytes.now → ⊥ }
+    ensures no_text { result ≡ 7 → DocumentHasNoText options.now mode bytes.now }
     ensures possible_statuses { (result ≡ 0) ⊎ (result ≡ 1) ⊎ (result ≡ 5) ⊎ (result ≡ 7) ⊎ (result ≡ 10) }
     ensures unchanged { 0 < result → out.new ≡ out.old }
 {
-    if are_not_for_conversion(*options) {
+    if are_not_for_decoding(*options) {
         return status::INVALID_ARGUMENT;
     }
     let Some(mode) = mode_of(mode) else {
         return status::INVALID_ARGUMENT;
     };
-    match decode_document(alloc, options_of(*options), mode, bytes) {
+    let keys = duplicate_keys_of(*options);
+    match decode_document(alloc, keys, options_of(*options), mode, bytes) {
         Ok(line) => *out = text_of_line(line),
         Err(status) => return status,
     }
     status::OK
 }
 
-// The text in the mode of the document that the bytes are, and a newline; or the status.
+// The text in the mode of the document that the bytes are, and a newline; or the status. If duplicate
+// keys are rejected, it needs a document in memory.
 fn decode_document(
     alloc: Global,
+    keys: DuplicateKeys,
     options: Options,
     mode: Mode,
     bytes: &[u8],
 ) -> Result<Vec<u8>, u32>
-    ensures ok { IfOk result (λ line. (text : List ℕ) × Decodes options mode bytes.now text × IsUtf8 text
+    ensures ok { IfOk result (λ line. (text : List ℕ) × Decodes keys options mode bytes.now text × IsUtf8 text
         × (line.items ≡ text ++ newline)) }
-    ensures error_status { IfErr result (λ status. IsDecodeFailure options mode status bytes.now) }
+    ensures error_status { IfErr result (λ status. IsDecodeFailure keys options mode status bytes.now) }
 {
-    match streaming_form(options, mode) {
+    match streaming_form(keys, options, mode) {
         Some(form) => decode_streaming(alloc, options.layout.form(form), bytes),
-        None => decode_by_value(alloc, options, mode, bytes),
+        None => decode_by_value(alloc, keys, options, mode, bytes),
     }
 }
 
 // The text in the mode, through a document in memory.
 fn decode_by_value(
     alloc: Global,
+    keys: DuplicateKeys,
     options: Options,
     mode: Mode,
     bytes: &[u8],
 ) -> Result<Vec<u8>, u32>
-    ensures ok { IfOk result (λ line. (text : List ℕ) × Decodes options mode bytes.now text × IsUtf8 text
+    ensures ok { IfOk result (λ line. (text : List ℕ) × Decodes keys options mode bytes.now text × IsUtf8 text
         × (line.items ≡ text ++ newline)) }
-    ensures error_status { IfErr result (λ status. IsDecodeFailure options mode status bytes.now) }
+    ensures error_status { IfErr result (λ status. IsDecodeFailure keys options mode status bytes.now) }
 {
-    match from_slice(alloc, bytes, DEPTH) {
+    let read_options = ReadOptions {
+        depth: DEPTH,
+        duplicate_keys: keys,
+    };
+    match from_bytes(alloc, read_options, bytes) {
         Ok(document) => write_document(alloc, options, mode, document),
         Err(Error::Malformed { .. }) => Err(status::NOT_A_DOCUMENT),
         Err(Error::OutOfMemory) => Err(status::OUT_OF_MEMORY),

@@ -3,12 +3,11 @@ ghost use Rattle.std.specs.Prelude.{◌≡◌, ◌⊎◌, ◌↔◌, ◌<◌, �
 ghost use Rattle.bson_codec.specs.DumpRuns.{Dump};
 ghost use Rattle.bson_codec.specs.declared.documents.Run.{Run};
 ghost use Rattle.bson_convert.specs.Convert.{newline};
-ghost use Rattle.vbson.specs.Convert.{options_of_call};
 ghost use Rattle.vbson.specs.Dumps.{DocumentsAreDecoded, AddsLastDiagnostic, IsOutputOfDocuments, dump_line_format, dump_run_of_mode};
-ghost use Rattle.vbson.specs.Options.{AreNotForConversion};
+ghost use Rattle.vbson.specs.Options.{AreNotForDecoding};
 
 use crate::convert::mode_of;
-use crate::options::{CallOptions, are_not_for_conversion, options_of};
+use crate::options::{CallOptions, are_not_for_decoding, duplicate_keys_of, options_of};
 use crate::status;
 use crate::text::{Text, append_newline, text_of_line};
 use bson::extjson::{Form, Options};
@@ -32,8 +31,8 @@ pub struct Documents<'a> {
 
 /// Decodes the concatenated documents of the block. Writes the text of each in a mode, in their
 /// order, each on one line, and a diagnostic for each rejected document, with its number and offset.
-/// A document with fewer bytes than its length is the last one. The caller frees the blocks of both
-/// texts with `free`.
+/// A document with fewer bytes than its length is the last one. The options are those of
+/// `vbson_decode_nonnull`. The caller frees the blocks of both texts with `free`.
 #[unsafe(no_mangle)]
 pub extern "C" fn vbson_decode_documents_nonnull(
     alloc: Global,
@@ -42,20 +41,20 @@ pub extern "C" fn vbson_decode_documents_nonnull(
     block: &[u8],
     out: &mut Documents<'static>,
 ) -> u32
-    ensures success { result ≡ 0 → DocumentsAreDecoded (options_of_call options.now) mode block.now out.new }
+    ensures success { result ≡ 0 → DocumentsAreDecoded options.now mode block.now out.new }
 
     // When each other status comes, and that nothing is left then.
-    ensures invalid_argument { result ≡ 1 ↔ (2 < mode) ⊎ AreNotForConversion options.now }
+    ensures invalid_argument { result ≡ 1 ↔ (2 < mode) ⊎ AreNotForDecoding options.now }
     ensures possible_statuses { (result ≡ 0) ⊎ (result ≡ 1) ⊎ (result ≡ 5) }
     ensures unchanged { 0 < result → out.new ≡ out.old }
 {
-    if are_not_for_conversion(*options) {
+    if are_not_for_decoding(*options) {
         return status::INVALID_ARGUMENT;
     }
     let Some(mode) = mode_of(mode) else {
         return status::INVALID_ARGUMENT;
     };
-    let run = dump_run_of_mode(options_of(*options), mode);
+    let run = dump_run_of_mode(duplicate_keys_of(*options), options_of(*options), mode);
     let Some(output) = decode_block(alloc, run, block) else {
         return status::OUT_OF_MEMORY;
     };
@@ -69,12 +68,12 @@ pub extern "C" fn vbson_decode_documents_nonnull(
 }
 
 // Returns the options of the run over the documents.
-fn dump_run_of_mode(options: Options, mode: Mode) -> Run
-    ensures { result ≡ dump_run_of_mode options mode }
+fn dump_run_of_mode(keys: DuplicateKeys, options: Options, mode: Mode) -> Run
+    ensures { result ≡ dump_run_of_mode keys options mode }
 {
     Run {
         depth: DEPTH,
-        duplicate_keys: DuplicateKeys::LastWins,
+        duplicate_keys: keys,
         options,
         line: line_kind_of_mode(mode),
         keep_going: true,

@@ -1,17 +1,18 @@
 //! Encodes the document that a text denotes as BSON bytes.
 ghost use Rattle.std.specs.Prelude.{◌≡◌, ◌⊎◌, ◌↔◌, ◌<◌, ◌≤◌, ◌++◌, List, ℕ, IfOk, IfErr};
-ghost use Rattle.bson.specs.TextMeaning.{IsNotJsonText, TextMeansInKeyOrder};
+ghost use Rattle.bson.specs.TextMeaning.{TextMeansInKeyOrder};
 ghost use Rattle.bson_codec.specs.Canonical.{FitsDocument, too_long, nul_in_key, nul_in_regex};
 ghost use Rattle.bson_model.specs.Value.{Pairs, document};
 ghost use Rattle.bson_convert.specs.Convert.{newline};
-ghost use Rattle.vbson.specs.Convert.{IsInvalidExtendedJson, IsInvalidShape, IsBadObjectId, options_of_call};
 ghost use Rattle.bson_run.specs.Encode.{Encodes};
-ghost use Rattle.vbson.specs.Documents.{IsUnencodableText, IsEncoded, IsEncodeFailure};
-ghost use Rattle.vbson.specs.Documents.{TextIsNotDocumentBy};
-ghost use Rattle.vbson.specs.Options.{AreNotForConversion};
+ghost use Rattle.vbson.specs.Documents.{EncodesUnder, IsDocumentTextUnder, IsEncoded, IsEncodeFailure};
+ghost use Rattle.vbson.specs.Documents.{IsUnencodableText, TextIsNotDocumentUnder};
+ghost use Rattle.vbson.specs.Options.{AreInvalid};
+ghost use Rattle.vbson.specs.Reading.{HasBadObjectIdUnder, IsInvalidUnder, IsNotJsonUnder, IsTextEncodeFailure};
 
 use crate::convert::status_of;
-use crate::options::{CallOptions, are_not_for_conversion, options_of};
+use crate::options::{CallOptions, are_invalid, options_of};
+use crate::reading::{preprocess, text_to_read};
 use crate::status;
 use crate::text::{Text, append_newline, text_of_line};
 use bson::extjson::Options;
@@ -28,33 +29,44 @@ pub extern "C" fn vbson_encode_nonnull(
     text: &[u8],
     out: &mut Text<'static>,
 ) -> u32
-    ensures success { result ≡ 0 → IsEncoded (options_of_call options.now) text.now out.new }
-    ensures accepts { (pairs : Pairs)
-        → TextMeansInKeyOrder (options_of_call options.now).key_order (options_of_call options.now).doubles text.now
-        (document pairs)
-        → FitsDocument pairs → 1 < result → result ≡ 5 }
+    ensures success { result ≡ 0 → IsEncoded options.now text.now out.new }
+    ensures accepts { (pairs : Pairs) → IsDocumentTextUnder options.now pairs text.now → FitsDocument pairs
+        → 1 < result → result ≡ 5 }
 
     // When each other status comes, and that nothing is left then.
-    ensures invalid_argument { result ≡ 1 ↔ AreNotForConversion options.now }
-    ensures not_json { result ≡ 2 → IsNotJsonText text.now }
-    ensures bad_object_id { result ≡ 3 → IsInvalidExtendedJson (options_of_call options.now) IsBadObjectId text.now }
-    ensures not_extended_json { result ≡ 4
-        → IsInvalidExtendedJson (options_of_call options.now) IsInvalidShape text.now }
-    ensures no_document { result ≡ 10 → TextIsNotDocumentBy (options_of_call options.now) text.now }
-    ensures key_has_zero { result ≡ 11 → IsUnencodableText (options_of_call options.now) nul_in_key text.now }
-    ensures regex_has_zero { result ≡ 12 → IsUnencodableText (options_of_call options.now) nul_in_regex text.now }
-    ensures too_long { result ≡ 13 → IsUnencodableText (options_of_call options.now) too_long text.now }
+    ensures invalid_argument { result ≡ 1 ↔ AreInvalid options.now }
+    ensures not_json { result ≡ 2 → IsNotJsonUnder options.now text.now }
+    ensures bad_object_id { result ≡ 3 → HasBadObjectIdUnder options.now text.now }
+    ensures not_extended_json { result ≡ 4 → IsInvalidUnder options.now text.now }
+    ensures no_document { result ≡ 10 → TextIsNotDocumentUnder options.now text.now }
+    ensures key_has_zero { result ≡ 11 → IsUnencodableText options.now nul_in_key text.now }
+    ensures regex_has_zero { result ≡ 12 → IsUnencodableText options.now nul_in_regex text.now }
+    ensures too_long { result ≡ 13 → IsUnencodableText options.now too_long text.now }
     ensures possible_statuses { (result ≤ 5) ⊎ ((10 ≤ result) × (result ≤ 13)) }
     ensures unchanged { 0 < result → out.new ≡ out.old }
 {
-    if are_not_for_conversion(*options) {
+    if are_invalid(*options) {
         return status::INVALID_ARGUMENT;
     }
-    match encode_text(alloc, options_of(*options), text) {
+    match encode_under(alloc, *options, text) {
         Ok(line) => *out = text_of_line(line),
         Err(status) => return status,
     }
     status::OK
+}
+
+// The bytes of the document that the text means under the options, and a newline; or the status.
+fn encode_under(alloc: Global, options: CallOptions, text: &[u8]) -> Result<Vec<u8>, u32>
+    ensures ok { IfOk result (λ line. (bytes : List ℕ) × EncodesUnder options text.now bytes
+        × (line.items ≡ bytes ++ newline)) }
+    ensures accepts { (pairs : Pairs) → IsDocumentTextUnder options pairs text.now → FitsDocument pairs
+        → IfErr result (λ status. status ≡ 5) }
+    ensures error_status { IfErr result (λ status. IsTextEncodeFailure options status text.now) }
+{
+    match preprocess(alloc, options, text) {
+        Ok(new_text) => encode_text(alloc, options_of(options), text_to_read(&new_text, text)),
+        Err(status) => Err(status),
+    }
 }
 
 // The bytes of the document that the text means, and a newline; or the status.

@@ -13,6 +13,7 @@ ghost use Rattle.bson_run.specs.declared.explain.Explanation.TheVariants as expl
 
 use crate::options::{CallOptions, are_invalid, options_of, preprocessing_of};
 use crate::path::path_line;
+use crate::reading::text_to_read;
 use crate::status;
 use crate::text::{Text, text_of_line};
 use bson::extjson::Options;
@@ -94,12 +95,11 @@ fn explain_text(
     ensures too_long { IfErr result (λ error. error ≢ path_error.OutOfMemory → ErrorPathIsTooLong options text.now) }
 {
     match preprocess_text(alloc, preprocessing_of(options), text) {
-        Ok(Some(new_text)) => explain_without_preprocessing(
+        Ok(new_text) => explain_without_preprocessing(
             alloc,
             options_of(options),
-            new_text.as_bytes(),
+            text_to_read(&new_text, text),
         ),
-        Ok(None) => explain_without_preprocessing(alloc, options_of(options), text),
         Err(fault) if fault.is_out_of_memory() => Err(PathError::OutOfMemory),
         Err(fault) => rejection_of_error(alloc, &fault, text),
     }

@@ -5,10 +5,10 @@ ghost use Rattle.bson_convert.specs.declared.mode.Mode.{Mode};
 ghost use Rattle.vbson.specs.Convert.{mode_of_number, options_of_call};
 ghost use Rattle.vbson.specs.Lines.{LinesAreConverted, LinesAreEncoded, IsLinesResult, IsOutputOfLines};
 ghost use Rattle.vbson.specs.Lines.{EachLineIsAccepted, IsFirstRejected, is_rejection, task_of};
-ghost use Rattle.vbson.specs.Options.{AreNotForConversion};
+ghost use Rattle.vbson.specs.Options.{AreInvalid};
 
 use crate::convert::mode_of;
-use crate::options::{CallOptions, are_not_for_conversion, options_of};
+use crate::options::{CallOptions, are_invalid, options_of, preprocessing_of};
 use crate::status;
 use crate::text::{Text, append_newline, text_of_line};
 use bson::extjson::Options;
@@ -40,20 +40,20 @@ pub extern "C" fn vbson_convert_lines_nonnull(
     block: &[u8],
     out: &mut Lines<'static>,
 ) -> u32
-    ensures success { result ≡ 0 → LinesAreConverted (options_of_call options.now) mode block.now out.new }
+    ensures success { result ≡ 0 → LinesAreConverted options.now mode block.now out.new }
 
     // When each other status comes, and that nothing is left then.
-    ensures invalid_argument { result ≡ 1 ↔ (2 < mode) ⊎ AreNotForConversion options.now }
+    ensures invalid_argument { result ≡ 1 ↔ (2 < mode) ⊎ AreInvalid options.now }
     ensures possible_statuses { (result ≡ 0) ⊎ (result ≡ 1) ⊎ (result ≡ 5) }
     ensures unchanged { 0 < result → out.new ≡ out.old }
 {
-    if are_not_for_conversion(*options) {
+    if are_invalid(*options) {
         return status::INVALID_ARGUMENT;
     }
     let Some(mode) = mode_of(mode) else {
         return status::INVALID_ARGUMENT;
     };
-    let task = task_of(Output::Text(mode));
+    let task = task_of(*options, Output::Text(mode));
     let Some(lines) = lines_of(alloc, options_of(*options), task, block) else {
         return status::OUT_OF_MEMORY;
     };
@@ -72,17 +72,17 @@ pub extern "C" fn vbson_encode_lines_nonnull(
     block: &[u8],
     out: &mut Lines<'static>,
 ) -> u32
-    ensures success { result ≡ 0 → LinesAreEncoded (options_of_call options.now) block.now out.new }
+    ensures success { result ≡ 0 → LinesAreEncoded options.now block.now out.new }
 
     // When each other status comes, and that nothing is left then.
-    ensures invalid_argument { result ≡ 1 ↔ AreNotForConversion options.now }
+    ensures invalid_argument { result ≡ 1 ↔ AreInvalid options.now }
     ensures possible_statuses { (result ≡ 0) ⊎ (result ≡ 1) ⊎ (result ≡ 5) }
     ensures unchanged { 0 < result → out.new ≡ out.old }
 {
-    if are_not_for_conversion(*options) {
+    if are_invalid(*options) {
         return status::INVALID_ARGUMENT;
     }
-    let task = task_of(Output::Bytes);
+    let task = task_of(*options, Output::Bytes);
     let Some(encoded_lines) = lines_of(alloc, options_of(*options), task, block) else {
         return status::OUT_OF_MEMORY;
     };
@@ -101,16 +101,16 @@ pub extern "C" fn vbson_first_rejected_line_nonnull(
     number: &mut u64,
 ) -> u32
     ensures rejected { result ≡ 0 → (selected_mode : Mode) → mode_of_number mode ≡ Some selected_mode
-        → IsFirstRejected (options_of_call options.now) (task_of (Output.Text selected_mode)) block.now number.new }
+        → IsFirstRejected (options_of_call options.now) (task_of options.now (Output.Text selected_mode)) block.now number.new }
     ensures accepted { result ≡ 14 → (selected_mode : Mode) → mode_of_number mode ≡ Some selected_mode
-        → EachLineIsAccepted (options_of_call options.now) (task_of (Output.Text selected_mode)) block.now }
+        → EachLineIsAccepted (options_of_call options.now) (task_of options.now (Output.Text selected_mode)) block.now }
 
     // When each other status comes, and that nothing is left then.
-    ensures invalid_argument { result ≡ 1 ↔ (2 < mode) ⊎ AreNotForConversion options.now }
+    ensures invalid_argument { result ≡ 1 ↔ (2 < mode) ⊎ AreInvalid options.now }
     ensures possible_statuses { (result ≡ 0) ⊎ (result ≡ 1) ⊎ (result ≡ 5) ⊎ (result ≡ 14) }
     ensures unchanged { 0 < result → number.new ≡ number.old }
 {
-    if are_not_for_conversion(*options) {
+    if are_invalid(*options) {
         return status::INVALID_ARGUMENT;
     }
     let Some(mode) = mode_of(mode) else {
@@ -119,7 +119,7 @@ pub extern "C" fn vbson_first_rejected_line_nonnull(
     first_rejected(
         alloc,
         options_of(*options),
-        task_of(Output::Text(mode)),
+        task_of(*options, Output::Text(mode)),
         block,
         number,
     )
@@ -134,26 +134,29 @@ pub extern "C" fn vbson_first_unencoded_line_nonnull(
     block: &[u8],
     number: &mut u64,
 ) -> u32
-    ensures rejected { result ≡ 0 → IsFirstRejected (options_of_call options.now) (task_of Output.Bytes) block.now number.new }
-    ensures accepted { result ≡ 14 → EachLineIsAccepted (options_of_call options.now) (task_of Output.Bytes) block.now }
+    ensures rejected { result ≡ 0 → IsFirstRejected (options_of_call options.now) (task_of options.now Output.Bytes) block.now number.new }
+    ensures accepted { result ≡ 14 → EachLineIsAccepted (options_of_call options.now) (task_of options.now Output.Bytes) block.now }
 
     // When each other status comes, and that nothing is left then.
-    ensures invalid_argument { result ≡ 1 ↔ AreNotForConversion options.now }
+    ensures invalid_argument { result ≡ 1 ↔ AreInvalid options.now }
     ensures possible_statuses { (result ≡ 0) ⊎ (result ≡ 1) ⊎ (result ≡ 5) ⊎ (result ≡ 14) }
     ensures unchanged { 0 < result → number.new ≡ number.old }
 {
-    if are_not_for_conversion(*options) {
+    if are_invalid(*options) {
         return status::INVALID_ARGUMENT;
     }
-    let task = task_of(Output::Bytes);
+    let task = task_of(*options, Output::Bytes);
     first_rejected(alloc, options_of(*options), task, block, number)
 }
 
-// Returns the task that writes the output of each line, without preprocessing.
-fn task_of(output: Output) -> Task
-    ensures { result ≡ task_of output }
+// Returns the task that writes the output of each line, with the preprocessing of the options.
+fn task_of(options: CallOptions, output: Output) -> Task
+    ensures { result ≡ task_of options output }
 {
-    Task::new(output)
+    Task {
+        preprocessing: preprocessing_of(options),
+        ..Task::new(output)
+    }
 }
 
 // Returns the result for the lines of the block, or `None` if memory runs out.

@@ -1,8 +1,7 @@
 //! The options of a call, in a struct of the caller.
 ghost use Rattle.std.specs.Prelude.{◌≡◌, ◌↔◌, IsTrue};
-ghost use Rattle.vbson.specs.Convert.{options_of_call, key_order_of, layout_of};
-ghost use Rattle.vbson.specs.Options.{AreInvalid, AreNotForConversion, AreNotForReading};
-ghost use Rattle.vbson.specs.Reading.{duplicate_keys_of, preprocessing_of};
+ghost use Rattle.vbson.specs.Convert.{options_of_call, key_order_of, layout_of, duplicate_keys_of, preprocessing_of};
+ghost use Rattle.vbson.specs.Options.{AreInvalid, AreNotForDecoding, AreNotForReading};
 
 use bson::extjson::{Doubles, KeyOrder, Options};
 use bson_codec::de::DuplicateKeys;
@@ -57,14 +56,12 @@ pub fn are_invalid(options: CallOptions) -> bool
         || options.layout > LAYOUT_MONGODB
 }
 
-/// Returns whether a conversion rejects the options: they are invalid, or they request more than
-/// finite doubles, an order of keys and a layout.
-pub fn are_not_for_conversion(options: CallOptions) -> bool
-    ensures { IsTrue result ↔ AreNotForConversion options }
+/// Returns whether a call that decodes bytes rejects the options: they are invalid, or they request
+/// Extended JSON v1, which bytes do not have.
+pub fn are_not_for_decoding(options: CallOptions) -> bool
+    ensures { IsTrue result ↔ AreNotForDecoding options }
 {
-    are_invalid(options)
-        || options.duplicate_keys == DUPLICATE_KEYS_REJECT
-        || options.v1 == V1_ACCEPT
+    are_invalid(options) || options.v1 == V1_ACCEPT
 }
 
 /// Returns whether a call that only reads values rejects the options: they are invalid, or they

@@ -3,7 +3,9 @@ ghost use Rattle.std.specs.Prelude.{◌≡◌, ◌⊎◌, IfOk, IfErr};
 ghost use Rattle.bson.specs.TextMeaning.{HasTextMeaningIn};
 ghost use Rattle.bson.specs.View.{bson_view};
 ghost use Rattle.bson_model.specs.Value.{Value};
-ghost use Rattle.vbson.specs.Reading.{IsDocumentUnder, IsTextReadFailure, IsReadFailure};
+ghost use Rattle.bson_run.specs.Preprocessed.{IsPreprocessedAs, preprocessed_of};
+ghost use Rattle.vbson.specs.Convert.{preprocessing_of};
+ghost use Rattle.vbson.specs.Reading.{IsDocumentUnder, IsPreprocessingFailure, IsTextReadFailure, IsReadFailure};
 ghost use Rattle.vbson.specs.Reading.{IsDocumentReadFailure, MeansUnder};
 
 use crate::convert::status_of;
@@ -17,6 +19,36 @@ use bson_run::encode::error_of;
 use bson_run::preprocessed::preprocess_text;
 use bson_tokens::laws::one_duplicate_path;
 use std::alloc::Global;
+
+/// Returns the text that the options read instead of a text, or `None` if they read the text itself.
+///
+/// # Errors
+///
+/// - `NOT_EXTENDED_JSON`: the options reject a duplicate key of the text.
+/// - `OUT_OF_MEMORY`: an allocation failed.
+pub fn preprocess(alloc: Global, options: CallOptions, text: &[u8]) -> Result<Option<String>, u32>
+    ensures ok { IfOk result
+        (λ new_text. IsPreprocessedAs (preprocessing_of options) text.now (preprocessed_of text.now new_text)) }
+    ensures rejected { IfErr result (λ status. IsPreprocessingFailure options status text.now) }
+{
+    // A law: no text with a duplicate key has unique keys.
+    one_duplicate_path();
+    match preprocess_text(alloc, preprocessing_of(options), text) {
+        Ok(new_text) => Ok(new_text),
+        Err(fault) if fault.is_out_of_memory() => Err(status::OUT_OF_MEMORY),
+        Err(_) => Err(status::NOT_EXTENDED_JSON),
+    }
+}
+
+/// Returns the text that is read: the new one, or the text itself if there is none.
+pub fn text_to_read<'a>(new_text: &'a Option<String>, text: &'a [u8]) -> &'a [u8]
+    ensures { result.now ≡ preprocessed_of text.now new_text.now }
+{
+    match new_text {
+        Some(new_text) => new_text.as_bytes(),
+        None => text,
+    }
+}
 
 /// Returns the value of a text.
 ///
@@ -34,13 +66,9 @@ pub fn value_of_text(alloc: Global, options: CallOptions, text: &[u8]) -> Result
         → IfOk result (λ read_value. value ≡ bson_view read_value) }
     ensures rejected { IfErr result (λ status. IsTextReadFailure options status text.now) }
 {
-    // A law: no text with a duplicate key has unique keys.
-    one_duplicate_path();
-    match preprocess_text(alloc, preprocessing_of(options), text) {
-        Ok(Some(new_text)) => meaning_of(alloc, options_of(options), new_text.as_bytes()),
-        Ok(None) => meaning_of(alloc, options_of(options), text),
-        Err(fault) if fault.is_out_of_memory() => Err(status::OUT_OF_MEMORY),
-        Err(_) => Err(status::NOT_EXTENDED_JSON),
+    match preprocess(alloc, options, text) {
+        Ok(new_text) => meaning_of(alloc, options_of(options), text_to_read(&new_text, text)),
+        Err(status) => Err(status),
     }
 }
 

@@ -2,20 +2,31 @@
 ghost use Rattle.std.specs.Prelude.{◌≡◌, ◌⊎◌, ◌++◌, List, ℕ, IfOk, IfErr, IsUtf8};
 ghost use Rattle.bson_codec.specs.DocumentText.{IsDocumentTextOf};
 ghost use Rattle.bson_convert.specs.Convert.{newline};
-ghost use Rattle.vbson.specs.Documents.{IsOneDocument, depth, streaming_form};
+ghost use Rattle.bson_model.specs.declared.options.DuplicateKeys.TheVariants.{LastWins};
+ghost use Rattle.vbson.specs.Documents.{IsOneDocument, depth, streaming_form, streaming_form_in_order};
 
 use crate::decode::line_of_text;
 use crate::status;
 use bson::extjson::{Doubles, Form, KeyOrder, Options};
-use bson_codec::de::{DEPTH, Error};
+use bson_codec::de::{DEPTH, DuplicateKeys, Error};
 use bson_codec::text::decode_text;
 use bson_convert::mode::Mode;
 use std::alloc::Global;
 
 /// Returns the form in which the text is written while the bytes are read, or `None` if the text needs a
-/// document in memory. That text has finite doubles, and keys as given.
-pub fn streaming_form(options: Options, mode: Mode) -> Option<Form>
-    ensures { result ≡ streaming_form options mode }
+/// document in memory. That text has finite doubles, and keys as given, and duplicate keys are allowed.
+pub fn streaming_form(keys: DuplicateKeys, options: Options, mode: Mode) -> Option<Form>
+    ensures { result ≡ streaming_form keys options mode }
+{
+    match keys {
+        DuplicateKeys::Reject => None,
+        DuplicateKeys::LastWins => streaming_form_in_order(options, mode),
+    }
+}
+
+// Returns that form, if duplicate keys are allowed.
+fn streaming_form_in_order(options: Options, mode: Mode) -> Option<Form>
+    ensures { result ≡ streaming_form_in_order options.key_order options.doubles mode }
 {
     match options.key_order {
         KeyOrder::Ascending => None,
@@ -41,7 +52,7 @@ pub fn decode_streaming(alloc: Global, form: Form, bytes: &[u8]) -> Result<Vec<u
     ensures ok { IfOk result (λ line. (text : List ℕ) × IsDocumentTextOf form depth bytes.now text × IsUtf8 text
         × (line.items ≡ text ++ newline)) }
     ensures error_status { IfErr result
-        (λ status. (status ≡ 5) ⊎ ((status ≡ 10) × (IsOneDocument bytes.now → ⊥))) }
+        (λ status. (status ≡ 5) ⊎ ((status ≡ 10) × (IsOneDocument LastWins bytes.now → ⊥))) }
 {
     match decode_text(alloc, form, bytes, DEPTH) {
         Ok(text) => line_of_text(text),

@@ -22,14 +22,16 @@ class Options(TypedDict, total=False):
     keep_order              keep the order of keys; False sorts them (True by default)
     reject_duplicate_keys   reject input in which an object or a document has a duplicate key; without it the last value
                             wins, at the position of the first (False by default)
-    v1                  accept Extended JSON v1 too (False by default)
+    v1                      accept Extended JSON v1 too: {"$binary": .., "$type": ..}, {"$regex": .., "$options": ..}, and a
+                            $date with an offset such as +0100 (False by default)
     mongodb_layout          write dates and wrappers as libbson and json_util of PyMongo do: a fraction of a second has
                             three digits, and with keep_order "t" is before "i", "pattern" before "options", and "$ref"
                             before "$id". False writes no zeros at the end of a fraction, and ascending keys in
                             wrappers (True by default)
 
-    A call that only compares, hashes or checks has no order of keys to keep and no layout, and BSON bytes have their doubles
-    and no v1: the option changes nothing there. A call that can't do what an option asks for raises ValueError.
+    A call that only compares, hashes or checks has no order of keys to keep and no layout, and BSON bytes that are compared,
+    hashed or checked have their doubles and no v1: the option changes nothing there. The calls that decode bytes raise
+    ValueError for v1, since bytes are not Extended JSON.
     """
 
     doubles: bool
@@ -55,13 +57,14 @@ def flags_of(options, accepted, ignored=0):
         flags = flags & ~_FLAGS[name] | _FLAGS[name] * value
     wrong = next((name for name, flag in _FLAGS.items() if flags & flag & ~accepted & ~ignored), None)
     if wrong is not None:
-        raise ValueError(f"this call has no option {wrong}; `explain`, `same` and `hash_of` check it")
+        raise ValueError(f"{wrong} has no meaning for BSON bytes")
     return flags & accepted
 
 
-# The flags of the calls that write, of those that only read, and those that change nothing in reading.
-WRITING, READING = DOUBLES | KEEP_ORDER | MONGODB_LAYOUT, DOUBLES | REJECT_DUPLICATE_KEYS | V1
-ONLY_WRITING = KEEP_ORDER | MONGODB_LAYOUT
+# The flags of the calls that only read, those that change nothing in reading, those of the calls that write, and those of the
+# calls that decode bytes.
+READING, ONLY_WRITING = DOUBLES | REJECT_DUPLICATE_KEYS | V1, KEEP_ORDER | MONGODB_LAYOUT
+WRITING, DECODING = READING | ONLY_WRITING, DOUBLES | REJECT_DUPLICATE_KEYS | ONLY_WRITING
 
 
 def mode_of(mode):

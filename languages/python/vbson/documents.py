@@ -2,7 +2,7 @@
 from typing import List, Tuple
 
 from . import _calls, errors
-from ._options import (CANONICAL, DOUBLES, V1, ONLY_WRITING, REJECT_DUPLICATE_KEYS, WRITING, Bytes, Mode, document_bytes, flags_of,
+from ._options import (CANONICAL, DECODING, DOUBLES, ONLY_WRITING, REJECT_DUPLICATE_KEYS, V1, Bytes, Mode, document_bytes, flags_of,
                        mode_of)
 from .errors import Error
 
@@ -85,22 +85,18 @@ def decode(document: Bytes, mode: Mode = CANONICAL, **options: bool) -> str:
     '{"n":5}'
 
     The mode SHOW always has the document's own order of keys. The last value of a duplicate key wins, at the position of
-    the first. Raises NotADocument, MemoryError, and in the two forms NotRepresentable for a finite double other than 0.0
-    without doubles.
+    the first. reject_duplicate_keys rejects bytes if one of their documents has a duplicate key, at any depth. v1 has no
+    meaning for bytes. Raises ValueError for v1, NotADocument, MemoryError, and in the two forms NotRepresentable for a finite
+    double other than 0.0 without doubles.
     """
-    mode, given = mode_of(mode), document_bytes(document)
-    flags = flags_of(options, WRITING | REJECT_DUPLICATE_KEYS, V1)
-    if flags & REJECT_DUPLICATE_KEYS:
-        status, _ = _calls.hash_by(_calls.library.vbson_hash_document, REJECT_DUPLICATE_KEYS, given)
-        expect_documents(status, REJECT_DUPLICATE_KEYS, given)
-    return decoded(mode, flags & WRITING, given)
+    return decoded(mode_of(mode), flags_of(options, DECODING), document_bytes(document))
 
 
 def decoded(mode, flags, given, hidden=0):
     """Returns the text of a document; raises its error, whose path lacks the first keys, which are hidden."""
     status, made = _calls.text_by("decode", mode, flags, given)
     if status == errors.NOT_A_DOCUMENT:
-        error = of_bytes(given)
+        error = of_bytes(given, flags & REJECT_DUPLICATE_KEYS)
         del error.path[:hidden]
         raise error
     if status == errors.NOT_REPRESENTABLE:
@@ -119,7 +115,7 @@ def decode_documents(block: Bytes, mode: Mode = CANONICAL, **options: bool) -> T
     The next document begins where the length of the one before it ends, also if that was rejected. If the block has no
     valid length there, or fewer bytes, that document is the last, and the rest is not read. Raises MemoryError.
     """
-    mode, flags, given = mode_of(mode), flags_of(options, WRITING, V1), document_bytes(block)
+    mode, flags, given = mode_of(mode), flags_of(options, DECODING), document_bytes(block)
     out = _calls.Documents(_calls.empty(), _calls.empty(), 0, 0)
     status, made, diagnostics = _calls.block_by(_calls.library.vbson_decode_documents, out, mode, flags, given, len(given))
     errors.expect_ok(status)
@@ -130,7 +126,7 @@ def decode_documents(block: Bytes, mode: Mode = CANONICAL, **options: bool) -> T
 
 def _error_of(mode, flags, document):
     """Returns the error of a document that has no text in the mode; None if it has one."""
-    if flags & DOUBLES and _calls.library.vbson_is_document(document, len(document)) == errors.OK:
+    if flags & DOUBLES and not flags & REJECT_DUPLICATE_KEYS and _calls.library.vbson_is_document(document, len(document)) == errors.OK:
         return None
     try:
         decoded(mode, flags, document)

@@ -3,10 +3,10 @@ import re
 from typing import Any, Callable, IO, Iterable, List, Optional, Tuple, Union
 
 from . import _calls, documents, errors
-from ._options import CANONICAL, V1, REJECT_DUPLICATE_KEYS, SHOW, WRITING, Given, Mode, flags_of, mode_of, text_bytes
+from ._options import CANONICAL, DOUBLES, ONLY_WRITING, READING, SHOW, WRITING, Given, Mode, flags_of, mode_of, text_bytes
 from ._types import types_of
 from .errors import Error
-from .texts import encode_lines, expect_accepted, writing_flags
+from .texts import encode_lines, expect_accepted
 
 _Hook = Optional[Callable[[dict], Any]]
 
@@ -38,7 +38,7 @@ def loads(text: Given, types: str = "plain", object_hook: _Hook = None, **option
     before its version 4.3, and UUIDs that are not 16 bytes.
     """
     given, kinds = text_bytes(text), types_of(types)
-    flags = writing_flags(options, given)
+    flags = flags_of(options, WRITING)
     # (each value is read under a key, since bson treats a document at the top differently)
     if not (b"~" in given and b'"~"' in given) and not (b"\\" in given and b"\\u" in given):
         # No further key is read as that one, so that a document of one key has in it the value of the whole text.
@@ -113,7 +113,8 @@ def dumps(value: Any, form: Mode = CANONICAL, types: str = "plain", default: Opt
     form = mode_of(form)
     if form == SHOW:
         raise ValueError("a form is CANONICAL, RELAXED, 'canonical' or 'relaxed'")
-    flags = flags_of(options, WRITING, REJECT_DUPLICATE_KEYS | V1)
+    # (a value of Python has no duplicate key, and is not Extended JSON)
+    flags = flags_of(options, DOUBLES | ONLY_WRITING, READING)
     document = types_of(types).document_of(value, default)
     if document[4] == 3:
         made = documents.decoded(form, flags, document[7:-1])

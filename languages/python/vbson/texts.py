@@ -2,8 +2,7 @@
 from typing import List, Tuple
 
 from . import _calls, errors
-from ._options import (CANONICAL, DOUBLES, ONLY_WRITING, READING, REJECT_DUPLICATE_KEYS, WRITING, Given, Mode, flags_of, mode_of,
-                       text_bytes)
+from ._options import CANONICAL, DOUBLES, ONLY_WRITING, READING, WRITING, Given, Mode, flags_of, mode_of, text_bytes
 from .errors import Error
 
 
@@ -47,14 +46,6 @@ def _refused(count, flags, block, first_call, *mode):
     return errors.of_lines(count, block, first_from, lambda line: _error_of_line(flags, line))
 
 
-def writing_flags(options, given):
-    """Returns the flags of a call that writes, after a check for duplicate keys if the options ask for one."""
-    flags = flags_of(options, WRITING | REJECT_DUPLICATE_KEYS)
-    if flags & REJECT_DUPLICATE_KEYS:
-        expect_accepted(_calls.hash_by(_calls.library.vbson_hash, flags & READING, given)[0], flags & READING, given)
-    return flags & WRITING
-
-
 def convert(text: Given, mode: Mode = CANONICAL, **options: bool) -> str:
     """Reads one Extended JSON text, and writes its value in the mode, which is given by its number or its name.
 
@@ -62,6 +53,8 @@ def convert(text: Given, mode: Mode = CANONICAL, **options: bool) -> str:
     '{"b":{"$numberInt":"5"},"a":{"$numberDouble":"12.5"}}'
     >>> convert('{"b": 5, "a": 12.5}', "relaxed", keep_order=False)
     '{"a":12.5,"b":5}'
+    >>> convert('{"$regex": "a", "$options": "i"}', "relaxed", v1=True)
+    '{"$regularExpression":{"pattern":"a","options":"i"}}'
 
     The last value of a duplicate key wins, at the position of the first. The output can denote another value in two cases:
     a NaN of Decimal128 loses its sign and its payload, and in the relaxed form an Int64 that fits is read again as an Int32.
@@ -69,7 +62,7 @@ def convert(text: Given, mode: Mode = CANONICAL, **options: bool) -> str:
     doubles it is rejected. Both layouts denote the same values. Raises NotJson, BadObjectId or NotExtendedJson, and MemoryError.
     """
     given = text_bytes(text)
-    mode, flags = mode_of(mode), writing_flags(options, given)
+    mode, flags = mode_of(mode), flags_of(options, WRITING)
     status, made = _calls.text_by("convert", mode, flags, given)
     expect_accepted(status, flags, given)
     return made
@@ -112,8 +105,7 @@ def same(a: Given, b: Given, **options: bool) -> bool:
     >>> same('{"a": 1, "b": 2.5}', '{"b": 2.50, "a": {"$numberInt": "1"}}')
     True
 
-    v1 accepts Extended JSON v1 too: {"$binary": .., "$type": ..}, {"$regex": .., "$options": ..}, and a $date with an
-    offset such as +0100. Raises the errors of `convert`, for a first.
+    Raises the errors of `convert`, for a first.
     """
     flags, a, b = flags_of(options, READING, ONLY_WRITING), text_bytes(a), text_bytes(b)
     status = _calls.library.vbson_same(flags, a, len(a), b, len(b))
@@ -161,7 +153,7 @@ def encode(text: Given, **options: bool) -> bytes:
     Raises the errors of `convert`, NotADocument if the value is not a document, and NotEncodable if the document has no bytes.
     """
     given = text_bytes(text)
-    flags = writing_flags(options, given)
+    flags = flags_of(options, WRITING)
     status, made = _calls.encoded(flags, given)
     expect_accepted(status, flags, given)
     return made

@@ -1,6 +1,6 @@
 //! Finds the lines of a file whose value an earlier line has, in whatever order of keys: duplicates FILE.jsonl
 use std::collections::HashMap;
-use vbson::{hash, same, LineReader, ReadOptions};
+use vbson::{hash, same, LineReader, Options};
 
 fn main() -> Result<(), Box<dyn std::error::Error>> {
     let path = std::env::args().nth(1).ok_or("duplicates FILE.jsonl")?;
@@ -10,10 +10,10 @@ fn main() -> Result<(), Box<dyn std::error::Error>> {
         let line = line?.to_vec();
         let number = lines.number();
         // Few lines have one hash, and `same` compares them.
-        let earlier = lines_of.entry(hash(ReadOptions::default(), &line)?).or_default();
+        let earlier = lines_of.entry(hash(Options::default(), &line)?).or_default();
         let mut first = None;
         for (it, text) in &*earlier {
-            if first.is_none() && same(ReadOptions::default(), text, &line)? {
+            if first.is_none() && same(Options::default(), text, &line)? {
                 first = Some(*it);
             }
         }

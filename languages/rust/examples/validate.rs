@@ -1,11 +1,10 @@
 //! Checks each line of standard input, and writes what is wrong with it as fields between tabs: validate <FILE.jsonl
-use vbson::{encode, hash, Error, LineReader, Options, ReadOptions};
+use vbson::{encode, Error, LineReader, Options};
 
 /// Returns the number of bytes of a line's document, in which no key is duplicated.
 fn checked(line: &[u8]) -> Result<usize, Error> {
-    let strict = ReadOptions { reject_duplicate_keys: true, ..ReadOptions::default() };
-    hash(strict, line)?;
-    Ok(encode(Options::default(), line)?.len())
+    let strict = Options { reject_duplicate_keys: true, ..Options::default() };
+    Ok(encode(strict, line)?.len())
 }
 
 fn main() -> Result<(), Error> {

@@ -179,6 +179,7 @@ fn wants_processor() {
 fn expect_ok(status: u32) -> Result<(), ErrorKind> {
     match status {
         OK => Ok(()),
+        INVALID_ARGUMENT => Err(ErrorKind::InvalidArgument),
         NOT_JSON => Err(ErrorKind::NotJson),
         BAD_OBJECT_ID => Err(ErrorKind::BadObjectId),
         NOT_EXTENDED_JSON => Err(ErrorKind::NotExtendedJson),
@@ -189,9 +190,9 @@ fn expect_ok(status: u32) -> Result<(), ErrorKind> {
         ZERO_IN_KEY => Err(ErrorKind::ZeroInKey),
         ZERO_IN_REGEX => Err(ErrorKind::ZeroInRegex),
         TOO_LONG => Err(ErrorKind::TooLong),
-        // `Mode`, `Options` and `ReadOptions` have no other number, `MAX_LENGTH` is enough, and `answered` looks for DIFFERENT
-        // and NOT_CANONICAL. The calls on raw documents look for the last two.
-        INVALID_ARGUMENT | BUFFER_TOO_SMALL | DIFFERENT | NOT_CANONICAL | NOT_FOUND | UNEXPECTED_TYPE => unreachable!(),
+        // `MAX_LENGTH` is enough, and `answered` looks for DIFFERENT and NOT_CANONICAL. The calls on raw documents look for the
+        // last two.
+        BUFFER_TOO_SMALL | DIFFERENT | NOT_CANONICAL | NOT_FOUND | UNEXPECTED_TYPE => unreachable!(),
         other => unreachable!("status {other}"),
     }
 }
@@ -204,6 +205,7 @@ pub fn kind_of(status: u32) -> Option<ErrorKind> {
 /// The status of a kind of error, except of input and output.
 pub fn status_of(kind: ErrorKind) -> Option<u32> {
     Some(match kind {
+        ErrorKind::InvalidArgument => INVALID_ARGUMENT,
         ErrorKind::NotJson => NOT_JSON,
         ErrorKind::BadObjectId => BAD_OBJECT_ID,
         ErrorKind::NotExtendedJson => NOT_EXTENDED_JSON,

@@ -1,8 +1,8 @@
 //! BSON documents (BSON 1.1, bsonspec.org).
 use crate::block::Block;
-use crate::explain::{of_document, of_double, of_texts};
+use crate::explain::{of_document, of_double, of_options, of_texts};
 use crate::text::owned;
-use crate::{call, Error, ErrorKind, Mode, Options, ReadOptions, Text};
+use crate::{call, Error, ErrorKind, Mode, Options, Text};
 use std::fmt;
 use std::ops::Deref;
 
@@ -47,8 +47,8 @@ pub fn explain_document(bytes: &[u8]) -> Option<Error> {
 /// - `NotADocument`, with the offset of the error and the path to it, if `a` is not a document, or `b` is not one. If
 ///   `reject_duplicate_keys` is on, also if a document has a duplicate key, at any depth.
 /// - `OutOfMemory` if an allocation fails.
-pub fn same_documents(options: ReadOptions, a: &[u8], b: &[u8]) -> Result<bool, Error> {
-    call::same_documents(options.raw(), a, b).map_err(|kind| rejected(kind, options, &[a, b]))
+pub fn same_documents(options: Options, a: &[u8], b: &[u8]) -> Result<bool, Error> {
+    call::same_documents(options.raw_for_reading(), a, b).map_err(|kind| rejected(kind, options, &[a, b]))
 }
 
 /// Computes the hash of a document. It is the hash that [`hash`](crate::hash) returns for Extended JSON with the same
@@ -59,15 +59,15 @@ pub fn same_documents(options: ReadOptions, a: &[u8], b: &[u8]) -> Result<bool, 
 /// - `NotADocument`, with the offset of the error and the path to it, if the bytes are not a document. If
 ///   `reject_duplicate_keys` is on, also if the document has a duplicate key, at any depth.
 /// - `OutOfMemory` if an allocation fails.
-pub fn hash_document(options: ReadOptions, bytes: &[u8]) -> Result<u64, Error> {
-    call::hash_document(options.raw(), bytes).map_err(|kind| rejected(kind, options, &[bytes]))
+pub fn hash_document(options: Options, bytes: &[u8]) -> Result<u64, Error> {
+    call::hash_document(options.raw_for_reading(), bytes).map_err(|kind| rejected(kind, options, &[bytes]))
 }
 
 /// The error of the first rejected document.
-fn rejected(kind: ErrorKind, options: ReadOptions, documents: &[&[u8]]) -> Error {
-    let is_rejected = |it: &&&[u8]| call::hash_document(options.raw(), it) == Err(ErrorKind::NotADocument);
+fn rejected(kind: ErrorKind, options: Options, documents: &[&[u8]]) -> Error {
+    let is_rejected = |it: &&&[u8]| call::hash_document(options.raw_for_reading(), it) == Err(ErrorKind::NotADocument);
     match documents.iter().find(is_rejected) {
-        Some(it) if kind == ErrorKind::NotADocument => of_document(options.raw(), it).unwrap_or_else(|| kind.into()),
+        Some(it) if kind == ErrorKind::NotADocument => of_document(options.raw_for_reading(), it).unwrap_or_else(|| kind.into()),
         _ => kind.into(),
     }
 }
@@ -79,15 +79,17 @@ fn rejected(kind: ErrorKind, options: ReadOptions, documents: &[&[u8]]) -> Error
 ///
 /// # Errors
 ///
-/// - `NotADocument`, with the offset of the error and the path to it, if the bytes are not a document.
+/// - `InvalidArgument` if `v1` is on, which has no meaning for bytes.
+/// - `NotADocument`, with the offset of the error and the path to it, if the bytes are not a document. If
+///   `reject_duplicate_keys` is on, also if the document has a duplicate key, at any depth.
 /// - `NotRepresentable` in the two forms, with the path to the value, if the document has a finite double other than 0.0,
 ///   and `doubles` is off.
 /// - `OutOfMemory` if an allocation fails.
 pub fn decode(mode: Mode, options: Options, bytes: &[u8]) -> Result<Text, Error> {
     call::decode(mode as u32, options.raw(), bytes).map(owned).map_err(|kind| match kind {
-        ErrorKind::NotADocument => of_document(call::RawOptions::INIT, bytes).unwrap_or_else(|| kind.into()),
+        ErrorKind::NotADocument => of_document(options.raw_for_reading(), bytes).unwrap_or_else(|| kind.into()),
         ErrorKind::NotRepresentable => of_double(bytes),
-        _ => kind.into(),
+        _ => of_options(kind),
     })
 }
 
@@ -98,7 +100,8 @@ pub fn decode(mode: Mode, options: Options, bytes: &[u8]) -> Result<Text, Error>
 ///
 /// - `NotJson`, with line, column and offset, if the input is not UTF-8, is not one JSON text, or nests deeper than 127.
 /// - `BadObjectId`, with the path, if the first error is an invalid object id.
-/// - `NotExtendedJson`, with the path, if the first error is any other, or a finite double while `doubles` is off.
+/// - `NotExtendedJson`, with the path, if the first error is any other, a finite double while `doubles` is off, or a duplicate
+///   key while `reject_duplicate_keys` is on.
 /// - `NotADocument` if the value is not a document.
 /// - `ZeroInKey` if a key contains a 0 byte.
 /// - `ZeroInRegex` if a regular expression contains a 0 byte.

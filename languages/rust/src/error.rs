@@ -8,6 +8,8 @@ use std::{fmt, io};
 #[derive(Clone, Copy, Debug, PartialEq, Eq, Hash)]
 #[non_exhaustive]
 pub enum ErrorKind {
+    /// An option has no meaning for the call: `v1` for the bytes of a document.
+    InvalidArgument,
     /// The input is not UTF-8, is not one JSON text, or nests deeper than 127.
     NotJson,
     /// The first error is an invalid object id.
@@ -46,6 +48,7 @@ impl ErrorKind {
 
     pub(crate) fn words(self) -> &'static str {
         match self {
+            ErrorKind::InvalidArgument => "invalid argument",
             ErrorKind::NotJson => "not JSON",
             ErrorKind::BadObjectId => "bad object id",
             ErrorKind::NotExtendedJson => "not Extended JSON",

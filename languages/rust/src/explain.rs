@@ -22,6 +22,14 @@ pub(crate) fn of_texts(kind: ErrorKind, options: RawOptions, texts: &[&[u8]]) ->
     }
 }
 
+/// The error of a call that decodes bytes: that of its options, or one without more words.
+pub(crate) fn of_options(kind: ErrorKind) -> Error {
+    match kind {
+        ErrorKind::InvalidArgument => Error::at_path(kind, Path::default(), "v1 has no meaning for BSON bytes"),
+        _ => kind.into(),
+    }
+}
+
 /// The error of a text, or `None` if the text is accepted.
 fn of_text(options: RawOptions, text: &[u8]) -> Result<Option<Error>, ErrorKind> {
     let found = call::explain(options, text)?;

@@ -54,7 +54,7 @@ pub use scalar::{DateTime, Decimal128, ObjectId, Timestamp};
 #[cfg(feature = "serde")]
 pub use ser::to_document;
 pub use stream::{DumpReader, DumpWriter, LineReader, LineWriter};
-pub use text::{convert, convert_with, explain, hash, is_canonical_text, same, Mode, Options, ReadOptions, Text};
+pub use text::{convert, convert_with, explain, hash, is_canonical_text, same, Mode, Options, Text};
 
 /// Returns the version of the library that is linked, for example (0, 3, 0).
 pub fn version() -> (u32, u32, u32) {

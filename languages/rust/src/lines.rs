@@ -1,6 +1,6 @@
 //! Blocks of Extended JSON lines, and of concatenated documents.
 use crate::block::Block;
-use crate::explain::{of_documents, of_lines, RefusedDocument};
+use crate::explain::{of_documents, of_lines, of_options, RefusedDocument};
 use crate::text::owned;
 use crate::{call, convert_with, decode, encode, is_document, Bytes, Error, Mode, Options, Text};
 
@@ -75,12 +75,13 @@ pub struct Documents {
 ///
 /// # Errors
 ///
+/// - `InvalidArgument` if `v1` is on, which has no meaning for bytes.
 /// - `OutOfMemory` if an allocation fails. A rejected document is not an error of the call.
 pub fn decode_documents(mode: Mode, options: Options, block: &[u8]) -> Result<Documents, Error> {
-    let raw = call::decode_documents(mode as u32, options.raw(), block)?;
+    let raw = call::decode_documents(mode as u32, options.raw(), block).map_err(of_options)?;
     let (text, diagnostics) = (owned(raw.text), Block::of(raw.diagnostics));
     // (a check takes less time than the output)
-    let is_accepted = |it: &[u8]| options.doubles && is_document(it);
+    let is_accepted = |it: &[u8]| options.doubles && !options.reject_duplicate_keys && is_document(it);
     let error_of = |it: &[u8]| if is_accepted(it) { None } else { decode(mode, options, it).err() };
     let count = if diagnostics.is_empty() { 0 } else { raw.documents };
     let refused = of_documents(count, block, error_of)?;

@@ -44,7 +44,7 @@ impl fmt::Debug for Text {
 }
 
 /// What is accepted and written. The default is what MongoDB's data need: finite doubles, the order of keys, and the layout of
-/// libbson and PyMongo.
+/// libbson and PyMongo. In a call that only compares, hashes or checks, the order of keys and the layout change nothing.
 ///
 /// ```
 /// use vbson::{convert, convert_with, Mode, Options};
@@ -57,6 +57,11 @@ impl fmt::Debug for Text {
 /// assert_eq!(&*convert(Mode::Relaxed, date)?, r#"{"$date":"1970-01-01T00:00:00.500Z"}"#);
 /// let specified = Options { mongodb_layout: false, ..Options::default() };
 /// assert_eq!(&*convert_with(Mode::Relaxed, specified, date)?, r#"{"$date":"1970-01-01T00:00:00.5Z"}"#);
+/// let v1 = Options { v1: true, ..Options::default() };
+/// let binary = convert_with(Mode::Relaxed, v1, br#"{"$binary": "AQI=", "$type": "00"}"#)?;
+/// assert_eq!(&*binary, r#"{"$binary":{"base64":"AQI=","subType":"00"}}"#);
+/// let strict = Options { reject_duplicate_keys: true, ..Options::default() };
+/// assert!(convert_with(Mode::Relaxed, strict, br#"{"a": 1, "a": 2}"#).is_err());
 /// # Ok::<(), vbson::Error>(())
 /// ```
 #[derive(Clone, Copy, Debug, PartialEq, Eq)]
@@ -67,6 +72,11 @@ pub struct Options {
     /// Preserves the order of the keys in the input or the document; without it keys are sorted. The last value of a
     /// duplicate key wins, at the position of the first.
     pub keep_order: bool,
+    /// Rejects input in which an object or a document has a duplicate key, at any depth.
+    pub reject_duplicate_keys: bool,
+    /// Accepts Extended JSON v1 too: `{"$binary": .., "$type": ..}`, `{"$regex": .., "$options": ..}`, and a
+    /// `$date` with an offset such as `+0100`. Bytes are not Extended JSON: the calls that decode them reject the option.
+    pub v1: bool,
     /// Lays out the two forms as libbson and `json_util` of PyMongo do. A fraction of a second has three digits. With
     /// `keep_order`, `t` is before `i`, `pattern` before `options`, and `$ref` before `$id` in their wrappers. Without it a
     /// fraction has no zeros at its end, and the keys of a wrapper ascend. Both layouts denote the same values.
@@ -76,50 +86,25 @@ pub struct Options {
 impl Default for Options {
     /// Returns the options with finite doubles, the order of keys, and MongoDB's layout.
     fn default() -> Options {
-        Options { doubles: true, keep_order: true, mongodb_layout: true }
+        Options { doubles: true, keep_order: true, mongodb_layout: true, ..Options::SPECIFIED }
     }
 }
 
 impl Options {
     /// The defaults of the specification and of the C library: no finite doubles, sorted keys, and the specified layout.
-    pub const SPECIFIED: Options = Options { doubles: false, keep_order: false, mongodb_layout: false };
+    pub const SPECIFIED: Options =
+        Options { doubles: false, keep_order: false, reject_duplicate_keys: false, v1: false, mongodb_layout: false };
 
     pub(crate) fn raw(self) -> RawOptions {
         RawOptions {
-            doubles: if self.doubles { call::DOUBLES_FINITE } else { 0 },
             key_order: if self.keep_order { call::KEYS_AS_GIVEN } else { 0 },
             layout: if self.mongodb_layout { call::LAYOUT_MONGODB } else { 0 },
-            ..RawOptions::INIT
+            ..self.raw_for_reading()
         }
     }
-}
 
-/// What [`same`], [`hash`], [`same_documents`](crate::same_documents) and [`hash_document`](crate::hash_document) accept or
-/// reject. The default accepts finite doubles and duplicate keys.
-#[derive(Clone, Copy, Debug, PartialEq, Eq)]
-pub struct ReadOptions {
-    /// Accepts finite doubles, as [`Options::doubles`] does. The bytes of a document may always have them.
-    pub doubles: bool,
-    /// Rejects input in which an object or a document has a duplicate key, at any depth. Without it the last value of a
-    /// duplicate key wins.
-    pub reject_duplicate_keys: bool,
-    /// Accepts Extended JSON v1 too: `{"$binary": .., "$type": ..}`, `{"$regex": .., "$options": ..}`, and a
-    /// `$date` with an offset such as `+0100`. It changes nothing for the bytes of a document.
-    pub v1: bool,
-}
-
-impl Default for ReadOptions {
-    /// Returns the options with finite doubles alone.
-    fn default() -> ReadOptions {
-        ReadOptions { doubles: true, ..ReadOptions::SPECIFIED }
-    }
-}
-
-impl ReadOptions {
-    /// The defaults of the specification and of the C library: no finite doubles.
-    pub const SPECIFIED: ReadOptions = ReadOptions { doubles: false, reject_duplicate_keys: false, v1: false };
-
-    pub(crate) fn raw(self) -> RawOptions {
+    /// Those of a call that writes nothing, in which the order of keys and the layout change nothing.
+    pub(crate) fn raw_for_reading(self) -> RawOptions {
         RawOptions {
             doubles: if self.doubles { call::DOUBLES_FINITE } else { 0 },
             duplicate_keys: if self.reject_duplicate_keys { call::DUPLICATE_KEYS_REJECT } else { 0 },
@@ -150,7 +135,8 @@ pub fn convert(mode: Mode, text: &[u8]) -> Result<Text, Error> {
 ///
 /// - `NotJson`, with line, column and offset, if the input is not UTF-8, is not one JSON text, or nests deeper than 127.
 /// - `BadObjectId`, with the path, if the first error is an invalid object id.
-/// - `NotExtendedJson`, with the path, if the first error is any other, or a number such as 1.5 or 0.0 while `doubles` is off.
+/// - `NotExtendedJson`, with the path, if the first error is any other, a number such as 1.5 or 0.0 while `doubles` is off, or a
+///   duplicate key while `reject_duplicate_keys` is on.
 /// - `OutOfMemory` if an allocation fails.
 pub fn convert_with(mode: Mode, options: Options, text: &[u8]) -> Result<Text, Error> {
     let made = call::convert(mode as u32, options.raw(), text);
@@ -165,8 +151,8 @@ pub fn explain(options: Options, text: &[u8]) -> Option<Error> {
 /// Compares the values of two inputs. The order of the keys of documents doesn't matter.
 ///
 /// ```
-/// use vbson::{same, ReadOptions};
-/// assert!(same(ReadOptions::default(), br#"{"a": 1, "b": 2.5}"#, br#"{"b": 2.50, "a": {"$numberInt": "1"}}"#)?);
+/// use vbson::{same, Options};
+/// assert!(same(Options::default(), br#"{"a": 1, "b": 2.5}"#, br#"{"b": 2.50, "a": {"$numberInt": "1"}}"#)?);
 /// # Ok::<(), vbson::Error>(())
 /// ```
 ///
@@ -178,8 +164,8 @@ pub fn explain(options: Options, text: &[u8]) -> Option<Error> {
 /// - `BadObjectId`, with the path, if the first error is an invalid object id.
 /// - `NotExtendedJson`, with the path, if the first error is any other, or a duplicate key while `reject_duplicate_keys` is on.
 /// - `OutOfMemory` if an allocation fails.
-pub fn same(options: ReadOptions, a: &[u8], b: &[u8]) -> Result<bool, Error> {
-    call::same(options.raw(), a, b).map_err(|kind| of_texts(kind, options.raw(), &[a, b]))
+pub fn same(options: Options, a: &[u8], b: &[u8]) -> Result<bool, Error> {
+    call::same(options.raw_for_reading(), a, b).map_err(|kind| of_texts(kind, options.raw(), &[a, b]))
 }
 
 /// Returns whether the input is canonical: byte for byte the canonical form of its value, with keys in ascending order at
@@ -187,16 +173,16 @@ pub fn same(options: ReadOptions, a: &[u8], b: &[u8]) -> Result<bool, Error> {
 /// compared in place of its value. The options other than `doubles` change nothing.
 ///
 /// ```
-/// use vbson::{is_canonical_text, ReadOptions};
-/// assert!(is_canonical_text(ReadOptions::default(), br#"{"n":{"$numberInt":"5"}}"#)?);
-/// assert!(!is_canonical_text(ReadOptions::default(), br#"{"n": 5}"#)?);
+/// use vbson::{is_canonical_text, Options};
+/// assert!(is_canonical_text(Options::default(), br#"{"n":{"$numberInt":"5"}}"#)?);
+/// assert!(!is_canonical_text(Options::default(), br#"{"n": 5}"#)?);
 /// # Ok::<(), vbson::Error>(())
 /// ```
 ///
 /// # Errors
 ///
 /// - `OutOfMemory` if an allocation fails.
-pub fn is_canonical_text(options: ReadOptions, text: &[u8]) -> Result<bool, Error> {
+pub fn is_canonical_text(options: Options, text: &[u8]) -> Result<bool, Error> {
     let raw = RawOptions { doubles: options.raw().doubles, ..RawOptions::INIT };
     Ok(call::is_canonical_text(raw, text)?)
 }
@@ -209,8 +195,8 @@ pub fn is_canonical_text(options: ReadOptions, text: &[u8]) -> Result<bool, Erro
 /// - `BadObjectId`, with the path, if the first error is an invalid object id.
 /// - `NotExtendedJson`, with the path, if the first error is any other, or a duplicate key while `reject_duplicate_keys` is on.
 /// - `OutOfMemory` if an allocation fails.
-pub fn hash(options: ReadOptions, text: &[u8]) -> Result<u64, Error> {
-    call::hash(options.raw(), text).map_err(|kind| of_texts(kind, options.raw(), &[text]))
+pub fn hash(options: Options, text: &[u8]) -> Result<u64, Error> {
+    call::hash(options.raw_for_reading(), text).map_err(|kind| of_texts(kind, options.raw(), &[text]))
 }
 
 pub(crate) fn owned(raw: call::RawText) -> Text {

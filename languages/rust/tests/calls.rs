@@ -1,7 +1,7 @@
 //! Each call of the wrapper, and each error.
 use std::thread;
 use vbson::{convert, convert_lines, convert_with, decode, encode, explain, explain_document, hash, is_document, same, version};
-use vbson::{decode_documents, encode_lines, hash_document, is_canonical_text, same_documents, ReadOptions};
+use vbson::{decode_documents, encode_lines, hash_document, is_canonical_text, same_documents};
 use vbson::{Bson, DateTime, Decimal128, Error, ErrorKind, Mode, ObjectId, Options, PathElement, RawDocument, RawDocumentBuf, Text, Timestamp};
 
 #[test]
@@ -17,7 +17,7 @@ fn texts_are_converted() {
 #[test]
 fn finite_doubles_are_an_option() {
     let (text, doubles) = (br#"{"b":1.5,"a":1e2}"#, Options { doubles: true, ..Options::SPECIFIED });
-    assert_eq!((Options::default(), ReadOptions::default()), (Options { doubles: true, keep_order: true, mongodb_layout: true }, ReadOptions { doubles: true, ..ReadOptions::SPECIFIED }));
+    assert_eq!(Options::default(), Options { doubles: true, keep_order: true, mongodb_layout: true, ..Options::SPECIFIED });
     assert_eq!(&*convert(Mode::Relaxed, text).unwrap(), r#"{"b":1.5,"a":100.0}"#);
     let canonical = r#"{"a":{"$numberDouble":"100.0"},"b":{"$numberDouble":"1.5"}}"#;
     for (mode, wanted) in [(Mode::Canonical, canonical), (Mode::Relaxed, r#"{"a":100.0,"b":1.5}"#)] {
@@ -68,13 +68,13 @@ fn the_layout_is_an_option() {
         assert_eq!(explain(options, b"["), explain(Options::SPECIFIED, b"["));
     }
     assert_eq!(&*convert(Mode::Relaxed, date.as_bytes()).unwrap(), relaxed);
-    assert_eq!(same(ReadOptions::default(), relaxed.as_bytes(), other.as_bytes()), Ok(true));
+    assert_eq!(same(Options::default(), relaxed.as_bytes(), other.as_bytes()), Ok(true));
     assert_eq!(&*encode(mongodb, relaxed.as_bytes()).unwrap(), &*encode(specified, relaxed.as_bytes()).unwrap());
 }
 
 #[test]
 fn canonical_texts_are_told() {
-    let (doubles, specified) = (ReadOptions::default(), ReadOptions { v1: true, ..ReadOptions::SPECIFIED });
+    let (doubles, specified) = (Options::default(), Options { v1: true, ..Options::SPECIFIED });
     for text in [r#"{"a":{"$numberDouble":"1.5"},"b":[true]}"#, r#"{"a":1,"a":2}"#, r#"{"b":1,"a":{"$numberInt":"2"}}"#, "null ", "[1.5]", "", "{"] {
         for options in [doubles, specified] {
             let writes = Options { doubles: options.doubles, ..Options::SPECIFIED };
@@ -95,8 +95,8 @@ fn faults_are_told() {
     assert_eq!(kind(convert(Mode::Canonical, b"\"\xff\"")), Some(ErrorKind::NotJson));
     assert_eq!(kind(convert_with(Mode::Canonical, Options::SPECIFIED, b"1.5")), Some(ErrorKind::NotExtendedJson));
     assert_eq!(kind(convert(Mode::Relaxed, br#"{"$oid":"zz"}"#)), Some(ErrorKind::BadObjectId));
-    assert_eq!(kind(same(ReadOptions::SPECIFIED, b"1", b"{")), Some(ErrorKind::NotJson));
-    assert_eq!(kind(hash(ReadOptions::SPECIFIED, b"1.5")), Some(ErrorKind::NotExtendedJson));
+    assert_eq!(kind(same(Options::SPECIFIED, b"1", b"{")), Some(ErrorKind::NotJson));
+    assert_eq!(kind(hash(Options::SPECIFIED, b"1.5")), Some(ErrorKind::NotExtendedJson));
     assert_eq!(kind("1.2.3".parse::<Decimal128>()), Some(ErrorKind::InvalidString));
     assert_eq!(kind("53e3".parse::<ObjectId>()), Some(ErrorKind::InvalidString));
     assert_eq!(kind("2020".parse::<DateTime>()), Some(ErrorKind::InvalidString));
@@ -123,8 +123,8 @@ fn places_of_texts_that_are_not_json_are_told() {
         assert_eq!((error.to_string(), error.path().len()), (format!("not JSON at column {column} ({why})"), 0));
         assert_eq!(error.message(), error.to_string());
         assert_eq!(explain(Options::default(), text.as_bytes()).as_ref(), Some(&error));
-        assert_eq!(same(ReadOptions::SPECIFIED, b"1", text.as_bytes()).as_ref(), Err(&error));
-        assert_eq!(hash(ReadOptions::SPECIFIED, text.as_bytes()).as_ref(), Err(&error));
+        assert_eq!(same(Options::SPECIFIED, b"1", text.as_bytes()).as_ref(), Err(&error));
+        assert_eq!(hash(Options::SPECIFIED, text.as_bytes()).as_ref(), Err(&error));
     }
 }
 
@@ -149,8 +149,8 @@ fn places_are_told() {
         assert_eq!((error.to_string(), &error.path()[..], error.reason()), (words, &path[..], why));
         assert_eq!((error.line(), error.column(), error.offset()), (None, None, None));
         assert_eq!(explain(Options::SPECIFIED, text.as_bytes()).as_ref(), Some(&error));
-        assert_eq!(same(ReadOptions::SPECIFIED, b"1", text.as_bytes()).as_ref(), Err(&error));
-        assert_eq!(hash(ReadOptions::SPECIFIED, text.as_bytes()).as_ref(), Err(&error));
+        assert_eq!(same(Options::SPECIFIED, b"1", text.as_bytes()).as_ref(), Err(&error));
+        assert_eq!(hash(Options::SPECIFIED, text.as_bytes()).as_ref(), Err(&error));
     }
     let error = "53e3".parse::<ObjectId>().unwrap_err();
     assert_eq!((error.to_string().as_str(), error.path().len(), error.reason()), ("invalid string", 0, "invalid string"));
@@ -160,6 +160,7 @@ fn places_are_told() {
 fn each_kind_has_the_number_of_c() {
     let kinds = [ErrorKind::NotJson, ErrorKind::BadObjectId, ErrorKind::NotExtendedJson, ErrorKind::OutOfMemory, ErrorKind::InvalidString, ErrorKind::NotRepresentable];
     assert_eq!(kinds.map(|it| it.code().unwrap()), [2, 3, 4, 5, 6, 7]);
+    assert_eq!(ErrorKind::InvalidArgument.code(), Some(1));
     let kinds = [ErrorKind::NotADocument, ErrorKind::ZeroInKey, ErrorKind::ZeroInRegex, ErrorKind::TooLong, ErrorKind::UnexpectedType];
     assert_eq!(kinds.map(|it| it.code().unwrap()), [10, 11, 12, 13, 15]);
     assert_eq!(ErrorKind::Io.code(), None);
@@ -189,7 +190,7 @@ fn places_of_damaged_bytes_are_told() {
 #[test]
 fn texts_are_compared_by_meaning() {
     let (one, other) = (br#"{"a":1,"b":2}"#, br#"{"b":2,"a":{"$numberInt":"1"}}"#);
-    let options = ReadOptions::SPECIFIED;
+    let options = Options::SPECIFIED;
     assert_eq!(same(options, one, other), Ok(true));
     assert_eq!(hash(options, one), hash(options, other));
     assert_eq!(same(options, one, b"{}"), Ok(false));
@@ -198,21 +199,21 @@ fn texts_are_compared_by_meaning() {
 
 #[test]
 fn what_is_compared_has_options() {
-    let default = ReadOptions::SPECIFIED;
-    let doubles = ReadOptions { doubles: true, ..default };
+    let default = Options::SPECIFIED;
+    let doubles = Options { doubles: true, ..default };
     let (one, other) = (br#"{"price":1.5,"a":1}"#, br#"{"a":1,"price":{"$numberDouble":"1.50"}}"#);
     assert_eq!(same(doubles, one, other), Ok(true));
     assert_eq!(hash(doubles, one), hash(doubles, other));
     assert_eq!(same(doubles, b"1.5", b"2.5"), Ok(false));
     assert_eq!(kind(same(default, one, other)), Some(ErrorKind::NotExtendedJson));
-    let strict = ReadOptions { reject_duplicate_keys: true, ..doubles };
+    let strict = Options { reject_duplicate_keys: true, ..doubles };
     let twice = br#"{"a":[{"b":1,"b":2}]}"#;
     let error = same(strict, b"1", twice).unwrap_err();
     assert_eq!((error.kind(), error.reason()), (ErrorKind::NotExtendedJson, "duplicate key"));
     assert_eq!(error.path()[..], ["a".into(), 0.into(), "b".into()]);
     assert_eq!(hash(strict, twice), Err(error));
     assert_eq!(same(default, twice, br#"{"a":[{"b":2}]}"#), Ok(true));
-    let reads_v1 = ReadOptions { v1: true, ..default };
+    let reads_v1 = Options { v1: true, ..default };
     let (v1, v2) = (br#"{"$binary":"AQI=","$type":"00"}"#, br#"{"$binary":{"base64":"AQI=","subType":"00"}}"#);
     assert_eq!(same(reads_v1, v1, v2), Ok(true));
     assert_eq!(hash(reads_v1, v1), hash(default, v2));
@@ -220,14 +221,56 @@ fn what_is_compared_has_options() {
 }
 
 #[test]
+fn duplicate_keys_are_an_option() {
+    let strict = Options { reject_duplicate_keys: true, ..Options::default() };
+    let twice = br#"{"a":[{"b":1,"b":2}]}"#;
+    let error = convert_with(Mode::Relaxed, strict, twice).unwrap_err();
+    assert_eq!((error.kind(), error.reason()), (ErrorKind::NotExtendedJson, "duplicate key"));
+    assert_eq!(error.path()[..], ["a".into(), 0.into(), "b".into()]);
+    assert_eq!((encode(strict, twice).as_deref(), explain(strict, twice)), (Err(&error), Some(error.clone())));
+    assert_eq!(&*convert_with(Mode::Relaxed, strict, br#"{"b":{"a":1.5},"a":2}"#).unwrap(), r#"{"b":{"a":1.5},"a":2}"#);
+    let block = [&b"{\n"[..], twice, b"\n{}\n"].concat();
+    let (lines, documents) = (convert_lines(Mode::Relaxed, strict, &block).unwrap(), encode_lines(strict, &block).unwrap());
+    assert_eq!((&*lines.text, &*documents.bytes), ("{}\n", &[5, 0, 0, 0, 0][..]));
+    let wanted = [(1, convert(Mode::Relaxed, b"{").unwrap_err()), (2, error)];
+    same_but_for_line(&lines.refused, wanted.clone());
+    same_but_for_line(&documents.refused, wanted);
+    let twice = b"\x13\0\0\0\x10b\0\x05\0\0\0\x10b\0\x06\0\0\0\0";
+    for mode in [Mode::Canonical, Mode::Relaxed, Mode::Show] {
+        let error = decode(mode, strict, twice).unwrap_err();
+        assert_eq!((error.kind(), error.offset(), error.reason()), (ErrorKind::NotADocument, Some(12), "duplicate key"));
+        let found = decode_documents(mode, strict, &[&twice[..], b"\x05\0\0\0\0"].concat()).unwrap();
+        assert_eq!((&*found.text, found.count, found.refused.len()), ("{}\n", 2, 1));
+        assert_eq!((found.refused[0].number, found.refused[0].start, &found.refused[0].error), (1, 0, &error));
+    }
+    assert_eq!(&*decode(Mode::Relaxed, Options::default(), twice).unwrap(), r#"{"b":6}"#);
+}
+
+#[test]
+fn v1_is_an_option_of_texts() {
+    let v1 = Options { v1: true, ..Options::default() };
+    let (older, newer) = (r#"{"b":{"$binary":"AQI=","$type":"00"},"a":1.5}"#, r#"{"b":{"$binary":{"base64":"AQI=","subType":"00"}},"a":1.5}"#);
+    assert_eq!(&*convert_with(Mode::Relaxed, v1, older.as_bytes()).unwrap(), newer);
+    assert_eq!(&*encode(v1, older.as_bytes()).unwrap(), &*encode(Options::default(), newer.as_bytes()).unwrap());
+    assert_eq!(kind(convert(Mode::Relaxed, older.as_bytes())), Some(ErrorKind::NotExtendedJson));
+    assert_eq!(&*convert_lines(Mode::Relaxed, v1, older.as_bytes()).unwrap().text, format!("{newer}\n"));
+    assert_eq!((encode_lines(v1, older.as_bytes()).unwrap().refused, explain(v1, older.as_bytes())), (vec![], None));
+    for error in [decode(Mode::Relaxed, v1, b"\x05\0\0\0\0").unwrap_err(), decode_documents(Mode::Relaxed, v1, b"").unwrap_err()] {
+        assert_eq!((error.kind(), error.reason()), (ErrorKind::InvalidArgument, "v1 has no meaning for BSON bytes"));
+        assert_eq!(error.to_string(), "invalid argument (v1 has no meaning for BSON bytes)");
+    }
+    assert_eq!(same_documents(v1, b"\x05\0\0\0\0", b"\x05\0\0\0\0"), Ok(true));
+}
+
+#[test]
 fn documents_are_compared_by_their_bytes() {
-    let (options, keeps) = (ReadOptions::SPECIFIED, Options { doubles: true, keep_order: true, ..Options::SPECIFIED });
+    let (options, keeps) = (Options::SPECIFIED, Options { doubles: true, keep_order: true, ..Options::SPECIFIED });
     let one = encode(keeps, br#"{"price":1.5,"a":1}"#).unwrap();
     let other = encode(keeps, br#"{"a":1,"price":1.5}"#).unwrap();
     assert_ne!(&*one, &*other);
     assert_eq!(same_documents(options, &one, &other), Ok(true));
     assert_eq!(hash_document(options, &one), hash_document(options, &other));
-    let doubles = ReadOptions { doubles: true, ..options };
+    let doubles = Options { doubles: true, ..options };
     assert_eq!(hash_document(options, &one), hash(doubles, br#"{"a":1,"price":1.5}"#));
     assert_eq!(same_documents(options, &one, b"\x05\0\0\0\0"), Ok(false));
     let damaged = decode(Mode::Relaxed, keeps, &one[..9]).map_err(Some).err().unwrap();
@@ -235,7 +278,7 @@ fn documents_are_compared_by_their_bytes() {
     assert_eq!(hash_document(options, &one[..9]).err(), damaged);
     let twice = b"\x13\0\0\0\x10b\0\x05\0\0\0\x10b\0\x06\0\0\0\0";
     assert_eq!(hash_document(options, twice), hash(options, br#"{"b":6}"#));
-    let strict = ReadOptions { reject_duplicate_keys: true, ..options };
+    let strict = Options { reject_duplicate_keys: true, ..options };
     let error = same_documents(strict, twice, &one[..9]).unwrap_err();
     assert_eq!((error.kind(), error.offset(), error.reason()), (ErrorKind::NotADocument, Some(12), "duplicate key"));
     assert_eq!(error.path()[..], ["b".into()]);

@@ -4,7 +4,7 @@ use serde_json::{json, Value};
 use vbson::json::{from_document, from_text, to_document, to_text, Form};
 use vbson::{ErrorKind, Options};
 
-const ALL: Options = Options { doubles: true, keep_order: true, mongodb_layout: true };
+const ALL: Options = Options { doubles: true, keep_order: true, mongodb_layout: true, ..Options::SPECIFIED };
 
 #[test]
 fn texts_become_values_and_come_back() {

@@ -2,6 +2,7 @@ use Rattle.std.proofs.Common.{◌≡◌, ◌⊎◌, ◌++◌, inl, inr, refl, Li
 use Rattle.std.proofs.lemmas.Result.{IfErr-weaker, IfOk-weaker}
 use Rattle.bson_codec.specs.DocumentText.{IsDocumentTextOf}
 use Rattle.bson_convert.specs.Convert.{newline}
+use Rattle.bson_model.specs.declared.options.DuplicateKeys.TheVariants.{LastWins}
 use Rattle.vbson.specs.Documents.{IsOneDocument, depth}
 use Rattle.vbson.proofs.streaming.decode_streaming.Goals as goal
 
@@ -18,7 +19,7 @@ returns-in-Ok-clause-ok c =
 pub returns-in-Ok-clause-error_status : goal.returns-in-Ok-clause-error_status
 returns-in-Ok-clause-error_status c =
     IfErr-weaker c.line_of_text.result (λ status. status ≡ 5)
-    (λ status. (status ≡ 5) ⊎ ((status ≡ 10) × (IsOneDocument c.args.bytes.now → ⊥)))
+    (λ status. (status ≡ 5) ⊎ ((status ≡ 10) × (IsOneDocument LastWins c.args.bytes.now → ⊥)))
     (λ status five. inl five)
     c.line_of_text.ensures.error_status
 
