@@ -17,7 +17,7 @@ IN_TEXT = re.compile(r"`([\w./]+ [^`\n]+)`")
 PART = re.compile(r"\s\|\s|;|&&|\(|\bthen\b|<")
 PAGE = "docs/PROGRAMS.md"
 SCRIPT = re.compile(r"(?:\.\./)*(?:\./(?:bson|vbson|test)|(?:tests|tools|bench)/[\w/.]+|bson)")
-X
+OPTION = re.compile(r"(?<=[\s\[|,])--[a-z][a-z0-9-]*")
 # An option that is named in the text.
 NAMED = re.compile(r"`(--[a-z][a-z0-9-]*)")
 
