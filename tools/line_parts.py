@@ -1,9 +1,9 @@
-"""What tools/lines_jobs does once it knows that several jobs run: it cuts files into parts, runs the program over them, and puts
-together what the runs left.
+"""What tools/lines_jobs does once it knows that several jobs run: it cuts files into parts, runs the program over them, and
+puts together what the runs left.
 
-Files are cut at ends of lines, and dumps where documents begin. Each run reads one part from memory. Its output and messages stay
-in memory until those of all parts before it are written. The lines and documents in messages are counted from the beginning of
-their file. No run is further ahead than AHEAD parts for each job.
+Files are cut at ends of lines, and dumps where documents begin. Each run reads one part from memory. Its output and messages
+stay in memory until those of all parts before it are written. The lines and documents in messages are counted from the
+beginning of their file. No run is further ahead than AHEAD parts for each job.
 """
 import os
 import re
@@ -70,11 +70,12 @@ class Input:
 
 
 class Part:
-    """Bytes of a file, and how many documents they have; lines are counted if a message needs it. Its run has files of memory for
-    its input, output and messages, and a status once it has ended."""
+    """Bytes of a file, and how many documents they have; lines are counted if a message needs it. Its run has files of
+    memory for its input, output and messages, and a status once it has ended."""
 
     def __init__(self, file, begin, size, documents=0):
-        self.file, self.start, self.size, self.documents, self.streams, self.status = file, begin, size, documents, (), None
+        self.file, self.start, self.size, self.documents = file, begin, size, documents
+        self.streams, self.status = (), None
 
 
 def line_parts(file, least):
@@ -89,8 +90,8 @@ def line_parts(file, least):
 
 
 def document_parts(file, least):
-    """Cuts a file where documents begin, each with its length in four bytes (bsonspec.org). It is not cut after a length that is
-    less than these bytes, or that goes beyond the end: a run ends there."""
+    """Cuts a file where documents begin, each with its length in four bytes (bsonspec.org). It is not cut after a length
+    that is less than these bytes, or that goes beyond the end: a run ends there."""
     start = count = 0
     for ends in document_ends(file):
         for end in ends:
@@ -128,20 +129,22 @@ def position(file):
 
 
 class Runs:
-    """The runs of the program that have not ended, by their numbers. Each file of memory is used again, and its content ends at its offset."""
+    """The runs of the program that have not ended, by their numbers. Each file of memory is used again for the same kind of
+    content, so that it has its pages. The content ends at its offset."""
 
     def __init__(self, words):
-        self.words, self.spare, self.parts = words, [], {}
+        self.words, self.parts, self.inputs, self.outputs = words, {}, [], []
 
-    def file(self):
+    def file(self, spare):
         """A file of memory at its beginning."""
-        file = self.spare.pop() if self.spare else os.memfd_create("part")
+        file = spare.pop() if spare else os.memfd_create("part")
         os.lseek(file, 0, os.SEEK_SET)
         return file
 
     def start(self, part, begin):
         """Starts a run over the bytes of a file from a place on to the end of the part."""
-        part.streams = given, output, told = self.file(), self.file(), self.file()
+        given, told, output = self.file(self.inputs), self.file(self.outputs), self.file(self.outputs)
+        part.streams = given, output, told
         with open(part.file.name, "rb") as content:
             end = part.start + part.size
             while begin < end and (moved := os.sendfile(given, content.fileno(), begin, end - begin)):
@@ -155,6 +158,7 @@ class Runs:
         number, status = os.wait()
         if part := self.parts.pop(number, None):
             part.status = os.waitstatus_to_exitcode(status)
+            self.inputs.append(part.streams[0])
 
     def end(self):
         for number in self.parts:
@@ -180,7 +184,8 @@ class Jobs:
         raise End(1)
 
     def open_files(self):
-        """Asks for the sizes of the files, and opens a part next to the output, with its rights. (A part that exists is another run's.)"""
+        """Asks for the sizes of the files, and opens a part next to the output, with its rights. (A part that exists is
+        another run's.)"""
         for name in self.request.files:
             try:
                 self.files.append(Input(name))
@@ -213,7 +218,8 @@ class Jobs:
         self.part = ""
 
     def parts(self):
-        cuts, least = line_parts if self.kind == b"lines" else document_parts, min(max(self.total // self.jobs // 4, LEAST), MOST)
+        cuts = line_parts if self.kind == b"lines" else document_parts
+        least = min(max(self.total // self.jobs // 4, LEAST), MOST)
         for file in self.files:
             try:
                 yield from cuts(file, least)
@@ -252,7 +258,7 @@ class Jobs:
         self.write(output)
         if not self.keeps_going:
             status = self.report(part, told, status)
-        self.runs.spare += part.streams
+        self.runs.outputs += (output, messages)
         if status < 0:
             name = signal.Signals(-status).name.removeprefix("SIG")
             self.tell(b"bson: a run over %s was ended by signal %s\n" % (os.fsencode(part.file.name), name.encode()))
@@ -306,7 +312,10 @@ class Jobs:
 
     def tell(self, message):
         self.clear()
-        os.write(2, message) if message else None
+        try:
+            os.write(2, message) if message else None
+        except OSError:
+            raise End(1) from None
 
     def show(self):
         if self.shows_progress:
@@ -334,7 +343,8 @@ class Jobs:
         self.runs.end()
         if self.part:
             os.unlink(self.part)
-        self.tell(b"".join(self.hints))
+        with suppress(End):
+            self.tell(b"".join(self.hints))
 
 
 def stop(number, frame):
