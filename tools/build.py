@@ -8,8 +8,8 @@ The program is bson_cli where none is named. Each crate is proved from nothing, 
 below. They are in crates/NAME/out/rlib/statements with a sum of all that they are made from: what has not changed is
 taken as it is. Standard error says what happens and how long it takes, and on a terminal has a line of progress, which
 is gone at the end. out/build.log beside the program has the output of rattle, after a line of times for each crate,
-and out/proved the last line of each crate's proof. A second run that starts meanwhile waits for the first. Status 0:
-built, or waited; 3: it can't be built here.
+and out/proved the last line of each crate's proof. A second run that starts meanwhile waits for the first. The time of
+out/built_from is that of the last run, also if there was nothing to build. Status 0: built; 3: it can't be built here.
 """
 import fcntl
 import hashlib
@@ -305,22 +305,15 @@ class Build:
             sys.stderr.flush()
 
 
-def built_at():
-    try:
-        return os.stat(f"{OUT}/built_from").st_mtime_ns
-    except OSError:
-        return 0
-
-
 def own_lock():
-    """The lock of a build in this checkout, or None where another run had it and has built this program meanwhile."""
-    lock, before = open(f"{TOP}/crates.txt", encoding="utf-8"), built_at()
+    """The lock of a build in this checkout."""
+    lock = open(f"{TOP}/crates.txt", encoding="utf-8")
     try:
         fcntl.flock(lock, fcntl.LOCK_EX | fcntl.LOCK_NB)
     except OSError:
         print("bson: another run is building here; waiting for it", file=sys.stderr)
         fcntl.flock(lock, fcntl.LOCK_EX)
-    return lock if built_at() == before else None
+    return lock
 
 
 def build(rt, steps):
@@ -351,8 +344,6 @@ def main():
     rt = kit.rt() or stop(f"{PROGRAM} is not built yet, and the Rattle kit that proves and builds it is not here: no command 'rt'")
     # (held until this process ends)
     lock = own_lock()
-    if not lock:
-        return 0
     try:
         os.makedirs(OUT, exist_ok=True)
         open(f"{OUT}/built_from.new", "w").close()

@@ -1,8 +1,9 @@
 """Checks that each command of a document that is a script of the repository names one that exists, with options that it has.
 
 A command is an indented line, after '$ ' or alone, and each of its parts after '|', ';', '&&' or '(', and code of several
-words in the text. The options of the installed `bson` are those of `./bson --help`, which builds nothing, and those of another script are in its text. The page of
-the program has each form of the command, and each option, that `./bson --help` has.
+words in the text. The options of the installed `bson` are those of `./bson --help`, which builds nothing. Those of another script
+are in its text, and those of `./bson` in both. The page of the program has each form of the command, and each option, that
+`./bson --help` has.
 """
 import functools
 import os
@@ -16,16 +17,17 @@ IN_TEXT = re.compile(r"`([\w./]+ [^`\n]+)`")
 PART = re.compile(r"\s\|\s|;|&&|\(|\bthen\b|<")
 PAGE = "docs/PROGRAMS.md"
 SCRIPT = re.compile(r"(?:\.\./)*(?:\./(?:bson|vbson|test)|(?:tests|tools|bench)/[\w/.]+|bson)")
-OPTION = re.compile(r"(?<=[\s\[|,])--[a-z][a-z-]*")
+OPTION = re.compile(r"(?<=[\s\[|,])--[a-z][a-z0-9-]*")
 # An option that is named in the text.
-NAMED = re.compile(r"`(--[a-z][a-z-]*)")
+NAMED = re.compile(r"`(--[a-z][a-z0-9-]*)")
 
 
 @functools.cache
 def words_of(script):
     """The text that has the options of a script, or None if there is no script of this name."""
     if script in ("bson", "./bson"):
-        return subprocess.run([f"{sources.TOP}/bson", "--help"], capture_output=True, text=True, timeout=60).stdout
+        text = subprocess.run([f"{sources.TOP}/bson", "--help"], capture_output=True, text=True, timeout=60).stdout
+        return text if script == "bson" else text + sources.read("bson")
     path = f"{sources.TOP}/{re.sub(r'^[./]+', '', script)}"
     if not os.access(path, os.X_OK) or os.path.isdir(path):
         return None
@@ -55,7 +57,7 @@ def faults(path, script, part):
 
 def usage():
     """Each form of the command in the first paragraph of `./bson --help`."""
-    first = words_of("./bson").partition("\n\n")[0].removeprefix("usage:")
+    first = words_of("bson").partition("\n\n")[0].removeprefix("usage:")
     return [f"./bson {' '.join(it.split())}" for it in re.split(r" bson ", first)[1:]]
 
 
@@ -64,11 +66,11 @@ def page_checks():
     page = sources.read(PAGE)
     for form in usage():
         yield [] if form in page else [f"{PAGE} lacks '{form}', which ./bson --help has"]
-    for option in sorted(set(OPTION.findall(words_of("./bson")))):
+    for option in sorted(set(OPTION.findall(words_of("bson")))):
         yield [] if option in page else [f"{PAGE} lacks {option}, which ./bson --help has"]
     for path in (PAGE, "docs/guide.md", "docs/errors.md"):
         for option in sorted(set(NAMED.findall(sources.read(path)))):
-            has_it = re.search(rf"(?<![\w-]){option}(?![\w-])", words_of("./bson"))
+            has_it = re.search(rf"(?<![\w-]){option}(?![\w-])", words_of("bson"))
             yield [] if has_it else [f"{path} names the option {option}, which ./bson --help does not have"]
 
 

@@ -44,8 +44,8 @@ pub enum RunFailure<'a> {
 }
 
 /// Converts the lines of all files in their order. It stops where a file can't be read or written,
-/// or as a run over lines does. Nothing is read or written before each file was found to be one that
-/// opens, and none that is written, and no bytes of BSON go to a terminal. Where an input is rejected
+/// or as a run over lines does. Nothing is read or written before each regular file was found to be one
+/// that opens, and none that is written, and no bytes of BSON go to a terminal. Where an input is rejected
 /// for its format, a hint is added.
 pub fn run<'a>(
     rt: &HostRuntime,
@@ -280,23 +280,22 @@ fn diagnostics_prefix<'a>(
     }
 }
 
-/// A file to read opens, and is none of those that are written.
+/// A file to read opens, and is none of those that are written. (Only a regular file is opened here, since the
+/// content of a pipe is lost with its first reader.)
 pub fn check_input_file<'a>(
     rt: &HostRuntime,
     invocation: &Invocation,
     file_name: &'a str,
 ) -> Result<(), RunFailure<'a>> {
-    let input_metadata = if file_name == STDIO {
-        fs::metadata(rt, "/dev/stdin")
-    } else {
-        match File::open(rt, file_name) {
-            Ok(file) => file.metadata(),
-            Err(error) => return Err(RunFailure::Input(file_name, Some(error))),
-        }
+    let is_stdin = file_name == STDIO;
+    let input_metadata = match fs::metadata(rt, if is_stdin { "/dev/stdin" } else { file_name }) {
+        Ok(input_metadata) => input_metadata,
+        Err(_) if is_stdin => return Ok(()),
+        Err(error) => return Err(RunFailure::Input(file_name, Some(error))),
     };
-    let Ok(input_metadata) = input_metadata else {
-        return Ok(());
-    };
+    if !is_stdin && input_metadata.is_file() {
+        open_input(rt, file_name)?;
+    }
     if is_same_file(rt, &input_metadata, "/dev/stderr") {
         return Err(RunFailure::InputIsOutput(file_name));
     }
