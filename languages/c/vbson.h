@@ -309,9 +309,9 @@ uint32_t vbson_same_nonnull(const vbson_options *options, const uint8_t *left_in
  * of the left one, or that of the right one if the left one has none.
  * VBSON_DOUBLES_FINITE: finite doubles are accepted, as by vbson_convert.
  * VBSON_DUPLICATE_KEYS_REJECT: an input is VBSON_NOT_EXTENDED_JSON if one of its objects has a duplicate key, at any depth.
- * VBSON_V1_ACCEPT: the objects {"$binary": .., "$type": ..} and {"$regex": .., "$options": ..}, and a $date with an offset
- * such as +0100, have their value of Extended JSON v1. VBSON_INVALID_ARGUMENT for VBSON_KEYS_AS_GIVEN and for
- * VBSON_LAYOUT_MONGODB, since the order of keys and the layout change nothing here.
+ * VBSON_V1_ACCEPT: the objects {"$binary": .., "$type": ..} and {"$regex": .., "$options": ..}, a $date without seconds or
+ * with an offset such as +0100, and a $uuid without hyphens have their value of Extended JSON v1. VBSON_INVALID_ARGUMENT for
+ * VBSON_KEYS_AS_GIVEN and for VBSON_LAYOUT_MONGODB, since the order of keys and the layout change nothing here.
  * VBSON_INVALID_ARGUMENT, VBSON_NOT_JSON, VBSON_BAD_OBJECT_ID, VBSON_NOT_EXTENDED_JSON, VBSON_OUT_OF_MEMORY. */
 static inline uint32_t vbson_same(const vbson_options *options, const uint8_t *left_input, size_t left_len,
         const uint8_t *right_input, size_t right_len) {

@@ -112,8 +112,8 @@ def same(a: Given, b: Given, **options: bool) -> bool:
     >>> same('{"a": 1, "b": 2.5}', '{"b": 2.50, "a": {"$numberInt": "1"}}')
     True
 
-    v1 accepts Extended JSON v1 too: {"$binary": .., "$type": ..}, {"$regex": .., "$options": ..}, and a $date with an
-    offset such as +0100. Raises the errors of `convert`, for a first.
+    v1 accepts Extended JSON v1 too: {"$binary": .., "$type": ..}, {"$regex": .., "$options": ..}, a $date without
+    seconds or with an offset such as +0100, and a $uuid without hyphens. Raises the errors of `convert`, for a first.
     """
     flags, a, b = flags_of(options, READING, ONLY_WRITING), text_bytes(a), text_bytes(b)
     status = _calls.library.vbson_same(flags, a, len(a), b, len(b))

@@ -103,8 +103,9 @@ pub struct ReadOptions {
     /// Rejects input in which an object or a document has a duplicate key, at any depth. Without it the last value of a
     /// duplicate key wins.
     pub reject_duplicate_keys: bool,
-    /// Accepts Extended JSON v1 too: `{"$binary": .., "$type": ..}`, `{"$regex": .., "$options": ..}`, and a
-    /// `$date` with an offset such as `+0100`. It changes nothing for the bytes of a document.
+    /// Accepts Extended JSON v1 too: `{"$binary": .., "$type": ..}`, `{"$regex": .., "$options": ..}`, a `$date`
+    /// without seconds or with an offset such as `+0100`, and a `$uuid` without hyphens. It changes nothing for the
+    /// bytes of a document.
     pub v1: bool,
 }
 
