@@ -60,7 +60,7 @@ space between. For each it writes one line:
   --sort-keys             (canonical, relaxed, show) writes keys in ascending order at every depth
   --strict                reads one document of a file, and accepts of all doubles only zeros, infinities and NaNs; keys
                           are written in ascending order
-  --v1                    also reads three objects of Extended JSON v1
+  --v1                    also reads objects of Extended JSON v1
   --no-double-keys        rejects input in which an object has a duplicate key, at any depth
   --canonical             (check) accepts only canonical JSON, byte for byte as `canonical --sort-keys` writes it
   --indent N              (canonical, relaxed) writes each document over several lines, with N spaces for each bracket
@@ -80,7 +80,7 @@ files, and reports the first difference. Blank lines are counted, and write noth
 
   --sort-keys             (canonical, relaxed, show) writes keys in ascending order at every depth
   --strict                accepts of all doubles only zeros, infinities and NaNs; keys are written in ascending order
-  --v1                    also reads three objects of Extended JSON v1
+  --v1                    also reads objects of Extended JSON v1
   --no-double-keys        rejects a line in which an object has a duplicate key, at any depth
   --canonical             (check) accepts only canonical JSON, byte for byte as `canonical --sort-keys` writes it
   --keep-going            (not same) skips a rejected line and reports it; without it the run ends there
@@ -119,7 +119,7 @@ than 2^31 bytes. Bytes are not written to a terminal.
 
   --sort-keys             writes keys in ascending order at every depth
   --strict                accepts of all doubles only zeros, infinities and NaNs; keys are written in ascending order
-  --v1                    also reads three objects of Extended JSON v1
+  --v1                    also reads objects of Extended JSON v1
   --no-double-keys        rejects a line in which an object has a duplicate key, at any depth
   --keep-going            skips a rejected line and reports it; without it the run ends there
   --jobs N                converts N parts of named files at a time
@@ -168,9 +168,9 @@ a regular expression has a 0 byte. Each part must have fewer than 2^31 bytes. By
                           rejects numbers such as 1.5 and 0.0; a double zero is {\"$numberDouble\": \"0.0\"}. Keys are
                           written in ascending order at every depth. A file has one document, unless `lines` or
                           `encode` reads it
-  --v1                    (not decode) also reads three objects of Extended JSON v1, as those of v2: $binary
-                          with $type, $regex with $options, and a $date whose offset has no colon, such as +0100. The
-                          keys of a scope stay as they are
+  --v1                    (not decode) also reads objects of Extended JSON v1, as those of v2: $binary with
+                          $type, and $regex with $options. A $date may have no seconds, or no colon in its offset, and
+                          a $uuid no hyphens. The keys of a scope stay as they are
   --no-double-keys        rejects input in which an object has a duplicate key, at any depth, and reports the path to the
                           first one, or with `decode` its offset; keys are compared after their escapes are decoded
   --canonical             (check, lines check) accepts only canonical JSON with keys in ascending order, byte for byte as

@@ -1,7 +1,7 @@
 -- Objects of v1, and trees of v2.
 use Rattle.std.proofs.Common.{◌≡◌, ◌↔◌, ◌&&◌, ℕ, List, Bool, true, false, cond, refl, sym, ap, subst, ◌∙◌}
 use Rattle.std.proofs.lemmas.Slice.Eq.{bytes_eq-Decides}
-use Rattle.std.specs.Prelude.{codes, take, drop, ◌++◌, length, ◌-◌}
+use Rattle.std.specs.Prelude.{codes, length, ◌-◌}
 use Rattle.std.specs.Str.{bytes_eq}
 use Rattle.json.specs.Json.{Json, Items, no_items, item, Members, no_members, member}
 use Rattle.json.specs.Json as json
@@ -13,9 +13,9 @@ use Rattle.bson_model.specs.OrderedTexts.{HasMeaningInOrder, MeansByDefault}
 use Rattle.bson_tokens.specs.Normalized.{normalized, IsNormalizedText}
 use Rattle.bson_model.specs.declared.options.KeyOrder.TheVariants.{AsGiven}
 use Rattle.bson_tokens.proofs.Offered.{meant, meant_in_order}
-use Rattle.bson_v1.specs.Upgraded.{binary, regex, date, not_v1, v1_shape, shape_of_two_strings, shape_of_two_members, shape_of_one_member, upgraded_wrapper, is_code, is_scope}
-use Rattle.bson_v1.specs.Upgraded.{upgraded, upgraded_items, upgraded_members, upgraded_object, upgraded_scope, ends_in_offset}
-use Rattle.bson_v1.specs.Upgraded.{with_colon, binary_json, regex_json, date_json}
+use Rattle.bson_v1.specs.Upgraded.{binary, regex, date, uuid, not_v1, shape_of_two_strings, shape_of_two_members, upgraded_wrapper, is_code, is_scope}
+use Rattle.bson_v1.specs.Upgraded.{upgraded, upgraded_items, upgraded_members, upgraded_object, upgraded_scope, ends_in_offset, lacks_seconds, is_plain_uuid}
+use Rattle.bson_v1.specs.Upgraded.{with_colon, with_seconds, hyphenated, inserted, offset_length, binary_json, regex_json, date_json, uuid_json}
 use Rattle.bson_v1.specs.Text.{IsUpgradedText}
 use Rattle.bson_v1.specs.Version1.{IsNotVersion1, IsTextOfVersion2, IsVersion1, IsVersion2, ItemsAreVersion2, MembersAreVersion2}
 use Rattle.bson_v1.specs.Version1.{EachMemberIsVersion2, two_string_members}
@@ -26,7 +26,9 @@ shape_renewed x u (v1.binary s t) = refl
 shape_renewed x u (v1.binary_type_first s t) = refl
 shape_renewed x u (v1.regex s t) = refl
 shape_renewed x u (v1.regex_options_first s t) = refl
-shape_renewed x u (v1.date s ends) = refl
+shape_renewed x u (v1.date_without_colon s ends) = refl
+shape_renewed x u (v1.date_without_seconds s lacks) = refl
+shape_renewed x u (v1.uuid s plain) = refl
 
 same_key : (k l : List ℕ) → bytes_eq k l ≡ true → k ≡ l
 same_key k l h = (bytes_eq-Decides k l).0 h
@@ -59,17 +61,46 @@ two_stay k s l t none =
     ∙ skip (bytes_eq k (codes "$options")) (bytes_eq l (codes "$regex")) (regex t s) not_v1
     (λ p q. no_pair k s l t (codes "$options") (codes "$regex") (regex_json t s) p q (v1.regex_options_first t s) none)
 
+-- a text that stays, in an object of its own
+text_stays : (k l s s' : List ℕ) → k ≡ l → s' ≡ s
+    → json.object (member l (json.string s') no_members) ≡ json.object (member k (json.string s) no_members)
+text_stays k l s s' key same =
+    ap (λ x. json.object (member l (json.string x) no_members)) same
+    ∙ ap (λ x. json.object (member x (json.string s) no_members)) (sym key)
+
+no_text : (k l s : List ℕ) (u : Json) → k ≡ l → IsVersion1 (member l (json.string s) no_members) u
+    → IsNotVersion1 (member k (json.string s) no_members) → ⊥
+no_text k l s u key is none = none u (subst (λ x. IsVersion1 (member x (json.string s) no_members) u) (sym key) is)
+
+date_text_stays : (k s : List ℕ) → k ≡ codes "$date" → IsNotVersion1 (member k (json.string s) no_members)
+    → with_colon (with_seconds s) ≡ s
+date_text_stays k s key none =
+    let seconds : with_seconds s ≡ s =
+    plain_cond (lacks_seconds s) (inserted s (length s - offset_length s) (codes ":00")) s
+    (λ lacks. no_text k (codes "$date") s (date_json s) key (v1.date_without_seconds s lacks) none) in
+    let colon : with_colon s ≡ s =
+    plain_cond (ends_in_offset s) (inserted s (length s - 2) (codes ":")) s
+    (λ ends. no_text k (codes "$date") s (date_json s) key (v1.date_without_colon s ends) none) in
+    ap with_colon seconds ∙ colon
+
+uuid_stays : (k s : List ℕ) (b : Bool) → bytes_eq k (codes "$uuid") ≡ b
+    → IsNotVersion1 (member k (json.string s) no_members)
+    → upgraded_wrapper (cond b (uuid s) not_v1) (member k (json.string s) no_members) ≡ json.object (member k (json.string s) no_members)
+uuid_stays k s false is none = refl
+uuid_stays k s true is none =
+    let key = same_key k (codes "$uuid") is in
+    let same : hyphenated s ≡ s =
+    plain_cond (is_plain_uuid s) _ s (λ plain. no_text k (codes "$uuid") s (uuid_json s) key (v1.uuid s plain) none) in
+    text_stays k (codes "$uuid") s (hyphenated s) key same
+
 date_stays : (k s : List ℕ) (b : Bool) → bytes_eq k (codes "$date") ≡ b
     → IsNotVersion1 (member k (json.string s) no_members)
-    → upgraded_wrapper (cond b (date s) not_v1) (member k (json.string s) no_members) ≡ json.object (member k (json.string s) no_members)
-date_stays k s false is none = refl
+    → upgraded_wrapper (cond b (date s) (cond (bytes_eq k (codes "$uuid")) (uuid s) not_v1)) (member k (json.string s) no_members)
+    ≡ json.object (member k (json.string s) no_members)
+date_stays k s false is none = uuid_stays k s (bytes_eq k (codes "$uuid")) refl none
 date_stays k s true is none =
-    let same = same_key k (codes "$date") is in
-    ap (λ x. json.object (member (codes "$date") (json.string x) no_members))
-    (plain_cond (ends_in_offset s) (take (length s - 2) s ++ codes ":" ++ drop (length s - 2) s) s
-    (λ ends. none (date_json s)
-    (subst (λ x. IsVersion1 (member x (json.string s) no_members) (date_json s)) (sym same) (v1.date s ends))))
-    ∙ ap (λ x. json.object (member x (json.string s) no_members)) (sym same)
+    let key = same_key k (codes "$date") is in
+    text_stays k (codes "$date") s (with_colon (with_seconds s)) key (date_text_stays k s key none)
 
 pair_stays : (k l : List ℕ) (j i : Json) → IsNotVersion1 (member k j (member l i no_members)) → shape_of_two_members k j l i ≡ not_v1
 pair_stays k l json.null i none = refl

@@ -7,7 +7,7 @@ use Rattle.json.specs.Json as json
 use Rattle.bson_tokens.specs.Normalized.{normalized}
 use Rattle.bson_tokens.specs.DuplicateKeys.{json_of}
 use Rattle.bson_model.specs.declared.options.KeyOrder.TheVariants.{AsGiven}
-use Rattle.bson_v1.specs.Upgraded.{binary_json, date_json, ends_in_offset, regex_json}
+use Rattle.bson_v1.specs.Upgraded.{binary_json, date_json, ends_in_offset, is_plain_uuid, lacks_seconds, regex_json, uuid_json}
 
 -- two members that are strings
 abbrev pub two_string_members : (first_key first_text second_key second_text : List ℕ) → Members
@@ -24,8 +24,12 @@ pub data IsVersion1 : Members → Json → Type 0 where
       → IsVersion1 (two_string_members (codes "$regex") pattern (codes "$options") options) (regex_json pattern options)
   regex_options_first : (pattern options : List ℕ)
       → IsVersion1 (two_string_members (codes "$options") options (codes "$regex") pattern) (regex_json pattern options)
-  date : (text_bytes : List ℕ) → ends_in_offset text_bytes ≡ true
+  date_without_colon : (text_bytes : List ℕ) → ends_in_offset text_bytes ≡ true
       → IsVersion1 (member (codes "$date") (json.string text_bytes) no_members) (date_json text_bytes)
+  date_without_seconds : (text_bytes : List ℕ) → lacks_seconds text_bytes ≡ true
+      → IsVersion1 (member (codes "$date") (json.string text_bytes) no_members) (date_json text_bytes)
+  uuid : (text_bytes : List ℕ) → is_plain_uuid text_bytes ≡ true
+      → IsVersion1 (member (codes "$uuid") (json.string text_bytes) no_members) (uuid_json text_bytes)
 
 abbrev pub IsNotVersion1 : Members → Type 0
 IsNotVersion1 json_members = (v2_value : Json) → IsVersion1 json_members v2_value → ⊥

@@ -28,12 +28,17 @@ use std::alloc::Global;
 ///
 /// A text of v2 is its own, with each key once. An object has a shape of v1 if it has exactly the
 /// keys `$binary` and `$type`, or `$regex` and `$options`, in either order, each with a string; or
-/// the key `$date` alone, with a string that ends in an offset of four digits (`+0100`), which gets
-/// its colon. The last value of a duplicate key wins, at the first position of the key, before
-/// the shape is tested. The object at `$scope` has no shape of v1 in an object that begins with
-/// `$code`, a string, and `$scope`, in either order: a scope's own keys are free. What a scope
-/// contains is rewritten like any value. A binary and a regular expression nest one level deeper
-/// than they did.
+/// one of these two keys alone, with a string:
+///
+/// - `$date`, if an offset of four digits (`+0100`) is at the end, which gets its colon, or if there
+///   are no seconds before an offset or `Z`, which are then `:00`;
+/// - `$uuid`, if the string is 32 hexadecimal digits, which get the hyphens.
+///
+/// A `$type` of one hexadecimal digit gets a 0 before it. The last value of a duplicate key wins, at
+/// the first position of the key, before the shape is tested. The object at `$scope` has no shape of
+/// v1 in an object that begins with `$code`, a string, and `$scope`, in either order: a scope's own
+/// keys are free. What a scope contains is rewritten like any value. A binary and a regular
+/// expression nest one level deeper than they did.
 ///
 /// No tree is built: the text is written as it is read, first with each key once, and at most two
 /// members of an object are kept in memory. Memory is twice that of the text.

@@ -7,7 +7,8 @@ ghost use Rattle.bson_v1.specs.Upgraded.{binary_json, object_of_member, object_o
 ghost use Rattle.bson_v1.specs.LeadingMembers.{leading_tokens, with_leading_members, scope_or_value};
 ghost use Rattle.bson_v1.specs.WrittenTokens.{upgraded_object_tokens, upgraded_value_tokens};
 
-use crate::date::with_colon;
+use crate::date::rfc_3339_date;
+use crate::hexadecimal::{hyphenated, is_one_hex_digit};
 use crate::object_start::LeadingStrings;
 use json::Writer;
 use std::alloc::{AllocError, Global};
@@ -28,8 +29,9 @@ pub(crate) fn write_from_v1(
             writer.begin_object()?;
             writer.end_object()
         }
-        LeadingStrings::One(key, text) => write_date_or_member(alloc, key, text, writer),
+        LeadingStrings::One(key, text) => write_single_member(alloc, key, text, writer),
         LeadingStrings::Two(key, text, second_key, second_text) => write_object_of_pair(
+            alloc,
             key,
             text,
             second_key,
@@ -77,8 +79,8 @@ pub(crate) fn write_leading_strings(
     }
 }
 
-// Writes what the object of this member alone denotes: a date, or itself.
-fn write_date_or_member(
+// Writes what the object of this member alone denotes: a date, a UUID, or itself.
+fn write_single_member(
     alloc: Global,
     key: &str,
     text: &str,
@@ -89,8 +91,12 @@ fn write_date_or_member(
     ensures keeps_earlier_bytes { writer.new.before ≡ writer.old.before }
 {
     if key == "$date" {
-        let date_text = with_colon(alloc, text)?;
+        let date_text = rfc_3339_date(alloc, text)?;
         return write_object_of_member("$date", &date_text, writer);
+    }
+    if key == "$uuid" {
+        let uuid_text = hyphenated(alloc, text)?;
+        return write_object_of_member("$uuid", &uuid_text, writer);
     }
     write_object_of_member(key, text, writer)
 }
@@ -107,6 +113,7 @@ fn write_object_of_member(key: &str, text: &str, writer: &mut Writer) -> Result<
 
 // Writes what the object of these two members denotes.
 fn write_object_of_pair(
+    alloc: Global,
     key: &str,
     text: &str,
     second_key: &str,
@@ -120,10 +127,10 @@ fn write_object_of_pair(
     ensures keeps_earlier_bytes { writer.new.before ≡ writer.old.before }
 {
     if key == "$binary" && second_key == "$type" {
-        return write_binary(text, second_text, writer);
+        return write_binary(alloc, text, second_text, writer);
     }
     if key == "$type" && second_key == "$binary" {
-        return write_binary(second_text, text, writer);
+        return write_binary(alloc, second_text, text, writer);
     }
     if key == "$regex" && second_key == "$options" {
         return write_regex(text, second_text, writer);
@@ -134,11 +141,21 @@ fn write_object_of_pair(
     write_object_of_texts(key, text, second_key, second_text, writer)
 }
 
-fn write_binary(base64: &str, sub_type: &str, writer: &mut Writer) -> Result<(), AllocError>
+// Writes a binary. A subtype of one digit gets a 0.
+fn write_binary(
+    alloc: Global,
+    base64: &str,
+    sub_type: &str,
+    writer: &mut Writer,
+) -> Result<(), AllocError>
     ensures ok { OnOk result
         (writer.new.tokens ≡ writer.old.tokens ++ json_tokens (binary_json base64.now sub_type.now)) }
     ensures keeps_earlier_bytes { writer.new.before ≡ writer.old.before }
 {
+    if is_one_hex_digit(sub_type.as_bytes()) {
+        let digits = format!(in alloc; "0{sub_type}")?;
+        return write_wrapper("$binary", "base64", base64, "subType", &digits, writer);
+    }
     write_wrapper("$binary", "base64", base64, "subType", sub_type, writer)
 }
 
