@@ -13,4 +13,5 @@ pub mod Parts
 pub mod Scanned
 pub mod Sequences
 pub mod FoundTexts
+pub mod Elements
 pub mod Splits

@@ -16,7 +16,8 @@ ghost use Rattle.bson_model.specs.OrderedTexts.{MeansByDefault};
 ghost use Rattle.bson_tokens.specs.DuplicateKeys.{json_of};
 ghost use Rattle.bson_json.specs.Characters.{IsUnescapedCharacter};
 ghost use Rattle.bson_json.specs.Corners.{AcceptedCorners, RejectedCorners};
-ghost use Rattle.bson_json.specs.Sequence.{AreTexts, texts_in};
+ghost use Rattle.bson_json.specs.Sequence.{AreElements, AreTexts, texts_in};
+ghost use Rattle.bson_json.specs.declared.sequence.Separator.TheVariants.{Comma, WhiteSpace};
 ghost use Rattle.bson_json.specs.Grammar.{AreChars, IsJson, IsJsonOf, IsNumber, IsUnescaped};
 
 /// Proves that the kit's reader finds a value in a text if and only if the grammar gives the text
@@ -69,10 +70,20 @@ pub fn corner_cases()
 /// JSON. The sequence has the texts that are found, and no others.
 pub fn sequences_have_one_reading()
     ensures are_texts { (content : List ℕ)
-        → AllByRecursion (λ text. (json_value : Json) × IsJson text json_value) (texts_in content)
-        → AreTexts content (texts_in content) }
+        → AllByRecursion (λ text. (json_value : Json) × IsJson text json_value) (texts_in WhiteSpace content)
+        → AreTexts content (texts_in WhiteSpace content) }
     ensures all_texts_found { (content : List ℕ) (text_list : List (List ℕ)) → AreTexts content text_list
-        → texts_in content ≡ text_list }
+        → texts_in WhiteSpace content ≡ text_list }
     ensures one_sequence { (content : List ℕ) (text_list other_list : List (List ℕ)) → AreTexts content text_list
         → AreTexts content other_list → text_list ≡ other_list }
+{}
+
+/// Proves that bytes are the elements of an array, with commas between them, if and only if each part
+/// between the commas is JSON. The array has these elements, and no others.
+pub fn arrays_have_one_reading()
+    ensures are_elements { (content : List ℕ)
+        → AllByRecursion (λ text. (json_value : Json) × IsJson text json_value) (texts_in Comma content)
+        → AreElements content (texts_in Comma content) }
+    ensures all_elements_found { (content : List ℕ) (text_list : List (List ℕ)) → AreElements content text_list
+        → texts_in Comma content ≡ text_list }
 {}

@@ -2,7 +2,7 @@
 //! dumps, as its arguments request.
 //!
 //! The library `bson_run` converts. This crate has the arguments (`invocation`, `arguments`, `option_values`,
-//! `option_effects`, `allowed_options`), the files (`run`, `streams`, `output`; `texts` for JSON texts with `single_text` for
+//! `option_effects`, `allowed_options`, `request`), the files (`run`, `streams`, `output`; `texts` for JSON texts with `single_text` for
 //! each, `dump` for BSON documents), digests of lines (`digests`), comparisons (`compare_files`, `compare_outputs`),
 //! the line of progress (`progress`), the lines on standard error (`messages`, `usage_error`, `hints`,
 //! `advice`, `rejection_hint`), the help (`help_text`) and the statuses.
@@ -24,6 +24,7 @@ mod option_values;
 mod output;
 mod progress;
 mod rejection_hint;
+mod request;
 mod run;
 mod single_text;
 mod streams;

@@ -157,3 +157,12 @@ pub enum OnRefusal {
     /// The line is skipped, with a diagnostic that has the path of its error, and the run goes on.
     KeepGoing,
 }
+
+/// How the diagnostics of a run are written. The default of the program is text.
+#[derive(Clone, Copy, PartialEq, Eq, Debug)]
+pub enum DiagnosticFormat {
+    /// Each as a line of text.
+    Text,
+    /// Each as a JSON object on a line.
+    Json,
+}

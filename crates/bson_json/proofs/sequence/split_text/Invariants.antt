@@ -8,6 +8,7 @@ decreases-loop-byte_index l = length l.content - l.byte_index
 
 abbrev pub invariant-loop-byte_index : goal.invariant-loop-byte_index
 invariant-loop-byte_index l = record {
-  split : parts (outside zero) l.content ≡ put_before (take l.byte_index l.content) (parts (scan_state_of l.scan_state) (drop l.byte_index l.content));
+  split : parts l.separator (outside zero) l.content
+      ≡ put_before (take l.byte_index l.content) (parts l.separator (scan_state_of l.scan_state) (drop l.byte_index l.content));
   depth : open_brackets_of l.scan_state ≤ l.byte_index;
 }
