@@ -8,6 +8,7 @@ use Rattle.std.specs.Option.{option_map_or}
 use Rattle.bson_convert.specs.declared.mode.Mode.TheVariants as modes
 use Rattle.bson_run.specs.TaskNames.{output_name}
 use Rattle.bson_run.specs.declared.task.Criterion.TheVariants.{Canonical}
+use Rattle.bson_run.specs.declared.task.DiagnosticFormat.TheVariants.{Text}
 use Rattle.bson_run.specs.declared.task.OnRefusal.TheVariants.{KeepGoing, Stop}
 use Rattle.bson_run.specs.declared.task.Preprocessing.{Preprocessing}
 use Rattle.bson_run.specs.declared.task.Task.{Task}
@@ -306,6 +307,7 @@ abbrev pub requested_task : ArgsSoFar → (named_kind : Output) → Task
 requested_task args_so_far named_kind = record {
   preprocessing = requested_preprocessing args_so_far.rejects_duplicates args_so_far.reads_v1;
   output = with_criterion args_so_far.is_canonical named_kind;
+  diagnostics = Text;
 }
 
 abbrev pub requested_options : ArgsSoFar → Options

@@ -16,7 +16,7 @@ use crate::option_effects::{
 use crate::option_values::{input_files, output_file_in, parse_count, starts_as_option};
 use bson::extjson::Options;
 use bson_convert::mode::Mode;
-use bson_run::task::{OnRefusal, Output, Task};
+use bson_run::task::{DiagnosticFormat, OnRefusal, Output, Task};
 use std::alloc::{AllocError, Global};
 
 /// The greatest number of spaces.
@@ -367,6 +367,7 @@ impl ArgsSoFar {
             task: Task {
                 preprocessing: requested_preprocessing(rejects_duplicates, reads_v1),
                 output: output_kind,
+                diagnostics: DiagnosticFormat::Text,
             },
             options: Options {
                 doubles: accepted_doubles(is_strict),

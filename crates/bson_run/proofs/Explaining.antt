@@ -54,8 +54,9 @@ other_where text errors.CannotWrite h = refl
 pub where_from : (text : List ℕ) (fault : Error) (e : Explanation) → IsExplanation text fault e → IsPositionMessage text fault (explanation_message text e)
 where_from text fault (explained.Syntax stop) h =
     subst (λ (f : Error). IsPositionMessage text f (explanation_message text (explained.Syntax stop))) (sym h.0) (column_at stop.offset text, stop.rule, h.1, refl)
-where_from text fault (explained.Value place reason) h =
-    subst (λ (f : Error). IsPositionMessage text f (explanation_message text (explained.Value place reason))) (sym h.0) (
+where_from text fault (explained.Value place reason offset) h =
+    subst (λ (f : Error). IsPositionMessage text f (explanation_message text (explained.Value place reason offset))) (sym h.0) (
+      offset,
       h.1.0,
       h.1.1,
       ap (λ t. path_message (escaped_message (path_text (path_of place.now))) ++ codes " (" ++ t ++ codes ")") h.1.2,
