@@ -11,17 +11,18 @@ use Rattle.bson_run.specs.declared.task.Task.{Task}
 use Rattle.bson_run.specs.declared.task.Output.{Output}
 use Rattle.bson_run.specs.declared.task.Output.TheVariants.{Text, Bytes, Nothing}
 use Rattle.bson_program.specs.Flags.{has_flag}
-use Rattle.bson_program.specs.Invocation.{is_option, with_criterion, mode_arg, requested_key_order, AreParsed, one_more_arg, IsRequestOf}
-use Rattle.bson_program.specs.Invocation.{IsRequestedBy, NamesMode, IsOutputFor, IsNamedKindFor, IsArgAfter}
-use Rattle.bson_program.specs.Invocation.{command_of, StartsWithDash, IsValueInArg, IsParsedCount, IsUsageError, IsParsed, AcceptsArg}
+use Rattle.bson_program.specs.Invocation.{command_of, is_option, mode_arg, AreParsed, one_more_arg, AcceptsArg, HasInvalidValue}
+use Rattle.bson_program.specs.Invocation.{IsNamedKindFor, IsParsed, IsParsedValue, IsUsageError, IsValueInArg, NamesMode, StartsWithDash}
+use Rattle.bson_program.specs.Requests.{requested_key_order, with_criterion, IsArgAfter, IsOutputFor, IsRequestedBy, IsRequestOf}
 use Rattle.bson_program.specs.declared.arguments.ArgsSoFar.{ArgsSoFar}
 use Rattle.bson_program.specs.declared.arguments.ParsedArg as arguments
 use Rattle.bson_program.specs.declared.arguments.ParsedArg.TheVariants as parsed
 use Rattle.bson_program.specs.declared.invocation.Request.{Request}
 use Rattle.bson_program.specs.declared.invocation.Request.TheVariants.{Run, Help, Version, InvalidUsage}
 use Rattle.bson_program.specs.declared.invocation.Command.{Command}
-use Rattle.bson_program.specs.declared.invocation.Flag.TheVariants as flag
+use Rattle.bson_program.specs.declared.invocation.Flag.{Flag}
 use Rattle.bson_program.specs.declared.invocation.UsageError.{UsageError}
+use Rattle.bson_program.specs.declared.invocation.UsageError.TheVariants.{BadOptionValue}
 use Rattle.bson_program.specs.declared.invocation.Purpose.{Purpose}
 use Rattle.bson_program.specs.declared.invocation.Purpose.TheVariants as purpose
 use Rattle.bson_convert.specs.declared.mode.Mode.TheVariants as modes
@@ -166,22 +167,18 @@ refused_behind args args_so_far arg (parsed.InvalidUsage other) why h e =
 
 -- ---- values of options
 
-pub numbered_indent : (args_so_far old : ArgsSoFar) (arg text : List ℕ) (it : arguments.ParsedArg) → IsParsedCount flag.Indent 16 old text it
-    → has_flag flag.Indent old ≡ has_flag flag.Indent args_so_far → (arg ≡ text) ⊎ (arg ≡ codes "--indent=" ++ text)
-    → IsParsed args_so_far arg it
-numbered_indent args_so_far old arg text parsed.AcceptedArg h e at = tt
-numbered_indent args_so_far old arg text parsed.Help h e at = absurd h
-numbered_indent args_so_far old arg text parsed.Version h e at = absurd h
-numbered_indent args_so_far old arg text (parsed.InvalidUsage why) (inl is) e at = subst (IsUsageError args_so_far arg) (sym is.0) (sym e ∙ is.1)
-numbered_indent args_so_far old arg text (parsed.InvalidUsage why) (inr is) e at = subst (IsUsageError args_so_far arg) (sym is.0) (text, is.1, at)
-
-pub numbered_jobs : (args_so_far old : ArgsSoFar) (arg text : List ℕ) (it : arguments.ParsedArg) → IsParsedCount flag.Jobs 9999 old text it
-    → has_flag flag.Jobs old ≡ has_flag flag.Jobs args_so_far → (arg ≡ text) ⊎ (arg ≡ codes "--jobs=" ++ text) → IsParsed args_so_far arg it
-numbered_jobs args_so_far old arg text parsed.AcceptedArg h e at = tt
-numbered_jobs args_so_far old arg text parsed.Help h e at = absurd h
-numbered_jobs args_so_far old arg text parsed.Version h e at = absurd h
-numbered_jobs args_so_far old arg text (parsed.InvalidUsage why) (inl is) e at = subst (IsUsageError args_so_far arg) (sym is.0) (sym e ∙ is.1)
-numbered_jobs args_so_far old arg text (parsed.InvalidUsage why) (inr is) e at = subst (IsUsageError args_so_far arg) (sym is.0) (text, is.1, at)
+-- a value that is invalid for its option makes the argument one that is not accepted
+pub value_parsed : (option : Flag) (IsInvalid : List ℕ → Type 0) (name : List ℕ) (args_so_far old : ArgsSoFar) (arg text : List ℕ)
+    (it : arguments.ParsedArg) → (HasInvalidValue IsInvalid name arg → IsUsageError args_so_far arg (BadOptionValue option))
+    → IsParsedValue option IsInvalid old text it → has_flag option old ≡ has_flag option args_so_far
+    → (arg ≡ text) ⊎ (arg ≡ name ++ text) → IsParsed args_so_far arg it
+value_parsed option IsInvalid name args_so_far old arg text parsed.AcceptedArg why h e at = tt
+value_parsed option IsInvalid name args_so_far old arg text parsed.Help why h e at = absurd h
+value_parsed option IsInvalid name args_so_far old arg text parsed.Version why h e at = absurd h
+value_parsed option IsInvalid name args_so_far old arg text (parsed.InvalidUsage error) why (inl is) e at =
+    subst (IsUsageError args_so_far arg) (sym is.0) (sym e ∙ is.1)
+value_parsed option IsInvalid name args_so_far old arg text (parsed.InvalidUsage error) why (inr is) e at =
+    subst (IsUsageError args_so_far arg) (sym is.0) (why (text, is.1, at))
 
 pub joined_taken : (args_so_far : ArgsSoFar) (arg : List ℕ) (it : arguments.ParsedArg) → IsValueInArg args_so_far arg it → StartsWithDash arg
     → is_option arg ≡ false → IsParsed args_so_far arg it

@@ -7,9 +7,9 @@ use Rattle.bson_run.specs.declared.task.Output.TheVariants as output
 use Rattle.bson_program.specs.declared.arguments.ArgsSoFar.{ArgsSoFar}
 use Rattle.bson_program.specs.declared.invocation.Flag.{Flag}
 use Rattle.bson_program.specs.declared.invocation.Flag.TheVariants.{SortKeys, Strict, V1, NoDuplicateKeys, Canonical, Indent, KeepGoing, Jobs}
-use Rattle.bson_program.specs.declared.invocation.Flag.TheVariants.{Output, Unordered}
+use Rattle.bson_program.specs.declared.invocation.Flag.TheVariants.{Output, Unordered, Array, Diagnostics}
 use Rattle.bson_program.specs.declared.invocation.Input.{Input}
-use Rattle.bson_program.specs.declared.invocation.Input.TheVariants.{Text, Documents}
+use Rattle.bson_program.specs.declared.invocation.Input.TheVariants.{Text, Lines, Documents}
 use Rattle.bson_program.specs.declared.invocation.Purpose.{Purpose}
 use Rattle.bson_program.specs.declared.invocation.Purpose.TheVariants as purpose
 
@@ -64,6 +64,10 @@ command_allows KeepGoing input output = reads_lines_or_documents input
 command_allows Jobs input output = reads_lines_or_documents input
 command_allows Output input output = has_output output
 command_allows Unordered input output = true
+command_allows Array Text output = reads_texts Text output
+command_allows Array input output = false
+command_allows Diagnostics Documents output = false
+command_allows Diagnostics input output = true
 
 -- modes with this purpose have the option
 abbrev pub purpose_allows : Flag → Purpose → Bool
@@ -74,6 +78,7 @@ purpose_allows Indent purpose = false
 purpose_allows KeepGoing purpose.Comparison = false
 purpose_allows Jobs purpose.Comparison = false
 purpose_allows Output purpose.Comparison = false
+purpose_allows Diagnostics purpose.Comparison = false
 purpose_allows Unordered purpose.Comparison = true
 purpose_allows Unordered purpose = false
 purpose_allows flag purpose = true
@@ -91,11 +96,20 @@ has_flag KeepGoing args_so_far = args_so_far.keeps_going
 has_flag Jobs args_so_far = is_some args_so_far.jobs
 has_flag Output args_so_far = is_some args_so_far.output
 has_flag Unordered args_so_far = args_so_far.is_unordered
+has_flag Array args_so_far = args_so_far.reads_array
+has_flag Diagnostics args_so_far = is_some args_so_far.diagnostics
+
+-- how the input is read: `encode` reads lines, but an array is one text
+abbrev pub requested_input : (reads_array : Bool) → Input → task.Output → Input
+requested_input true Lines output.Bytes = Text
+requested_input reads_array input output = input
 
 -- an option is set that the command does not have
 abbrev pub is_unsupported : Flag → ArgsSoFar → task.Output → Bool
 is_unsupported flag args_so_far output =
-    if purpose_allows flag args_so_far.purpose && command_allows flag args_so_far.input output then false
+    if purpose_allows flag args_so_far.purpose
+    && command_allows flag (requested_input args_so_far.reads_array args_so_far.input output) output
+    then false
     else has_flag flag args_so_far
 
 -- ---- the names of options
@@ -111,3 +125,5 @@ flag_name KeepGoing = codes "--keep-going"
 flag_name Jobs = codes "--jobs"
 flag_name Output = codes "--output"
 flag_name Unordered = codes "--unordered"
+flag_name Array = codes "--array"
+flag_name Diagnostics = codes "--diagnostics"

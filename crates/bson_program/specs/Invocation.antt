@@ -1,25 +1,16 @@
--- What the arguments after the program's name request.
+-- The meaning of the arguments after the program's name, one after another.
 use Rattle.std.specs.Prelude.{◌≡◌, ◌==◌, ◌≢◌, ◌⊎◌, ◌<◌, ◌≤◌, ◌++◌, ℕ, Bool, true, false, List, [], ◌∷◌, Option, None, Some, codes}
-use Rattle.std.specs.Prelude.{bytes_eq, ◌||◌, Contains, get_or, length, map, string_bytes, slice_index, take, vec_len}
-use Rattle.std.specs.Prelude.{if◌then◌else◌, String, Vec}
-use Rattle.std.specs.declared.alloc.Global.{Global}
+use Rattle.std.specs.Prelude.{bytes_eq, ◌||◌, slice_index, vec_len, if◌then◌else◌}
 use Rattle.std.specs.Fmt.{decimal}
 use Rattle.std.specs.Option.{option_map_or}
 use Rattle.bson_convert.specs.declared.mode.Mode.TheVariants as modes
 use Rattle.bson_run.specs.TaskNames.{output_name}
-use Rattle.bson_run.specs.declared.task.Criterion.TheVariants.{Canonical}
-use Rattle.bson_run.specs.declared.task.DiagnosticFormat.TheVariants.{Text}
-use Rattle.bson_run.specs.declared.task.OnRefusal.TheVariants.{KeepGoing, Stop}
-use Rattle.bson_run.specs.declared.task.Preprocessing.{Preprocessing}
-use Rattle.bson_run.specs.declared.task.Task.{Task}
+use Rattle.bson_run.specs.declared.task.DiagnosticFormat.{DiagnosticFormat}
+use Rattle.bson_run.specs.declared.task.DiagnosticFormat.TheVariants as format
 use Rattle.bson_run.specs.declared.task.Output.{Output}
-use Rattle.bson_run.specs.declared.task.Output.TheVariants.{Bytes, Nothing}
+use Rattle.bson_run.specs.declared.task.Output.TheVariants.{Bytes}
 use Rattle.bson_run.specs.declared.task.Output.TheVariants as output
-use Rattle.bson_model.specs.declared.options.DuplicateKeys.{DuplicateKeys}
-use Rattle.bson_model.specs.declared.options.DuplicateKeys.TheVariants.{LastWins, Reject}
-use Rattle.bson_program.specs.Flags.{is_unsupported, has_flag}
-use Rattle.bson_program.specs.declared.invocation.Request.{Request}
-use Rattle.bson_program.specs.declared.invocation.Request.TheVariants.{Run, Help, Version, InvalidUsage}
+use Rattle.bson_program.specs.Flags.{has_flag}
 use Rattle.bson_program.specs.declared.invocation.Command.{Command}
 use Rattle.bson_program.specs.declared.invocation.Command.TheVariants as command
 use Rattle.bson_program.specs.declared.invocation.Flag.{Flag}
@@ -28,52 +19,13 @@ use Rattle.bson_program.specs.declared.invocation.Input.{Input}
 use Rattle.bson_program.specs.declared.invocation.Input.TheVariants.{Text, Lines, Documents}
 use Rattle.bson_program.specs.declared.invocation.UsageError.{UsageError}
 use Rattle.bson_program.specs.declared.invocation.UsageError.TheVariants as usage_error
-use Rattle.bson_program.specs.declared.invocation.Invocation.{Invocation}
 use Rattle.bson_program.specs.declared.invocation.Purpose.{Purpose}
 use Rattle.bson_program.specs.declared.invocation.Purpose.TheVariants as purpose
 use Rattle.bson_program.specs.declared.arguments.ArgsSoFar.{ArgsSoFar}
 use Rattle.bson_program.specs.declared.arguments.ParsedArg as arguments
 use Rattle.bson_program.specs.declared.arguments.ParsedArg.TheVariants as parsed
 use Rattle.bson_program.specs.declared.arguments.ExpectedArg.{ExpectedArg}
-use Rattle.bson_program.specs.declared.arguments.ExpectedArg.TheVariants.{AnyArg, OutputFile, IndentWidth, JobCount, Operand}
-use Rattle.bson.specs.Doubles.{Doubles}
-use Rattle.bson.specs.Doubles.TheVariants.{Finite, Special}
-use Rattle.bson_scalar.specs.declared.form.Layout.{Layout}
-use Rattle.bson_scalar.specs.declared.form.Layout.TheVariants.{Specified, MongoDb}
-use Rattle.bson.specs.KeyOrder.{KeyOrder}
-use Rattle.bson.specs.KeyOrder.TheVariants.{Ascending, AsGiven}
-use Rattle.bson.specs.Options.{Options}
-
--- ---- outputs and options
-
--- the criterion of a check is the one that the option sets
-abbrev pub with_criterion : (is_canonical : Bool) → (named_kind : Output) → Output
-with_criterion true (Nothing criterion) = Nothing Canonical
-with_criterion is_canonical named_kind = named_kind
-
-abbrev pub requested_duplicate_keys : (rejects_duplicates : Bool) → DuplicateKeys
-requested_duplicate_keys true = Reject
-requested_duplicate_keys false = LastWins
-
--- the preprocessing of a text before it is read: the check for duplicate keys, and rewriting Extended JSON v1
-abbrev pub requested_preprocessing : (rejects_duplicates reads_v1 : Bool) → Preprocessing
-requested_preprocessing rejects_duplicates reads_v1 =
-    record { duplicate_keys = requested_duplicate_keys rejects_duplicates; v1 = reads_v1 }
-
--- all doubles have a text; or, if the run is strict, those of the specification
-abbrev pub accepted_doubles : (is_strict : Bool) → Doubles
-accepted_doubles true = Special
-accepted_doubles false = Finite
-
--- the layout of the specification, or that of libbson and PyMongo
-abbrev pub requested_layout : (is_strict : Bool) → Layout
-requested_layout true = Specified
-requested_layout false = MongoDb
-
--- keys keep their order, unless they are sorted, the run is strict, or it has digests or a comparison
-abbrev pub requested_key_order : (purpose : Purpose) → (sorts_keys is_strict : Bool) → KeyOrder
-requested_key_order purpose.Output false false = AsGiven
-requested_key_order purpose sorts_keys is_strict = Ascending
+use Rattle.bson_program.specs.declared.arguments.ExpectedArg.TheVariants.{AnyArg, OutputFile, IndentWidth, JobCount, FormatName, Operand}
 
 -- ---- arguments
 
@@ -85,11 +37,20 @@ IsOutputOption file arg = (arg ≡ codes "--output=" ++ file) ⊎ (arg ≡ codes
 abbrev pub IsInvalidCount : (maximum : ℕ) → (arg : List ℕ) → Type 0
 IsInvalidCount maximum arg = (count : ℕ) → 0 < count → count ≤ maximum → arg ≡ decimal count → ⊥
 
+-- the names of the formats of diagnostics
+abbrev pub format_name : DiagnosticFormat → List ℕ
+format_name format.Text = codes "text"
+format_name format.Json = codes "json"
+
+abbrev pub IsInvalidFormat : (arg : List ℕ) → Type 0
+IsInvalidFormat arg = (format : DiagnosticFormat) → arg ≡ format_name format → ⊥
+
 -- the arguments that are options, each with its value in the argument or after it
 abbrev pub is_option : (arg : List ℕ) → Bool
 is_option arg = bytes_eq arg (codes "--sort-keys") || bytes_eq arg (codes "--strict") || bytes_eq arg (codes "--v1")
     || bytes_eq arg (codes "--no-double-keys") || bytes_eq arg (codes "--canonical") || bytes_eq arg (codes "--unordered")
     || bytes_eq arg (codes "--keep-going") || bytes_eq arg (codes "--indent")
+    || bytes_eq arg (codes "--array") || bytes_eq arg (codes "--diagnostics")
     || bytes_eq arg (codes "--jobs") || bytes_eq arg (codes "-o") || bytes_eq arg (codes "--output")
     || bytes_eq arg (codes "--help") || bytes_eq arg (codes "-h") || bytes_eq arg (codes "--version")
     || bytes_eq arg (codes "-v") || bytes_eq arg (codes "--")
@@ -106,12 +67,6 @@ mode_arg purpose.Comparison output = codes "same"
 abbrev pub IsNamedKindFor : Purpose → (named_kind : Output) → Type 0
 IsNamedKindFor purpose.Output named_kind = Unit {0}
 IsNamedKindFor purpose named_kind = named_kind ≡ output.Text modes.Canonical
-
--- with the keys of each document in ascending order
-abbrev pub IsOutputFor : Purpose → KeyOrder → Output → Type 0
-IsOutputFor purpose.Output key_order output = Unit {0}
-IsOutputFor purpose key_order (output.Text mode) = (mode ≡ modes.Canonical) × (key_order ≡ Ascending)
-IsOutputFor purpose key_order other_output = ⊥
 
 -- the argument names this mode
 abbrev pub NamesMode : (arg : List ℕ) → Purpose → (named_kind : Output) → Type 0
@@ -155,17 +110,21 @@ set_flags arg args_so_far = record args_so_far {
   reads_v1 = bytes_eq arg (codes "--v1") || args_so_far.reads_v1;
   is_canonical = bytes_eq arg (codes "--canonical") || args_so_far.is_canonical;
   is_unordered = bytes_eq arg (codes "--unordered") || args_so_far.is_unordered;
+  reads_array = bytes_eq arg (codes "--array") || args_so_far.reads_array;
   expected_arg = if bytes_eq arg (codes "--") then Operand
       else (if bytes_eq arg (codes "-o") || bytes_eq arg (codes "--output") then OutputFile
       else (if bytes_eq arg (codes "--indent") then IndentWidth
-      else (if bytes_eq arg (codes "--jobs") then JobCount else args_so_far.expected_arg)));
+      else (if bytes_eq arg (codes "--jobs") then JobCount
+      else (if bytes_eq arg (codes "--diagnostics") then FormatName else args_so_far.expected_arg))));
 }
 
--- an argument that is an option sets what the table says; arguments for files, the mode and numbers set the rest
+-- an argument that is an option sets what the table says; arguments for files, the mode, numbers and the format of diagnostics set
+-- the rest
 abbrev pub SetsOption : (arg : List ℕ) → (old new : ArgsSoFar) → Type 0
 SetsOption arg old new = new ≡ record (set_flags arg old) {
   output_kind = new.output_kind;
   purpose = new.purpose;
+  diagnostics = new.diagnostics;
   indent = new.indent;
   jobs = new.jobs;
   output = new.output;
@@ -178,6 +137,7 @@ AcceptsExpectedArg AnyArg arg old new = SetsOption arg old new
 AcceptsExpectedArg OutputFile arg old new = new ≡ record old { expected_arg = AnyArg; output = new.output }
 AcceptsExpectedArg IndentWidth arg old new = new ≡ record old { expected_arg = AnyArg; indent = new.indent }
 AcceptsExpectedArg JobCount arg old new = new ≡ record old { expected_arg = AnyArg; jobs = new.jobs }
+AcceptsExpectedArg FormatName arg old new = new ≡ record old { expected_arg = AnyArg; diagnostics = new.diagnostics }
 AcceptsExpectedArg Operand arg old new = new ≡ record old {
   output_kind = new.output_kind;
   purpose = new.purpose;
@@ -201,6 +161,8 @@ IsInitialState args_so_far = args_so_far ≡ record args_so_far {
   reads_v1 = false;
   is_canonical = false;
   is_unordered = false;
+  reads_array = false;
+  diagnostics = None;
   indent = None;
   jobs = None;
   output = None;
@@ -223,9 +185,8 @@ IsModeOrCommand Text arg = ((purpose : Purpose) × (output : Output) × (arg ≡
 IsModeOrCommand input arg = (purpose : Purpose) × (output : Output) × (output ≢ Bytes) × (arg ≡ mode_arg purpose output)
 
 -- the argument, or the part after its option, is not the expected value
-abbrev pub HasInvalidNumber : (maximum : ℕ) → (option arg : List ℕ) → Type 0
-HasInvalidNumber maximum option arg = (text : List ℕ) × IsInvalidCount maximum text
-    × ((arg ≡ text) ⊎ (arg ≡ option ++ text))
+abbrev pub HasInvalidValue : (IsInvalid : List ℕ → Type 0) → (option arg : List ℕ) → Type 0
+HasInvalidValue IsInvalid option arg = (text : List ℕ) × IsInvalid text × ((arg ≡ text) ⊎ (arg ≡ option ++ text))
 
 -- the argument begins as an option
 abbrev pub StartsWithDash : (arg : List ℕ) → Type 0
@@ -238,8 +199,10 @@ IsUsageError args_so_far arg usage_error.UnknownMode = (args_so_far.output_kind 
     × (IsModeOrCommand args_so_far.input arg → ⊥)
 IsUsageError args_so_far arg usage_error.RemovedOption = (arg ≡ codes "--doubles") ⊎ (arg ≡ codes "--keep-order")
 IsUsageError args_so_far arg (usage_error.OptionTwice flag) = has_flag flag args_so_far ≡ true
-IsUsageError args_so_far arg (usage_error.BadOptionValue flag.Indent) = HasInvalidNumber 16 (codes "--indent=") arg
-IsUsageError args_so_far arg (usage_error.BadOptionValue flag.Jobs) = HasInvalidNumber 9999 (codes "--jobs=") arg
+IsUsageError args_so_far arg (usage_error.BadOptionValue flag.Indent) = HasInvalidValue (IsInvalidCount 16) (codes "--indent=") arg
+IsUsageError args_so_far arg (usage_error.BadOptionValue flag.Jobs) = HasInvalidValue (IsInvalidCount 9999) (codes "--jobs=") arg
+IsUsageError args_so_far arg (usage_error.BadOptionValue flag.Diagnostics) =
+    HasInvalidValue IsInvalidFormat (codes "--diagnostics=") arg
 IsUsageError args_so_far arg error_kind = ⊥
 
 -- the argument requests help: `help` is a file after a mode
@@ -254,142 +217,15 @@ IsParsed args_so_far arg parsed.Help = RequestsHelp args_so_far arg
 IsParsed args_so_far arg parsed.Version = (arg ≡ codes "--version") ⊎ (arg ≡ codes "-v")
 IsParsed args_so_far arg (parsed.InvalidUsage error_kind) = IsUsageError args_so_far arg error_kind
 
--- ---- modes and options
-
--- the command has all options that are set
-pub record AllOptionsSupported (args_so_far : ArgsSoFar) (output_kind : Output) : Type 0 where
-  pub sort_keys : is_unsupported flag.SortKeys args_so_far output_kind ≡ false
-  pub strict : is_unsupported flag.Strict args_so_far output_kind ≡ false
-  pub v1 : is_unsupported flag.V1 args_so_far output_kind ≡ false
-  pub no_double_keys : is_unsupported flag.NoDuplicateKeys args_so_far output_kind ≡ false
-  pub canonical : is_unsupported flag.Canonical args_so_far output_kind ≡ false
-  pub indent : is_unsupported flag.Indent args_so_far output_kind ≡ false
-  pub keep_going : is_unsupported flag.KeepGoing args_so_far output_kind ≡ false
-  pub jobs : is_unsupported flag.Jobs args_so_far output_kind ≡ false
-  pub output : is_unsupported flag.Output args_so_far output_kind ≡ false
-  pub unordered : is_unsupported flag.Unordered args_so_far output_kind ≡ false
-
--- the file at this place among the files is standard input
-abbrev pub IsStandardInputAt : (input_index : ℕ) → (inputs : Vec (String Global) Global) → Type 0
-IsStandardInputAt input_index inputs = (name : String Global) × (name ≡ get_or inputs.items input_index name) × (string_bytes name ≡ codes "-")
-
--- two files, at most one of which is standard input
-abbrev pub AreTwoFiles : (inputs : Vec (String Global) Global) → Type 0
-AreTwoFiles inputs = (vec_len inputs ≡ 2) × ((IsStandardInputAt 0 inputs × IsStandardInputAt 1 inputs) → ⊥)
-
--- the mode has the options, and a comparison is of two files
-pub record OptionsFitMode (args_so_far : ArgsSoFar) (output : Output) : Type 0 where
-  pub files : args_so_far.purpose ≡ purpose.Comparison → AreTwoFiles args_so_far.inputs
-  pub options : AllOptionsSupported args_so_far output
-
--- why they do not fit
-abbrev pub IsOptionError : ArgsSoFar → Output → UsageError → Type 0
-IsOptionError args_so_far output (usage_error.UnsupportedOption flag purpose shown_output) =
-    (purpose ≡ args_so_far.purpose)
-    × (shown_output ≡ output) × (is_unsupported flag args_so_far output ≡ true)
-IsOptionError args_so_far output usage_error.NeedsTwoFiles = (args_so_far.purpose ≡ purpose.Comparison)
-    × (vec_len args_so_far.inputs ≢ 2)
-IsOptionError args_so_far output usage_error.StandardInputTwice =
-    (args_so_far.purpose ≡ purpose.Comparison) × IsStandardInputAt 0 args_so_far.inputs × IsStandardInputAt 1 args_so_far.inputs
-IsOptionError args_so_far output error_kind = ⊥
-
--- the option whose value is missing
-abbrev pub option_without_value : ExpectedArg → Option Flag
-option_without_value OutputFile = Some flag.Output
-option_without_value IndentWidth = Some flag.Indent
-option_without_value JobCount = Some flag.Jobs
-option_without_value expected_arg = None
-
--- ---- what is asked for
-
--- the task of a mode with the options
-abbrev pub requested_task : ArgsSoFar → (named_kind : Output) → Task
-requested_task args_so_far named_kind = record {
-  preprocessing = requested_preprocessing args_so_far.rejects_duplicates args_so_far.reads_v1;
-  output = with_criterion args_so_far.is_canonical named_kind;
-  diagnostics = Text;
-}
-
-abbrev pub requested_options : ArgsSoFar → Options
-requested_options args_so_far = record {
-  doubles = accepted_doubles args_so_far.is_strict;
-  key_order = requested_key_order args_so_far.purpose args_so_far.sorts_keys args_so_far.is_strict;
-  layout = requested_layout args_so_far.is_strict;
-}
-
--- the files, or the standard stream if there is none
-abbrev pub or_standard_input : (names : List (List ℕ)) → List (List ℕ)
-or_standard_input [] = codes "-" ∷ []
-or_standard_input (name ∷ names) = name ∷ names
-
--- the run that the arguments request
-pub record IsInvocationOf (args_so_far : ArgsSoFar) (invocation : Invocation) : Type 0 where
-  pub named_kind : Output
-  pub is_named_kind : args_so_far.output_kind ≡ Some named_kind
-  pub no_missing_value : option_without_value args_so_far.expected_arg ≡ None
-  pub options_fit_mode : OptionsFitMode args_so_far (with_criterion args_so_far.is_canonical named_kind)
-  pub task : invocation.task ≡ requested_task args_so_far named_kind
-  pub options : invocation.options ≡ requested_options args_so_far
-  pub on_refusal : invocation.on_refusal ≡ (if args_so_far.keeps_going then KeepGoing else Stop)
-  pub purpose : invocation.purpose ≡ args_so_far.purpose
-  pub unordered : invocation.is_unordered ≡ args_so_far.is_unordered
-  pub input : invocation.input ≡ args_so_far.input
-  pub indent : invocation.indent ≡ args_so_far.indent
-  pub output : string_bytes invocation.output ≡ option_map_or string_bytes args_so_far.output (codes "-")
-  pub inputs : map string_bytes invocation.inputs.items ≡ or_standard_input (map string_bytes args_so_far.inputs.items)
-
--- what is wrong with all arguments, if each was accepted
-abbrev pub IsErrorOfAllArgs : ArgsSoFar → UsageError → Type 0
-IsErrorOfAllArgs args_so_far (usage_error.BadOptionValue flag) = option_without_value args_so_far.expected_arg ≡ Some flag
-IsErrorOfAllArgs args_so_far usage_error.NoMode = args_so_far.output_kind ≡ None
-IsErrorOfAllArgs args_so_far error_kind = (named_kind : Output) × (args_so_far.output_kind ≡ Some named_kind)
-    × IsOptionError args_so_far (with_criterion args_so_far.is_canonical named_kind) error_kind
-
--- the result for all arguments, if no help was requested: a run, or what is wrong
-abbrev pub IsRequestOf : ArgsSoFar → Request → Type 0
-IsRequestOf args_so_far (Run invocation) = IsInvocationOf args_so_far invocation
-IsRequestOf args_so_far (InvalidUsage invalid_usage) = IsErrorOfAllArgs args_so_far invalid_usage.usage_error
-    × (invalid_usage.command ≡ command_of args_so_far.input args_so_far.output_kind)
-IsRequestOf args_so_far request = ⊥
-
--- the argument is among the arguments, and this is the state after those before it
-pub record IsArgAfter (args : List (List ℕ)) (args_so_far : ArgsSoFar) (arg : List ℕ) : Type 0 where
-  pub arg_index : ℕ
-  pub in_range : arg_index < length args
-  pub is_arg : get_or args arg_index arg ≡ arg
-  pub parsed_before : AreParsed (take arg_index args) args_so_far
-
--- what each request says of the arguments: a run is what all of them request, and any other request is that of the
--- first argument that requests help, or is not accepted, or that of all arguments
-abbrev pub IsRequestedBy : (args : List (List ℕ)) → Request → Type 0
-IsRequestedBy args (Run invocation) =
-    Contains args (mode_arg invocation.purpose invocation.task.output)
-    × IsOutputFor invocation.purpose invocation.options.key_order invocation.task.output
-    × ((args_so_far : ArgsSoFar) × AreParsed args args_so_far × IsInvocationOf args_so_far invocation)
-IsRequestedBy args (Help command) = (args_so_far : ArgsSoFar) × (arg : List ℕ) × IsArgAfter args args_so_far arg
-    × RequestsHelp args_so_far arg
-    × (command ≡ command_of args_so_far.input args_so_far.output_kind)
-IsRequestedBy args Version = Contains args (codes "--version") ⊎ Contains args (codes "-v")
-IsRequestedBy args (InvalidUsage invalid_usage) = (args_so_far : ArgsSoFar)
-    × (invalid_usage.command ≡ command_of args_so_far.input args_so_far.output_kind)
-    × ((AreParsed args args_so_far × IsErrorOfAllArgs args_so_far invalid_usage.usage_error)
-    ⊎ (IsArgAfter args args_so_far (string_bytes invalid_usage.arg)
-    × IsUsageError args_so_far (string_bytes invalid_usage.arg) invalid_usage.usage_error))
-
 -- ---- for private clauses
 
-abbrev pub IsInvalidUsageRequest : UsageError → Command → Request → Type 0
-IsInvalidUsageRequest error_kind command (InvalidUsage invalid_usage) = (invalid_usage.usage_error ≡ error_kind)
-    × (invalid_usage.command ≡ command)
-IsInvalidUsageRequest error_kind command request = ⊥
-
--- the number of an option is in the text, or the option occurs twice
-abbrev pub IsParsedCount : Flag → (maximum : ℕ) → ArgsSoFar → (text : List ℕ) → arguments.ParsedArg → Type 0
-IsParsedCount flag maximum args_so_far text parsed.AcceptedArg = Unit {0}
-IsParsedCount flag maximum args_so_far text (parsed.InvalidUsage error_kind) =
+-- the value of an option is in the text, or the option occurs twice
+abbrev pub IsParsedValue : Flag → (IsInvalid : List ℕ → Type 0) → ArgsSoFar → (text : List ℕ) → arguments.ParsedArg → Type 0
+IsParsedValue flag IsInvalid args_so_far text parsed.AcceptedArg = Unit {0}
+IsParsedValue flag IsInvalid args_so_far text (parsed.InvalidUsage error_kind) =
     ((error_kind ≡ usage_error.OptionTwice flag) × (has_flag flag args_so_far ≡ true))
-    ⊎ ((error_kind ≡ usage_error.BadOptionValue flag) × IsInvalidCount maximum text)
-IsParsedCount flag maximum args_so_far text parsed_arg = ⊥
+    ⊎ ((error_kind ≡ usage_error.BadOptionValue flag) × IsInvalid text)
+IsParsedValue flag IsInvalid args_so_far text parsed_arg = ⊥
 
 abbrev pub IsParsedOutputFile : ArgsSoFar → arguments.ParsedArg → Type 0
 IsParsedOutputFile args_so_far parsed.AcceptedArg = Unit {0}

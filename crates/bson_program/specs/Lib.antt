@@ -2,6 +2,7 @@ pub mod Messages
 pub mod UsageErrors
 pub mod Flags
 pub mod Invocation
+pub mod Requests
 pub mod RunFailures
 pub mod Dump
 pub mod SingleText

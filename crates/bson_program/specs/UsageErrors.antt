@@ -2,7 +2,7 @@
 use Rattle.std.specs.Prelude.{ℕ, List, ◌++◌, codes}
 use Rattle.bson_run.specs.declared.task.Criterion.TheVariants.{Canonical}
 use Rattle.bson_run.specs.declared.task.Output.{Output}
-use Rattle.bson_run.specs.declared.task.Output.TheVariants.{Nothing}
+use Rattle.bson_run.specs.declared.task.Output.TheVariants.{Bytes, Nothing}
 use Rattle.bson_program.specs.Flags.{flag_name}
 use Rattle.bson_program.specs.Messages.{escaped_name}
 use Rattle.bson_program.specs.Invocation.{mode_arg}
@@ -25,6 +25,8 @@ command_name command.Encode = codes "bson encode"
 -- the mode that does not have an option, and after it the option because of which it does not
 abbrev pub mode_without_option : Flag → Purpose → Output → List ℕ
 mode_without_option flag.Canonical purpose output = mode_arg purpose output
+mode_without_option flag.KeepGoing purpose Bytes = codes "encode --array"
+mode_without_option flag.Jobs purpose Bytes = codes "encode --array"
 mode_without_option option purpose (Nothing Canonical) = codes "check --canonical"
 mode_without_option option purpose output = mode_arg purpose output
 
@@ -56,6 +58,8 @@ usage_error_message given_command (usage_error.BadOptionValue flag.Indent) arg =
     codes "bson: --indent needs a number from 1 to 16"
 usage_error_message given_command (usage_error.BadOptionValue flag.Jobs) arg =
     codes "bson: --jobs needs a number from 1 to 9999"
+usage_error_message given_command (usage_error.BadOptionValue flag.Diagnostics) arg =
+    codes "bson: --diagnostics needs text or json"
 usage_error_message given_command (usage_error.BadOptionValue flag) arg =
     codes "bson: " ++ flag_name flag ++ codes " needs a file"
 usage_error_message given_command (usage_error.UnsupportedOption flag purpose output) arg =

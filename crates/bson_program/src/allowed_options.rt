@@ -1,10 +1,12 @@
 //! Which options each command has, and whether the arguments use only these.
 ghost use Rattle.std.specs.Prelude.{◌≡◌, IfSome, None, true};
 ghost use Rattle.bson_program.specs.Flags as flags;
-ghost use Rattle.bson_program.specs.Invocation.{AllOptionsSupported, AreTwoFiles, IsOptionError, OptionsFitMode};
+ghost use Rattle.bson_program.specs.Requests.{AllOptionsSupported, AreTwoFiles, InputOptionsSupported, IsOptionError};
+ghost use Rattle.bson_program.specs.Requests.{OptionsFitMode};
 
 use crate::arguments::ArgsSoFar;
 use crate::invocation::{Flag, Input, Purpose, STDIO, UsageError};
+use crate::option_effects::requested_input;
 use bson_convert::mode::Mode;
 use bson_run::task::{Criterion, Output};
 
@@ -47,20 +49,8 @@ fn unsupported_option(args_so_far: &ArgsSoFar, output: Output) -> Option<Flag>
     ensures some { IfSome result (λ flag. flags.is_unsupported flag args_so_far.now output ≡ true) }
     ensures none { result ≡ None → AllOptionsSupported args_so_far.now output }
 {
-    if is_unsupported(Flag::SortKeys, args_so_far, output) {
-        return Some(Flag::SortKeys);
-    }
-    if is_unsupported(Flag::Strict, args_so_far, output) {
-        return Some(Flag::Strict);
-    }
-    if is_unsupported(Flag::V1, args_so_far, output) {
-        return Some(Flag::V1);
-    }
-    if is_unsupported(Flag::NoDuplicateKeys, args_so_far, output) {
-        return Some(Flag::NoDuplicateKeys);
-    }
-    if is_unsupported(Flag::Canonical, args_so_far, output) {
-        return Some(Flag::Canonical);
+    if let Some(flag) = unsupported_input_option(args_so_far, output) {
+        return Some(flag);
     }
     if is_unsupported(Flag::Indent, args_so_far, output) {
         return Some(Flag::Indent);
@@ -77,6 +67,35 @@ fn unsupported_option(args_so_far: &ArgsSoFar, output: Output) -> Option<Flag>
     if is_unsupported(Flag::Unordered, args_so_far, output) {
         return Some(Flag::Unordered);
     }
+    if is_unsupported(Flag::Diagnostics, args_so_far, output) {
+        return Some(Flag::Diagnostics);
+    }
+    None
+}
+
+// Returns the first option of the input that is set, and that the command does not have.
+fn unsupported_input_option(args_so_far: &ArgsSoFar, output: Output) -> Option<Flag>
+    ensures some { IfSome result (λ flag. flags.is_unsupported flag args_so_far.now output ≡ true) }
+    ensures none { result ≡ None → InputOptionsSupported args_so_far.now output }
+{
+    if is_unsupported(Flag::SortKeys, args_so_far, output) {
+        return Some(Flag::SortKeys);
+    }
+    if is_unsupported(Flag::Strict, args_so_far, output) {
+        return Some(Flag::Strict);
+    }
+    if is_unsupported(Flag::V1, args_so_far, output) {
+        return Some(Flag::V1);
+    }
+    if is_unsupported(Flag::NoDuplicateKeys, args_so_far, output) {
+        return Some(Flag::NoDuplicateKeys);
+    }
+    if is_unsupported(Flag::Canonical, args_so_far, output) {
+        return Some(Flag::Canonical);
+    }
+    if is_unsupported(Flag::Array, args_so_far, output) {
+        return Some(Flag::Array);
+    }
     None
 }
 
@@ -84,9 +103,8 @@ fn unsupported_option(args_so_far: &ArgsSoFar, output: Output) -> Option<Flag>
 fn is_unsupported(flag: Flag, args_so_far: &ArgsSoFar, output: Output) -> bool
     ensures { result ≡ flags.is_unsupported flag args_so_far.now output }
 {
-    if purpose_allows(flag, args_so_far.purpose)
-        && command_allows(flag, args_so_far.input, output)
-    {
+    let input = requested_input(args_so_far.reads_array, args_so_far.input, output);
+    if purpose_allows(flag, args_so_far.purpose) && command_allows(flag, input, output) {
         false
     } else {
         args_so_far.has_flag(flag)
@@ -99,9 +117,10 @@ fn purpose_allows(flag: Flag, purpose: Purpose) -> bool
 {
     match flag {
         Flag::SortKeys | Flag::Indent => purpose == Purpose::Output,
-        Flag::KeepGoing | Flag::Jobs | Flag::Output => purpose != Purpose::Comparison,
+        Flag::KeepGoing | Flag::Jobs | Flag::Output | Flag::Diagnostics => purpose != Purpose::Comparison,
         Flag::Unordered => purpose == Purpose::Comparison,
         Flag::Strict | Flag::V1 | Flag::NoDuplicateKeys | Flag::Canonical => true,
+        Flag::Array => true,
     }
 }
 
@@ -118,6 +137,8 @@ fn command_allows(flag: Flag, input: Input, output: Output) -> bool
         Flag::Canonical => input != Input::Documents && is_check(output),
         Flag::Indent => input == Input::Text && writes_form(output),
         Flag::KeepGoing | Flag::Jobs => input != Input::Text,
+        Flag::Array => input == Input::Text && reads_texts(input, output),
+        Flag::Diagnostics => input != Input::Documents,
         Flag::Unordered => true,
     }
 }

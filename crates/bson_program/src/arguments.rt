@@ -1,22 +1,16 @@
 //! The arguments after the program's name, parsed one after another.
 ghost use Rattle.std.specs.Prelude.{◌≡◌, ◌⊎◌, None, OnOk, IfOk, IfSome, string_bytes, if◌then◌else◌, vec_len};
 ghost use Rattle.bson_program.specs.Flags.{has_flag};
-ghost use Rattle.bson_program.specs.Invocation.{command_of, input_after_arg, is_text, NamesMode};
-ghost use Rattle.bson_program.specs.Invocation.{IsRequestOf, IsInvalidUsageRequest, IsInitialState, IsValueInArg, IsParsedCount, IsParsedOutputFile, IsParsed, SetsOption, AcceptsArg};
+ghost use Rattle.bson_program.specs.Invocation.{command_of, format_name, input_after_arg, is_text, NamesMode};
+ghost use Rattle.bson_program.specs.Invocation.{IsInitialState, IsInvalidCount, IsInvalidFormat, IsParsed, IsParsedOutputFile};
+ghost use Rattle.bson_program.specs.Invocation.{IsParsedValue, IsValueInArg, SetsOption, AcceptsArg};
 ghost use Rattle.bson_run.specs.TaskNames.{output_name};
 
-use crate::allowed_options::find_option_error;
-use crate::invocation::{
-    Command, Flag, Input, InvalidUsage, Invocation, Purpose, Request, STDIO, UsageError,
-};
-use crate::option_effects::{
-    accepted_doubles, option_without_value, requested_key_order, requested_layout,
-    requested_preprocessing, set_flag, with_criterion,
-};
-use crate::option_values::{input_files, output_file_in, parse_count, starts_as_option};
-use bson::extjson::Options;
+use crate::invocation::{Command, Flag, Input, Purpose, STDIO, UsageError};
+use crate::option_effects::set_flag;
+use crate::option_values::{output_file_in, parse_count, parse_format, starts_as_option};
 use bson_convert::mode::Mode;
-use bson_run::task::{DiagnosticFormat, OnRefusal, Output, Task};
+use bson_run::task::{DiagnosticFormat, Output};
 use std::alloc::{AllocError, Global};
 
 /// The greatest number of spaces.
@@ -27,7 +21,7 @@ const MAX_JOBS: usize = 9999;
 /// The meaning of the arguments so far.
 #[derive(Drop)]
 pub struct ArgsSoFar {
-    alloc: Global,
+    pub alloc: Global,
     pub output_kind: Option<Output>,
     pub purpose: Purpose,
     pub input: Input,
@@ -38,6 +32,8 @@ pub struct ArgsSoFar {
     pub reads_v1: bool,
     pub is_canonical: bool,
     pub is_unordered: bool,
+    pub reads_array: bool,
+    pub diagnostics: Option<DiagnosticFormat>,
     pub indent: Option<usize>,
     pub jobs: Option<usize>,
     pub output: Option<String>,
@@ -55,6 +51,8 @@ pub enum ExpectedArg {
     IndentWidth,
     /// The number of `--jobs`.
     JobCount,
+    /// The format of `--diagnostics`.
+    FormatName,
     /// Not an option.
     Operand,
 }
@@ -88,6 +86,8 @@ impl ArgsSoFar {
             reads_v1: false,
             is_canonical: false,
             is_unordered: false,
+            reads_array: false,
+            diagnostics: None,
             indent: None,
             jobs: None,
             output: None,
@@ -124,6 +124,8 @@ impl ArgsSoFar {
             Flag::Jobs => self.jobs.is_some(),
             Flag::Output => self.output.is_some(),
             Flag::Unordered => self.is_unordered,
+            Flag::Array => self.reads_array,
+            Flag::Diagnostics => self.diagnostics.is_some(),
         }
     }
 
@@ -147,6 +149,10 @@ impl ArgsSoFar {
                 self.expected_arg = ExpectedArg::AnyArg;
                 Ok(self.parse_jobs_value(arg))
             }
+            ExpectedArg::FormatName => {
+                self.expected_arg = ExpectedArg::AnyArg;
+                Ok(self.parse_diagnostics_value(arg))
+            }
             ExpectedArg::Operand => self.parse_operand(arg),
         }
     }
@@ -164,6 +170,7 @@ impl ArgsSoFar {
             "-o" | "--output" => self.expect_arg(ExpectedArg::OutputFile),
             "--indent" => self.expect_arg(ExpectedArg::IndentWidth),
             "--jobs" => self.expect_arg(ExpectedArg::JobCount),
+            "--diagnostics" => self.expect_arg(ExpectedArg::FormatName),
             "--keep-going" => Ok(set_flag(&mut self.keeps_going, Flag::KeepGoing)),
             "--sort-keys" => Ok(set_flag(&mut self.sorts_keys, Flag::SortKeys)),
             "--strict" => Ok(set_flag(&mut self.is_strict, Flag::Strict)),
@@ -171,6 +178,7 @@ impl ArgsSoFar {
             "--v1" => Ok(set_flag(&mut self.reads_v1, Flag::V1)),
             "--canonical" => Ok(set_flag(&mut self.is_canonical, Flag::Canonical)),
             "--unordered" => Ok(set_flag(&mut self.is_unordered, Flag::Unordered)),
+            "--array" => Ok(set_flag(&mut self.reads_array, Flag::Array)),
             "--doubles" | "--keep-order" => Ok(ParsedArg::InvalidUsage(UsageError::RemovedOption)),
             "help" => self.parse_help_arg(arg),
             STDIO | "lines" | "decode" | "encode" | "hash" | "same" => self.parse_operand(arg),
@@ -198,7 +206,7 @@ impl ArgsSoFar {
 
     // Accepts an option with its value in the same argument.
     fn parse_option_with_value(&mut self, arg: &str) -> Result<ParsedArg, AllocError>
-        ensures args_so_far { self.new ≡ record self.old { indent = self.new.indent; jobs = self.new.jobs; output = self.new.output } }
+        ensures args_so_far { self.new ≡ record self.old { diagnostics = self.new.diagnostics; indent = self.new.indent; jobs = self.new.jobs; output = self.new.output } }
         ensures parsed { IfOk result (IsValueInArg self.old arg.now) }
     {
         if let Some(count) = arg.strip_prefix("--indent=") {
@@ -206,6 +214,9 @@ impl ArgsSoFar {
         }
         if let Some(count) = arg.strip_prefix("--jobs=") {
             return Ok(self.parse_jobs_value(count));
+        }
+        if let Some(format_name) = arg.strip_prefix("--diagnostics=") {
+            return Ok(self.parse_diagnostics_value(format_name));
         }
         match output_file_in(arg) {
             Some(file_name) => self.parse_output_file(file_name),
@@ -216,7 +227,7 @@ impl ArgsSoFar {
     // Accepts a number of spaces.
     fn parse_indent_value(&mut self, arg: &str) -> ParsedArg
         ensures args_so_far { self.new ≡ record self.old { indent = self.new.indent } }
-        ensures parsed { IsParsedCount Flag.Indent 16 self.old arg.now result }
+        ensures parsed { IsParsedValue Flag.Indent (IsInvalidCount 16) self.old arg.now result }
     {
         if self.indent.is_some() {
             return ParsedArg::InvalidUsage(UsageError::OptionTwice(Flag::Indent));
@@ -232,7 +243,7 @@ impl ArgsSoFar {
     // Accepts a number of jobs.
     fn parse_jobs_value(&mut self, arg: &str) -> ParsedArg
         ensures args_so_far { self.new ≡ record self.old { jobs = self.new.jobs } }
-        ensures parsed { IsParsedCount Flag.Jobs 9999 self.old arg.now result }
+        ensures parsed { IsParsedValue Flag.Jobs (IsInvalidCount 9999) self.old arg.now result }
     {
         if self.jobs.is_some() {
             return ParsedArg::InvalidUsage(UsageError::OptionTwice(Flag::Jobs));
@@ -242,6 +253,24 @@ impl ArgsSoFar {
             ParsedArg::AcceptedArg
         } else {
             ParsedArg::InvalidUsage(UsageError::BadOptionValue(Flag::Jobs))
+        }
+    }
+
+    // Accepts a format of diagnostics.
+    fn parse_diagnostics_value(&mut self, arg: &str) -> ParsedArg
+        ensures args_so_far { self.new ≡ record self.old { diagnostics = self.new.diagnostics } }
+        ensures format { IfSome self.new.diagnostics
+            (λ format. (self.old.diagnostics ≡ Some format) ⊎ (arg.now ≡ format_name format)) }
+        ensures parsed { IsParsedValue Flag.Diagnostics IsInvalidFormat self.old arg.now result }
+    {
+        if self.diagnostics.is_some() {
+            return ParsedArg::InvalidUsage(UsageError::OptionTwice(Flag::Diagnostics));
+        }
+        self.diagnostics = parse_format(arg);
+        if self.diagnostics.is_some() {
+            ParsedArg::AcceptedArg
+        } else {
+            ParsedArg::InvalidUsage(UsageError::BadOptionValue(Flag::Diagnostics))
         }
     }
 
@@ -328,74 +357,4 @@ impl ArgsSoFar {
             ParsedArg::InvalidUsage(UsageError::UnknownMode)
         }
     }
-
-    /// Returns what all arguments request.
-    pub fn into_request(self) -> Result<Request, AllocError>
-        ensures { IfOk result (IsRequestOf self) }
-    {
-        let command = self.command();
-        if let Some(flag) = option_without_value(self.expected_arg) {
-            return Ok(invalid_usage_request(self.alloc, UsageError::BadOptionValue(flag), command));
-        }
-        let Some(named_kind) = self.output_kind else {
-            return Ok(invalid_usage_request(self.alloc, UsageError::NoMode, command));
-        };
-        let output_kind = with_criterion(self.is_canonical, named_kind);
-        if let Some(usage_error) = find_option_error(&self, output_kind) {
-            return Ok(invalid_usage_request(self.alloc, usage_error, command));
-        }
-        let ArgsSoFar {
-            alloc,
-            keeps_going,
-            purpose,
-            input,
-            sorts_keys,
-            is_strict,
-            rejects_duplicates,
-            reads_v1,
-            is_unordered,
-            indent,
-            output,
-            inputs,
-            ..
-        } = self;
-        let output = match output {
-            Some(file_name) => file_name,
-            None => String::from_str(alloc, STDIO)?,
-        };
-        Ok(Request::Run(Invocation {
-            task: Task {
-                preprocessing: requested_preprocessing(rejects_duplicates, reads_v1),
-                output: output_kind,
-                diagnostics: DiagnosticFormat::Text,
-            },
-            options: Options {
-                doubles: accepted_doubles(is_strict),
-                key_order: requested_key_order(purpose, sorts_keys, is_strict),
-                layout: requested_layout(is_strict),
-            },
-            on_refusal: if keeps_going {
-                OnRefusal::KeepGoing
-            } else {
-                OnRefusal::Stop
-            },
-            purpose,
-            is_unordered,
-            input,
-            indent,
-            output,
-            inputs: input_files(alloc, inputs)?,
-        }))
-    }
-}
-
-// Returns what is wrong with all arguments.
-fn invalid_usage_request(alloc: Global, usage_error: UsageError, command: Command) -> Request
-    ensures { IsInvalidUsageRequest usage_error command result }
-{
-    Request::InvalidUsage(InvalidUsage {
-        usage_error,
-        command,
-        arg: String::new(alloc),
-    })
 }

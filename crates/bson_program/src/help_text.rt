@@ -64,7 +64,9 @@ space between. For each it writes one line:
   --no-double-keys        rejects input in which an object has a duplicate key, at any depth
   --canonical             (check) accepts only canonical JSON, byte for byte as `canonical --sort-keys` writes it
   --indent N              (canonical, relaxed) writes each document over several lines, with N spaces for each bracket
+  --array                 (not check --canonical) reads each FILE as one JSON array, whose elements are the documents
   --unordered             (same) ignores the order of values
+  --diagnostics FORMAT    (not same) writes errors as text, the default, or as JSON objects with their positions: json
   -o FILE, --output FILE  (not check, same) writes the output to FILE, as a whole at the end
 
 `bson --help` says more of each option, and lists the statuses.";
@@ -86,6 +88,7 @@ files, and reports the first difference. Blank lines are counted, and write noth
   --keep-going            (not same) skips a rejected line and reports it; without it the run ends there
   --jobs N                (not same) converts N parts of named files at a time
   --unordered             (same) ignores the order of values
+  --diagnostics FORMAT    (not same) writes errors as text, the default, or as JSON objects with their positions: json
   -o FILE, --output FILE  (not check, same) writes the output to FILE, as a whole at the end
 
 `bson --help` says more of each option, and lists the statuses.";
@@ -121,8 +124,11 @@ than 2^31 bytes. Bytes are not written to a terminal.
   --strict                accepts of all doubles only zeros, infinities and NaNs; keys are written in ascending order
   --v1                    also reads three objects of Extended JSON v1
   --no-double-keys        rejects a line in which an object has a duplicate key, at any depth
+  --array                 reads each FILE as one JSON array, whose elements are the documents; not with the two options
+                          below
   --keep-going            skips a rejected line and reports it; without it the run ends there
   --jobs N                converts N parts of named files at a time
+  --diagnostics FORMAT    writes errors as text, the default, or as JSON objects with their positions: json
   -o FILE, --output FILE  writes the output to FILE, as a whole at the end
 
 `bson --help` says more of each option, and lists the statuses.";
@@ -177,12 +183,16 @@ a regular expression has a 0 byte. Each part must have fewer than 2^31 bytes. By
                           `canonical --sort-keys` writes it, with its newline or without; not with the two options above
   --indent N              (canonical, relaxed) writes a document over several lines, one for each member and element,
                           with N spaces for each bracket, N from 1 to 16; it reads as exactly the same tree
+  --array                 (not lines, decode, check --canonical) reads each FILE as one JSON array, as mongoexport writes
+                          it with --jsonArray; the elements are the documents, also with --strict
   --keep-going            (lines, decode, encode; not same) skips a rejected line or document and reports it; a rejected
                           BSON document is skipped if all the bytes of its length are present
   --jobs N                (lines, decode, encode; not same) cuts named files at ends of lines, or at the start of
                           documents, and converts N parts at a time. Output, messages and status are those of one job.
                           Many small files are one job
   --unordered             (same) ignores the order of values: each value must occur as often in both files
+  --diagnostics FORMAT    (not decode, same) writes errors as text, the default, or as JSON objects with their
+                          positions: json
   -o FILE, --output FILE  (not check, same) writes the output to FILE, as a whole at the end; if a run ends early, FILE
                           stays as it was
   -h, --help; -v, --version  after a command, `--help` writes the help of that command alone

@@ -1,9 +1,10 @@
 //! What the arguments request.
 ghost use Rattle.std.specs.Prelude.{◌≡◌, ◌⊎◌, ◌↔◌, IfOk, IsTrue, map, string_bytes};
-ghost use Rattle.bson_program.specs.Invocation.{IsRequestedBy};
+ghost use Rattle.bson_program.specs.Requests.{IsRequestedBy};
 ghost use Rattle.bson_run.specs.declared.task.Criterion.{Criterion};
 
 use crate::arguments::{ArgsSoFar, ParsedArg};
+use crate::request::into_request;
 use bson::extjson::Options;
 use bson_run::task::{OnRefusal, Output, Task};
 use std::alloc::{AllocError, Global};
@@ -98,6 +99,10 @@ pub enum Flag {
     Output,
     /// `--unordered`.
     Unordered,
+    /// `--array`.
+    Array,
+    /// `--diagnostics FORMAT`.
+    Diagnostics,
 }
 
 /// How a run uses the output.
@@ -135,6 +140,8 @@ pub struct Invocation {
     pub purpose: Purpose,
     /// Whether a comparison ignores the order of values.
     pub is_unordered: bool,
+    /// Whether each input is a JSON array, of whose elements each is a text.
+    pub reads_array: bool,
     /// The format of the input.
     pub input: Input,
     /// How many spaces indent the output for each bracket, if it is written over several lines.
@@ -185,5 +192,5 @@ pub fn parse_arguments(alloc: Global, args: Vec<String>) -> Result<Request, Allo
             }
         }
     }
-    args_so_far.into_request()
+    into_request(args_so_far)
 }

@@ -1,14 +1,15 @@
-//! The effects of the options: the output, the preprocessing, which doubles have a text, the order of
-//! keys, the layout, and that an option occurs once.
+//! The effects of the options: the output, the preprocessing, the input, which doubles have a text, the order
+//! of keys, the layout, the format of diagnostics, and that an option occurs once.
 ghost use Rattle.std.specs.Prelude.{◌≡◌, true, if◌then◌else◌};
-ghost use Rattle.bson_program.specs.Invocation.{option_without_value, accepted_doubles, with_criterion};
-ghost use Rattle.bson_program.specs.Invocation.{requested_key_order, requested_layout, requested_preprocessing};
+ghost use Rattle.bson_program.specs.Flags.{requested_input};
+ghost use Rattle.bson_program.specs.Requests.{option_without_value, accepted_doubles, with_criterion};
+ghost use Rattle.bson_program.specs.Requests.{requested_diagnostics, requested_key_order, requested_layout, requested_preprocessing};
 
 use crate::arguments::{ExpectedArg, ParsedArg};
-use crate::invocation::{Flag, Purpose, UsageError};
+use crate::invocation::{Flag, Input, Purpose, UsageError};
 use bson::extjson::{Doubles, KeyOrder};
 use bson_model::options::DuplicateKeys;
-use bson_run::task::{Criterion, Output, Preprocessing};
+use bson_run::task::{Criterion, DiagnosticFormat, Output, Preprocessing};
 use bson_scalar::form::Layout;
 
 /// Sets what an option sets, unless it occurs twice.
@@ -32,6 +33,7 @@ pub fn option_without_value(expected_arg: ExpectedArg) -> Option<Flag>
         ExpectedArg::OutputFile => Some(Flag::Output),
         ExpectedArg::IndentWidth => Some(Flag::Indent),
         ExpectedArg::JobCount => Some(Flag::Jobs),
+        ExpectedArg::FormatName => Some(Flag::Diagnostics),
         ExpectedArg::AnyArg | ExpectedArg::Operand => None,
     }
 }
@@ -91,5 +93,25 @@ pub fn requested_preprocessing(rejects_duplicates: bool, reads_v1: bool) -> Prep
     Preprocessing {
         duplicate_keys,
         v1: reads_v1,
+    }
+}
+
+/// Returns how the input is read: `encode` reads lines, but an array is one text.
+pub fn requested_input(reads_array: bool, input: Input, output: Output) -> Input
+    ensures { result ≡ requested_input reads_array input output }
+{
+    match (input, output) {
+        (Input::Lines, Output::Bytes) if reads_array => Input::Text,
+        _ => input,
+    }
+}
+
+/// Returns how diagnostics are written: as text if no option says how.
+pub fn requested_diagnostics(diagnostics: Option<DiagnosticFormat>) -> DiagnosticFormat
+    ensures { result ≡ requested_diagnostics diagnostics }
+{
+    match diagnostics {
+        Some(format) => format,
+        None => DiagnosticFormat::Text,
     }
 }

@@ -1,9 +1,11 @@
 //! The values of options, and the files.
 ghost use Rattle.std.specs.Prelude.{◌≡◌, ◌<◌, ◌≤◌, ◌==◌, ◌||◌, ℕ, List, None, IfOk, IfSome, map, string_bytes, slice_index};
 ghost use Rattle.std.specs.Fmt.{decimal};
-ghost use Rattle.bson_program.specs.Invocation.{or_standard_input, IsOutputOption, IsInvalidCount};
+ghost use Rattle.bson_program.specs.Invocation.{format_name, IsInvalidCount, IsInvalidFormat, IsOutputOption};
+ghost use Rattle.bson_program.specs.Requests.{or_standard_input};
 
 use crate::invocation::STDIO;
+use bson_run::task::DiagnosticFormat;
 use std::alloc::{AllocError, Global};
 
 /// Returns the files that are read: standard input if none is named.
@@ -36,6 +38,18 @@ fn starts_with_sign_or_zero(arg: &str) -> bool
     ensures { result ≡ ((slice_index arg.now 0 == 43) || (slice_index arg.now 0 == 48)) }
 {
     arg.starts_with('+') || arg.starts_with('0')
+}
+
+/// Parses the name of a format of diagnostics.
+pub fn parse_format(arg: &str) -> Option<DiagnosticFormat>
+    ensures some { IfSome result (λ format. arg.now ≡ format_name format) }
+    ensures none { result ≡ None → IsInvalidFormat arg.now }
+{
+    match arg {
+        "text" => Some(DiagnosticFormat::Text),
+        "json" => Some(DiagnosticFormat::Json),
+        _ => None,
+    }
 }
 
 /// Returns whether an argument begins as an option.

@@ -81,6 +81,7 @@ fn bad_option_value(alloc: Global, flag: Flag) -> Result<String, AllocError>
     match flag {
         Flag::Indent => String::from_str(alloc, "bson: --indent needs a number from 1 to 16"),
         Flag::Jobs => String::from_str(alloc, "bson: --jobs needs a number from 1 to 9999"),
+        Flag::Diagnostics => String::from_str(alloc, "bson: --diagnostics needs text or json"),
         _ => {
             let name = flag_name(flag);
             format!(in alloc; "bson: {name} needs a file")
@@ -161,6 +162,7 @@ fn mode_without_option(flag: Flag, purpose: Purpose, output: Output) -> &'static
 {
     match output {
         Output::Nothing(Criterion::Canonical) if flag != Flag::Canonical => "check --canonical",
+        Output::Bytes if flag == Flag::KeepGoing || flag == Flag::Jobs => "encode --array",
         other_output => mode_arg(purpose, other_output),
     }
 }
@@ -213,5 +215,7 @@ fn flag_name(flag: Flag) -> &'static str
         Flag::Jobs => "--jobs",
         Flag::Output => "--output",
         Flag::Unordered => "--unordered",
+        Flag::Array => "--array",
+        Flag::Diagnostics => "--diagnostics",
     }
 }

@@ -79,7 +79,7 @@ position_tokens position = line_tokens position.line ++ number_tokens (codes "co
     ++ number_tokens (codes "offset") position.offset
 
 abbrev pub path_tokens : Option (List PathSegment) → List Token
-path_tokens None = token.key (codes "path") ∷ token.null ∷ token.key (codes "pointer") ∷ token.null ∷ []
+path_tokens None = number_tokens (codes "path") None ++ number_tokens (codes "pointer") None
 path_tokens (Some path) = (token.key (codes "path") ∷ token.begin_array ∷ []) ++ segment_tokens path
     ++ token.end_array ∷ token.key (codes "pointer") ∷ token.string (json_pointer path) ∷ []
 

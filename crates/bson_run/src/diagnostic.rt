@@ -1,5 +1,5 @@
 //! Diagnostics on rejected lines and texts: as messages, and as JSON objects.
-ghost use Rattle.std.specs.Prelude.{◌≡◌, ◌++◌, IfOk, OnOk, Some, None, codes, map, option_map, string_bytes};
+ghost use Rattle.std.specs.Prelude.{◌≡◌, ◌++◌, [], IfOk, OnOk, Some, None, codes, map, option_map, string_bytes};
 ghost use Rattle.std.specs.Fmt.{decimal};
 ghost use Rattle.std.specs.List.{flat_map};
 ghost use Rattle.std.specs.Str.{chars};
@@ -127,10 +127,8 @@ fn write_no_path(writer: &mut Writer) -> Result<(), AllocError>
     ensures added { OnOk result (writer.new.tokens ≡ writer.old.tokens ++ path_tokens None) }
     ensures before { writer.new.before ≡ writer.old.before }
 {
-    writer.key("path")?;
-    writer.null()?;
-    writer.key("pointer")?;
-    writer.null()
+    write_number(writer, "path", None)?;
+    write_number(writer, "pointer", None)
 }
 
 // Writes the members of the path to a value.

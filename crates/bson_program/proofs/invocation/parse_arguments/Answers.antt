@@ -1,7 +1,8 @@
 use Rattle.std.proofs.Common.{◌≡◌, ◌∙◌, None, ap, arith, inr, length, map, string_bytes, subst, sym, take}
 use Rattle.std.proofs.lemmas.List.{length-map, take_all}
 use Rattle.std.specs.Option.{IfSome}
-use Rattle.bson_program.specs.Invocation.{no_args, AreParsed, IsArgAfter, IsUsageError}
+use Rattle.bson_program.specs.Invocation.{no_args, AreParsed, IsUsageError}
+use Rattle.bson_program.specs.Requests.{IsArgAfter}
 use Rattle.bson_program.specs.declared.arguments.ArgsSoFar.{ArgsSoFar}
 use Rattle.bson_program.proofs.Asking.{answer, following, help_behind, more_given, refused_behind, still_there, version_there}
 use Rattle.bson_program.proofs.Asking.{word_there, IsThere}

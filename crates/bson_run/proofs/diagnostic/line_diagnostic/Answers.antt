@@ -18,8 +18,8 @@ returns-in-Text c =
     subst (λ format. IsDiagnostic format number fault text (string_bytes line)) (sym c.in-Text.is)
     (explanation, c.in_ok-explanation.ensures, e ∙ ap (λ m. codes "bson: line " ++ decimal number ++ codes ": " ++ m ++ newline) message))
 
-pub returns-in-Json : goal.returns-in-Json
-returns-in-Json c =
+pub returns : goal.returns
+returns c =
     let number = c.args.number in
     let fault = c.args.fault.now in
     let text = c.args.text.now in
