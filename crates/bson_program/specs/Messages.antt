@@ -123,20 +123,19 @@ IsFailureMessage (failure.Document file_name run_end) line = line ≡ document_m
 -- ---- what stopped a run, as a JSON object
 
 -- the beginning of an object, with the name of its file as the first member
+abbrev pub file_tokens : (file_name : List ℕ) → List Token
+file_tokens file_name = token.begin_object ∷ token.key (codes "file") ∷ token.string file_name ∷ []
+
 abbrev pub file_member : (file_name : List ℕ) → List ℕ
-file_member file_name = print (token.begin_object ∷ token.key (codes "file") ∷ token.string file_name ∷ [])
+file_member file_name = print (file_tokens file_name)
 
 -- an object with this first member
 abbrev pub with_json_file : (file_name json : List ℕ) → List ℕ
 with_json_file file_name json = file_member file_name ++ codes "," ++ drop 1 json
 
 -- the name of the file, the code, and the message without the program's name
-abbrev pub failure_tokens : (file_name code message : List ℕ) → List Token
-failure_tokens file_name code message = token.begin_object ∷ token.key (codes "file") ∷ token.string file_name
-    ∷ message_tokens code message
-
 abbrev pub failure_object : (file_name code message : List ℕ) → List ℕ
-failure_object file_name code message = print (failure_tokens file_name code message)
+failure_object file_name code message = print (file_tokens file_name ++ message_tokens code message)
 
 -- a file can't be read or written
 abbrev pub IsFileFailureObject : (code verb file_name stream : List ℕ) → Option Error → (line : List ℕ) → Type 0

@@ -38,16 +38,18 @@ IsWriterFailure invocation diagnostics_error output_error (Output file_name erro
     × (error ≡ Some cause))
 IsWriterFailure invocation diagnostics_error output_error failure = ⊥
 
--- the name before diagnostics: that of their file, or for documents of standard input that of the program; for JSON
--- objects the name as it is given
+-- the name before diagnostics: that of a file, or of the program; for JSON objects the name as it is given
+abbrev pub diagnostics_prefix : DiagnosticFormat → (file_name : List ℕ) → List ℕ
+diagnostics_prefix Text file_name = message_prefix file_name
+diagnostics_prefix Json file_name = file_name
+
+-- messages on lines of standard input have none
 abbrev pub IsDiagnosticsPrefix : DiagnosticFormat → invocation.Input → (file_name : List ℕ)
     → Option (String Global) → Type 0
-IsDiagnosticsPrefix Json input file_name None = ⊥
-IsDiagnosticsPrefix Json input file_name (Some diagnostics_prefix) = string_bytes diagnostics_prefix ≡ file_name
-IsDiagnosticsPrefix Text input file_name None = (is_standard_stream file_name ≡ true) × (input ≢ Documents)
-IsDiagnosticsPrefix Text input file_name (Some diagnostics_prefix) =
-    (string_bytes diagnostics_prefix ≡ message_prefix file_name)
-    × (is_standard_stream file_name ≡ true → input ≡ Documents)
+IsDiagnosticsPrefix format input file_name None = (format ≡ Text) × (is_standard_stream file_name ≡ true)
+    × (input ≢ Documents)
+IsDiagnosticsPrefix format input file_name (Some prefix) = (string_bytes prefix ≡ diagnostics_prefix format file_name)
+    × (format ≡ Text → is_standard_stream file_name ≡ true → input ≡ Documents)
 
 -- the diagnostics for a file of this name
 abbrev pub diagnostics_of_file : DiagnosticFormat → Option (String Global) → (diagnostics : List ℕ) → List ℕ
@@ -58,7 +60,7 @@ diagnostics_of_file format (Some file_name) diagnostics = with_file_names format
 abbrev pub IsReportIn : DiagnosticFormat → LineRun → conversion.Error → (report : List ℕ) → Type 0
 IsReportIn Text line_run fault report = IsPositionMessage (buffered_text line_run.state) fault report
 IsReportIn Json line_run fault report =
-    IsDiagnostic Json (line_number_of line_run) fault (buffered_text line_run.state) report
+    IsDiagnostic line_run.task.diagnostics (line_number_of line_run) fault (buffered_text line_run.state) report
 
 abbrev pub IsLineReport : LineRun → conversion.Error → (report : List ℕ) → Type 0
 IsLineReport line_run fault report = IsReportIn line_run.task.diagnostics line_run fault report

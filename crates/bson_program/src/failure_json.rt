@@ -1,12 +1,15 @@
 //! What stopped a run, as a JSON object on one line, and the names of files in these objects.
-ghost use Rattle.std.specs.Prelude.{◌≡◌, ◌++◌, IfOk, OnOk, codes, string_bytes};
+ghost use Rattle.std.specs.Prelude.{◌≡◌, ◌++◌, [], IfOk, OnOk, codes, string_bytes};
 ghost use Rattle.std.specs.Str.{trim_end};
-ghost use Rattle.bson_program.specs.Messages.{IsFailureObject, IsFileFailureObject, failure_object, file_member, with_json_file};
+ghost use Rattle.json.specs.Print.{print};
+ghost use Rattle.bson_program.specs.Messages.{IsFailureObject, IsFileFailureObject, failure_object, file_member};
+ghost use Rattle.bson_program.specs.Messages.{file_tokens, with_json_file};
 
 use crate::invocation::STDIO;
 use crate::messages::{cause_suffix, document_error_message, show_name};
 use crate::run::RunFailure;
 use bson_convert::error;
+use bson_run::diagnostic::write_message;
 use json::Writer;
 use std::alloc::{AllocError, Global};
 use std::io::Error;
@@ -84,18 +87,30 @@ fn failure_object(
     ensures { IfOk result (λ line. string_bytes line ≡ failure_object file_name.now code.now message.now) }
 {
     let mut writer = Writer::new(Vec::new(alloc));
+    write_file(&mut writer, file_name)?;
+    write_message(&mut writer, code, message)?;
+    Ok(into_text(writer))
+}
+
+// Begins an object, and writes the name of the file.
+fn write_file(writer: &mut Writer, file_name: &str) -> Result<(), AllocError>
+    ensures added { OnOk result (writer.new.tokens ≡ writer.old.tokens ++ file_tokens file_name.now) }
+    ensures before { writer.new.before ≡ writer.old.before }
+{
     writer.begin_object()?;
     writer.key("file")?;
-    writer.string(file_name)?;
-    writer.key("code")?;
-    writer.string(code)?;
-    writer.key("message")?;
-    writer.string(message)?;
-    writer.end_object()?;
-    let Ok(object) = String::from_utf8(writer.into_inner()) else {
+    writer.string(file_name)
+}
+
+// Returns the text that was written.
+fn into_text(writer: Writer) -> String
+    requires { writer.before ≡ [] }
+    ensures { string_bytes result ≡ print writer.tokens }
+{
+    let Ok(text) = String::from_utf8(writer.into_inner()) else {
         unreachable!();
     };
-    Ok(object)
+    text
 }
 
 // Returns the object of a rejected text with its file, without the newline.
@@ -115,13 +130,8 @@ fn file_member(alloc: Global, file_name: &str) -> Result<String, AllocError>
     ensures { IfOk result (λ member. string_bytes member ≡ file_member file_name.now) }
 {
     let mut writer = Writer::new(Vec::new(alloc));
-    writer.begin_object()?;
-    writer.key("file")?;
-    writer.string(file_name)?;
-    let Ok(member) = String::from_utf8(writer.into_inner()) else {
-        unreachable!();
-    };
-    Ok(member)
+    write_file(&mut writer, file_name)?;
+    Ok(into_text(writer))
 }
 
 /// Appends a JSON object, with the name of its file as the first member.

@@ -1,6 +1,10 @@
 //! A run over files: which files are opened, and the error if that fails.
 ghost use Rattle.std.specs.Prelude.{◌≡◌, ◌⊎◌, [], IfErr, IfOk, string_bytes};
+ghost use Rattle.bson_run.specs.Diagnostic.{IsDiagnostic};
+ghost use Rattle.bson_run.specs.ErrorMessages.{IsPositionMessage};
+ghost use Rattle.bson_run.specs.Lines.{buffered_text, line_number_of};
 ghost use Rattle.bson_program.specs.RunFailures.{IsDiagnosticsPrefix, IsInputFailure, IsLineReport, IsWriterFailure};
+ghost use Rattle.bson_program.specs.RunFailures.{diagnostics_prefix};
 
 use crate::advice::advice_for;
 use crate::digests::hasher_for;
@@ -16,7 +20,7 @@ use bson_codec::run_end::RunEnd;
 use bson_convert::error;
 use bson_run::lines::{Counts, LineRun};
 use bson_run::task::DiagnosticFormat;
-use std::alloc::Global;
+use std::alloc::{AllocError, Global};
 use std::fs;
 use std::fs::{File, Metadata};
 use std::io::{Error, IsTerminal};
@@ -206,12 +210,28 @@ fn run_over_lines<'a>(
 fn error_report_in(alloc: Global, line_run: &LineRun, fault: &error::Error) -> String
     ensures { IsLineReport line_run.now fault.now (string_bytes result) ⊎ (string_bytes result ≡ []) }
 {
-    let report = match line_run.task.diagnostics {
-        DiagnosticFormat::Text => line_run.place(alloc, fault),
-        DiagnosticFormat::Json => line_run.diagnostic(alloc, fault),
-    };
-    match report {
-        Ok(report) => report,
+    match line_run.task.diagnostics {
+        DiagnosticFormat::Text => position_message_in(alloc, line_run, fault),
+        DiagnosticFormat::Json => error_json_in(alloc, line_run, fault),
+    }
+}
+
+fn position_message_in(alloc: Global, line_run: &LineRun, fault: &error::Error) -> String
+    ensures { IsPositionMessage (buffered_text line_run.now.state) fault.now (string_bytes result)
+        ⊎ (string_bytes result ≡ []) }
+{
+    match line_run.place(alloc, fault) {
+        Ok(position_message) => position_message,
+        Err(_) => String::new(alloc),
+    }
+}
+
+fn error_json_in(alloc: Global, line_run: &LineRun, fault: &error::Error) -> String
+    ensures { IsDiagnostic line_run.now.task.diagnostics (line_number_of line_run.now) fault.now
+        (buffered_text line_run.now.state) (string_bytes result) ⊎ (string_bytes result ≡ []) }
+{
+    match line_run.diagnostic(alloc, fault) {
+        Ok(error_json) => error_json,
         Err(_) => String::new(alloc),
     }
 }
@@ -275,18 +295,29 @@ fn diagnostics_prefix<'a>(
         (IsDiagnosticsPrefix invocation.now.task.diagnostics invocation.now.input file_name.now) }
     ensures failure { IfErr result (IsInputFailure file_name.now) }
 {
-    let diagnostics_prefix = match invocation.task.diagnostics {
-        DiagnosticFormat::Json => String::from_str(rt.alloc(), file_name),
-        DiagnosticFormat::Text => {
-            if file_name == STDIO && invocation.input != Input::Documents {
-                return Ok(None);
-            }
-            message_prefix(rt.alloc(), file_name)
+    let format = invocation.task.diagnostics;
+    if format == DiagnosticFormat::Text {
+        if file_name == STDIO && invocation.input != Input::Documents {
+            return Ok(None);
         }
-    };
-    match diagnostics_prefix {
+    }
+    match prefix_in_format(rt.alloc(), format, file_name) {
         Ok(diagnostics_prefix) => Ok(Some(diagnostics_prefix)),
         Err(error) => Err(RunFailure::Input(file_name, Some(Error::from(error)))),
+    }
+}
+
+// Returns the name before a diagnostic in this format.
+fn prefix_in_format(
+    alloc: Global,
+    format: DiagnosticFormat,
+    file_name: &str,
+) -> Result<String, AllocError>
+    ensures { IfOk result (λ prefix. string_bytes prefix ≡ diagnostics_prefix format file_name.now) }
+{
+    match format {
+        DiagnosticFormat::Text => message_prefix(alloc, file_name),
+        DiagnosticFormat::Json => String::from_str(alloc, file_name),
     }
 }
 

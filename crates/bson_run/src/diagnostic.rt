@@ -132,11 +132,7 @@ fn write_no_path(writer: &mut Writer) -> Result<(), AllocError>
 }
 
 // Writes the members of the path to a value.
-fn write_known_path(
-    alloc: Global,
-    writer: &mut Writer,
-    path: &[Segment],
-) -> Result<(), AllocError>
+fn write_known_path(alloc: Global, writer: &mut Writer, path: &[Segment]) -> Result<(), AllocError>
     ensures added { OnOk result
         (writer.new.tokens ≡ writer.old.tokens ++ path_tokens (Some (map segment_of path.now))) }
     ensures before { writer.new.before ≡ writer.old.before }
@@ -168,11 +164,7 @@ fn write_segments(writer: &mut Writer, segments: &[Segment]) -> Result<(), Alloc
 }
 
 // Appends the JSON Pointer of a path, the last segment of which comes first.
-fn push_pointer(
-    alloc: Global,
-    pointer: &mut String,
-    segments: &[Segment],
-) -> Result<(), AllocError>
+fn push_pointer(alloc: Global, pointer: &mut String, segments: &[Segment]) -> Result<(), AllocError>
     ensures { OnOk result
         (string_bytes pointer.new ≡ string_bytes pointer.old ++ json_pointer (map segment_of segments.now)) }
 {
@@ -219,8 +211,19 @@ fn push_pointer_char(pointer: &mut String, character: char) -> Result<(), AllocE
     pointer.push(character)
 }
 
-// Writes the members of a message, and ends the object.
-fn write_message(writer: &mut Writer, code: &str, message: &str) -> Result<(), AllocError>
+/// Writes the members `code` and `message` to an object that has begun, and ends the object.
+///
+/// # Errors
+///
+/// `AllocError` if an allocation fails.
+///
+/// ```
+/// let mut writer = Writer::new(Vec::new(alloc));
+/// writer.begin_object()?;
+/// write_message(&mut writer, "cannot_read", "cannot read a")?;
+/// rt.print(str::from_utf8(&writer.into_inner())?)?; // {"code":"cannot_read","message":"cannot read a"}
+/// ```
+pub fn write_message(writer: &mut Writer, code: &str, message: &str) -> Result<(), AllocError>
     ensures added { OnOk result (writer.new.tokens ≡ writer.old.tokens ++ message_tokens code.now message.now) }
     ensures before { writer.new.before ≡ writer.old.before }
 {

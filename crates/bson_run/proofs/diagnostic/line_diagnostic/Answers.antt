@@ -30,8 +30,7 @@ returns c =
     let position : c.at-position.result ≡ position_at number (explanation_offset text explanation) text =
     c.at-position.ensures ∙ ap (λ offset. position_at number offset text) c.offset.ensures in
     oks_with c.explained_json.result c.explained_json.ensures (λ line e.
-    subst (λ format. IsDiagnostic format number fault text (string_bytes line)) (sym c.in-Json.is)
-    (
+    subst (λ format. IsDiagnostic format number fault text (string_bytes line)) (sym c.in-Json.is) (
       explanation,
       c.in_ok-explanation.ensures,
       e ∙ ap (λ p. json_line (diagnostic_tokens p path (error_code fault) c.as_str-message.result.now)) position

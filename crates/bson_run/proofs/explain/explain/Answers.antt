@@ -9,5 +9,7 @@ returns c =
     let text = c.args.text.now in
     let fault = c.args.fault.now in
     let found = c.in_ok-of.field-0 in
-    record { place = oks_with c.message.result c.message.ensures
-    (λ full_message e. subst (IsPositionMessage text fault) (sym e) (where_from text fault found c.in_ok-of.ensures)) }
+    record {
+      place = oks_with c.message.result c.message.ensures
+          (λ full_message e. subst (IsPositionMessage text fault) (sym e) (where_from text fault found c.in_ok-of.ensures));
+    }
