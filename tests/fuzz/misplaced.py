@@ -8,15 +8,18 @@ NUMBERS = ('1.5', '-0', '1e5', '0.0', '-2.25e-7', '9223372036854775808', '184467
 WRAPPERS = ('$minKey', '$maxKey', '$undefined', '$symbol', '$numberInt', '$numberLong', '$numberDecimal', '$oid')
 KEYS = ('a', 'A', 'b', 'name', 'Name', '', ' ', 'a b', '0', '256', '\u00e9', 'k' * 90, '\u2028', '\x1b[31m', 'q"q', 'b\\s')
 GOOD = ('0', '7', '-12', 'null', 'true', '"x"', '"1.5"', '[]', '{}', '{"a":{"A":0}}', '[[1],2]', '{"$numberInt":"5"}')
+# It is before the wrong value while a text is made.
+MARK = '\ue000'
 LETTERS = {'"': '\\"', '\\': '\\\\'}
 
 
 @dataclass
 class Fault:
-    """A text, the path to its one wrong value, and that value as it is in the text."""
+    """A text, the path to its one wrong value, that value as it is in the text, and the bytes before it."""
     text: bytes
     path: list
     value: str
+    offset: int
     widest: int
     replaced: bool
 
@@ -54,7 +57,8 @@ class Maker:
         for _ in range(self.generator.choice((0, 1, 1, 2, 3, 4, 5, 8))):
             text, word = self.list_of(text) if self.generator.random() < 0.5 else self.object_of(text)
             path.insert(0, word)
-        return Fault(text.encode(), path, value, self.widest, self.replaced)
+        offset = len(text[:text.index(MARK)].encode())
+        return Fault(text.replace(MARK, '').encode(), path, value, offset, self.widest, self.replaced)
 
     def blank(self):
         return self.generator.choice(('', '\t', '\n') if self.newline else ('', '', '', '', ' ', '\t', '  '))
@@ -69,9 +73,9 @@ class Maker:
         """A value that is not, the path in it, and what is wrong."""
         if self.generator.random() < 0.5:
             number = self.generator.choice(NUMBERS)
-            return number, [], number
+            return MARK + number, [], number
         key, value = self.generator.choice(WRAPPERS), self.not_of_wrapper()
-        return f'{{{self.blank()}{self.spelt(key)}{self.blank()}:{self.blank()}{value}{self.blank()}}}', [key], value
+        return f'{{{self.blank()}{self.spelt(key)}{self.blank()}:{self.blank()}{MARK}{value}{self.blank()}}}', [key], value
 
     def not_of_wrapper(self):
         """A value that no wrapper has."""
@@ -94,7 +98,8 @@ class Maker:
         members = [(it, text if it == key else self.good()) for it in keys]
         if self.generator.random() < 0.2:
             self.replaced = True
-            members.insert(self.generator.randrange(keys.index(key) + 1), (key, self.generator.choice((self.good(), self.wrong()[0]))))
+            other = self.generator.choice((self.good(), self.wrong()[0].replace(MARK, '')))
+            members.insert(self.generator.randrange(keys.index(key) + 1), (key, other))
         return '{' + ','.join(f'{self.blank()}{self.spelt(it)}{self.blank()}:{self.blank()}{inner}{self.blank()}'
                               for it, inner in members) + '}', key
 

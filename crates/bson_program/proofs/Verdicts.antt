@@ -7,6 +7,8 @@ use Rattle.std.specs.Result.{is_ok}
 use Rattle.std.proofs.lemmas.Bool.Decides.{nat_tests}
 use Rattle.std.specs.List.{flat_map, position_or_len, starts_with}
 use Rattle.bson_run.specs.Lines.{prepend_to_first_line}
+use Rattle.bson_run.specs.declared.task.DiagnosticFormat.{DiagnosticFormat}
+use Rattle.bson_run.specs.declared.task.DiagnosticFormat.TheVariants.{Text}
 use Rattle.bson_program.specs.Messages.{with_file_names, line_prefix, line_len, split_lines, with_file_name}
 
 is_newline : (x : ℕ) → (x == 10) ≡ true → x ≡ 10
@@ -25,20 +27,21 @@ pub first : (x : ℕ) (xs : List ℕ)
 first x [] = by_test (x == 10) x [] (is_newline x) (λ e. refl)
 first x (y ∷ ys) = by_test (x == 10) x (y ∷ ys) (is_newline x) (λ e. ap (prepend_to_first_line x) (first y ys))
 
-pub under_first : (name xs : List ℕ) → 0 < length xs
-    → with_file_names name xs ≡ with_file_name name (take (line_len xs) xs) ++ with_file_names name (drop (line_len xs) xs)
-under_first name [] some = absurd (omega arith)
-under_first name (x ∷ xs) some = ap (λ ys. flat_map (with_file_name name) ys) (first x xs)
+pub under_first : (format : DiagnosticFormat) (name xs : List ℕ) → 0 < length xs
+    → with_file_names format name xs
+    ≡ with_file_name format name (take (line_len xs) xs) ++ with_file_names format name (drop (line_len xs) xs)
+under_first format name [] some = absurd (omega arith)
+under_first format name (x ∷ xs) some = ap (λ ys. flat_map (with_file_name format name) ys) (first x xs)
 
 -- a diagnostic was appended to those before it
-pub named_on : (name rest diagnostic others old new whole : List ℕ) (n : ℕ) → 0 < length rest → n ≡ line_len rest
-    → diagnostic ≡ take n rest → others ≡ drop n rest → new ≡ old ++ with_file_name name diagnostic
-    → old ++ with_file_names name rest ≡ whole → new ++ with_file_names name others ≡ whole
-named_on name rest diagnostic others old new whole n some len front back added before =
-    ap (λ l. l ++ with_file_names name others) (added ∙ ap (λ v. old ++ with_file_name name v) (front ∙ ap (λ k. take k rest) len))
-    ∙ ap (λ l. (old ++ with_file_name name (take (line_len rest) rest)) ++ with_file_names name l) (back ∙ ap (λ k. drop k rest) len)
-    ∙ append_assoc old (with_file_name name (take (line_len rest) rest)) (with_file_names name (drop (line_len rest) rest))
-    ∙ ap (λ l. old ++ l) (sym (under_first name rest some)) ∙ before
+pub named_on : (format : DiagnosticFormat) (name rest diagnostic others old new whole : List ℕ) (n : ℕ) → 0 < length rest → n ≡ line_len rest
+    → diagnostic ≡ take n rest → others ≡ drop n rest → new ≡ old ++ with_file_name format name diagnostic
+    → old ++ with_file_names format name rest ≡ whole → new ++ with_file_names format name others ≡ whole
+named_on format name rest diagnostic others old new whole n some len front back added before =
+    ap (λ l. l ++ with_file_names format name others) (added ∙ ap (λ v. old ++ with_file_name format name v) (front ∙ ap (λ k. take k rest) len))
+    ∙ ap (λ l. (old ++ with_file_name format name (take (line_len rest) rest)) ++ with_file_names format name l) (back ∙ ap (λ k. drop k rest) len)
+    ∙ append_assoc old (with_file_name format name (take (line_len rest) rest)) (with_file_names format name (drop (line_len rest) rest))
+    ∙ ap (λ l. old ++ l) (sym (under_first format name rest some)) ∙ before
 
 -- ---- the length of the first line
 
@@ -68,7 +71,7 @@ line_whole xs e = none_by _ _ _ (line_len xs) (line_len_is xs) e
 
 pub named_behind : {E : Type 0} (r : Result (Unit {0}) E) (old a b new name diagnostic rest : List ℕ) → a ≡ old ++ name
     → b ≡ a ++ 58 ∷ [] → new ≡ cond (is_ok r) (b ++ rest) b → rest ≡ drop (length line_prefix) diagnostic
-    → starts_with nat_eq diagnostic line_prefix ≡ true → OnOk r (new ≡ old ++ with_file_name name diagnostic)
+    → starts_with nat_eq diagnostic line_prefix ≡ true → OnOk r (new ≡ old ++ with_file_name Text name diagnostic)
 named_behind (Err x) old a b new name diagnostic rest p q e is starts = tt
 named_behind (Ok x) old a b new name diagnostic rest p q e is starts =
     let joined : ((old ++ name) ++ 58 ∷ []) ++ rest ≡ old ++ (name ++ (58 ∷ rest)) = simp append_assoc in

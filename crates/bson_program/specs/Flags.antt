@@ -66,6 +66,7 @@ command_allows Output input output = has_output output
 command_allows Unordered input output = true
 command_allows Array Text output = reads_texts Text output
 command_allows Array input output = false
+command_allows Diagnostics Documents output = false
 command_allows Diagnostics input output = true
 
 -- modes with this purpose have the option
@@ -77,6 +78,7 @@ purpose_allows Indent purpose = false
 purpose_allows KeepGoing purpose.Comparison = false
 purpose_allows Jobs purpose.Comparison = false
 purpose_allows Output purpose.Comparison = false
+purpose_allows Diagnostics purpose.Comparison = false
 purpose_allows Unordered purpose.Comparison = true
 purpose_allows Unordered purpose = false
 purpose_allows flag purpose = true

@@ -7,14 +7,21 @@ use Rattle.std.specs.Fmt.{decimal}
 use Rattle.std.specs.List.{flat_map, starts_with}
 use Rattle.std.specs.Str.{chars, encode_utf8_all, trim_end}
 use Rattle.std.specs.declared.io.Error.{Error}
+use Rattle.json.specs.Print.{print}
+use Rattle.json.specs.Token as token
+use Rattle.json.specs.Token.{Token}
 use Rattle.bson_codec.specs.Diagnostics.{diagnostic_of}
 use Rattle.bson_codec.specs.Diagnostics as documents
 use Rattle.bson_codec.specs.declared.run_end.RunEnd.{RunEnd}
 use Rattle.bson_codec.specs.declared.run_end.RunFault.{RunFault}
 use Rattle.bson_codec.specs.declared.run_end.RunFault.TheVariants as run_fault
+use Rattle.bson_run.specs.Diagnostic.{message_tokens}
 use Rattle.bson_run.specs.Lines.{prepend_to_first_line}
+use Rattle.bson_run.specs.declared.task.DiagnosticFormat.{DiagnosticFormat}
+use Rattle.bson_run.specs.declared.task.DiagnosticFormat.TheVariants as format
 use Rattle.bson_convert.specs.Messages.{error_message}
 use Rattle.bson_convert.specs.declared.error.Error as conversion
+use Rattle.bson_convert.specs.declared.error.Error.TheVariants as conversion_error
 use Rattle.bson_program.specs.declared.invocation.Input as invocation
 use Rattle.bson_program.specs.declared.invocation.Input.TheVariants.{Documents}
 use Rattle.bson_program.specs.declared.run.RunFailure.{RunFailure}
@@ -113,6 +120,46 @@ IsFailureMessage (failure.Text file_name line_number fault position_message) lin
     line ≡ text_message file_name.now line_number fault (string_bytes position_message)
 IsFailureMessage (failure.Document file_name run_end) line = line ≡ document_message file_name.now run_end
 
+-- ---- what stopped a run, as a JSON object
+
+-- the beginning of an object, with the name of its file as the first member
+abbrev pub file_tokens : (file_name : List ℕ) → List Token
+file_tokens file_name = token.begin_object ∷ token.key (codes "file") ∷ token.string file_name ∷ []
+
+abbrev pub file_member : (file_name : List ℕ) → List ℕ
+file_member file_name = print (file_tokens file_name)
+
+-- an object with this first member
+abbrev pub with_json_file : (file_name json : List ℕ) → List ℕ
+with_json_file file_name json = file_member file_name ++ codes "," ++ drop 1 json
+
+-- the name of the file, the code, and the message without the program's name
+abbrev pub failure_object : (file_name code message : List ℕ) → List ℕ
+failure_object file_name code message = print (file_tokens file_name ++ message_tokens code message)
+
+-- a file can't be read or written
+abbrev pub IsFileFailureObject : (code verb file_name stream : List ℕ) → Option Error → (line : List ℕ) → Type 0
+IsFileFailureObject code verb file_name stream error line =
+    (cause : List ℕ) × IsCauseSuffix error cause
+    × (line ≡ failure_object file_name code (codes "cannot " ++ verb ++ shown_name file_name stream ++ cause))
+
+-- the object for what stopped the run; a text has its own, unless memory was lacking
+abbrev pub IsFailureObject : RunFailure → (line : List ℕ) → Type 0
+IsFailureObject (failure.Input file_name error) line =
+    IsFileFailureObject (codes "cannot_read") (codes "read ") file_name.now (codes "input") error line
+IsFailureObject (failure.Output file_name error) line =
+    IsFileFailureObject (codes "cannot_write") (codes "write ") file_name.now (codes "output") error line
+IsFailureObject (failure.InputIsOutput file_name) line = line ≡ failure_object file_name.now (codes "input_is_output")
+    (shown_name file_name.now (codes "input") ++ codes " is both an input and the output")
+IsFailureObject failure.OutputIsTerminal line = line ≡ failure_object (codes "-") (codes "output_is_terminal")
+    (codes "BSON bytes are not written to a terminal; give -o FILE, or a pipe")
+IsFailureObject (failure.Text file_name line_number conversion_error.OutOfMemory report) line =
+    line ≡ failure_object file_name.now (codes "out_of_memory") (codes "out of memory")
+IsFailureObject (failure.Text file_name line_number fault report) line =
+    line ≡ with_json_file file_name.now (trim_end (string_bytes report))
+IsFailureObject (failure.Document file_name run_end) line = line ≡ failure_object file_name.now (codes "malformed")
+    (trim_end (document_error_message run_end.number run_end.start run_end.fault))
+
 -- ---- diagnostics
 
 -- the lines, each with the newline that ends it, except the last
@@ -127,13 +174,14 @@ abbrev pub line_prefix : List ℕ
 line_prefix = codes "bson: line "
 
 -- a diagnostic after a file's name: for a line its number, a colon before it, otherwise the diagnostic
-abbrev pub with_file_name : (file_name diagnostic : List ℕ) → List ℕ
-with_file_name file_name diagnostic =
+abbrev pub with_file_name : DiagnosticFormat → (file_name diagnostic : List ℕ) → List ℕ
+with_file_name format.Json file_name diagnostic = with_json_file file_name diagnostic
+with_file_name format.Text file_name diagnostic =
     file_name ++ (if starts_with nat_eq diagnostic line_prefix then codes ":" ++ drop (length line_prefix) diagnostic
     else codes ": " ++ diagnostic)
 
-abbrev pub with_file_names : (file_name diagnostics : List ℕ) → List ℕ
-with_file_names file_name diagnostics = flat_map (with_file_name file_name) (split_lines diagnostics)
+abbrev pub with_file_names : DiagnosticFormat → (file_name diagnostics : List ℕ) → List ℕ
+with_file_names format file_name diagnostics = flat_map (with_file_name format file_name) (split_lines diagnostics)
 
 -- ---- for private clauses
 

@@ -140,6 +140,7 @@ abbrev pub requested_task : ArgsSoFar → (named_kind : Output) → Task
 requested_task args_so_far named_kind = record {
   preprocessing = requested_preprocessing args_so_far.rejects_duplicates args_so_far.reads_v1;
   output = with_criterion args_so_far.is_canonical named_kind;
+  diagnostics = requested_diagnostics args_so_far.diagnostics;
 }
 
 abbrev pub requested_options : ArgsSoFar → Options
@@ -166,7 +167,6 @@ pub record IsInvocationOf (args_so_far : ArgsSoFar) (invocation : Invocation) : 
   pub purpose : invocation.purpose ≡ args_so_far.purpose
   pub unordered : invocation.is_unordered ≡ args_so_far.is_unordered
   pub array : invocation.reads_array ≡ args_so_far.reads_array
-  pub diagnostics : invocation.diagnostics ≡ requested_diagnostics args_so_far.diagnostics
   pub input : invocation.input
       ≡ requested_input args_so_far.reads_array args_so_far.input (with_criterion args_so_far.is_canonical named_kind)
   pub indent : invocation.indent ≡ args_so_far.indent

@@ -7,6 +7,13 @@ use Rattle.bson_codec.specs.declared.documents.Line as documents
 use Rattle.bson_codec.specs.declared.documents.Line.TheVariants as line
 use Rattle.bson.specs.Form.TheVariants as forms
 use Rattle.bson_convert.specs.declared.mode.Mode.TheVariants.{Canonical, Relaxed, Show}
+use Rattle.bson_convert.specs.declared.error.Error as conversion
+use Rattle.bson_run.specs.Diagnostic.{IsDiagnostic}
+use Rattle.bson_run.specs.ErrorMessages.{IsPositionMessage}
+use Rattle.bson_run.specs.Lines.{buffered_text, line_number_of}
+use Rattle.bson_run.specs.declared.lines.LineRun.{LineRun}
+use Rattle.bson_run.specs.declared.task.DiagnosticFormat.{DiagnosticFormat}
+use Rattle.bson_run.specs.declared.task.DiagnosticFormat.TheVariants.{Text, Json}
 use Rattle.bson_run.specs.declared.task.Output as task
 use Rattle.bson_run.specs.declared.task.Output.TheVariants as output
 use Rattle.bson_program.specs.Messages.{with_file_names, message_prefix, is_standard_stream}
@@ -31,17 +38,32 @@ IsWriterFailure invocation diagnostics_error output_error (Output file_name erro
     × (error ≡ Some cause))
 IsWriterFailure invocation diagnostics_error output_error failure = ⊥
 
--- the name before diagnostics: that of their file, or for documents of standard input that of the program
-abbrev pub IsDiagnosticsPrefix : invocation.Input → (file_name : List ℕ) → Option (String Global) → Type 0
-IsDiagnosticsPrefix input file_name None = (is_standard_stream file_name ≡ true) × (input ≢ Documents)
-IsDiagnosticsPrefix input file_name (Some diagnostics_prefix) =
-    (string_bytes diagnostics_prefix ≡ message_prefix file_name)
-    × (is_standard_stream file_name ≡ true → input ≡ Documents)
+-- the name before diagnostics: that of a file, or of the program; for JSON objects the name as it is given
+abbrev pub diagnostics_prefix : DiagnosticFormat → (file_name : List ℕ) → List ℕ
+diagnostics_prefix Text file_name = message_prefix file_name
+diagnostics_prefix Json file_name = file_name
+
+-- messages on lines of standard input have none
+abbrev pub IsDiagnosticsPrefix : DiagnosticFormat → invocation.Input → (file_name : List ℕ)
+    → Option (String Global) → Type 0
+IsDiagnosticsPrefix format input file_name None = (format ≡ Text) × (is_standard_stream file_name ≡ true)
+    × (input ≢ Documents)
+IsDiagnosticsPrefix format input file_name (Some prefix) = (string_bytes prefix ≡ diagnostics_prefix format file_name)
+    × (format ≡ Text → is_standard_stream file_name ≡ true → input ≡ Documents)
 
 -- the diagnostics for a file of this name
-abbrev pub diagnostics_of_file : Option (String Global) → (diagnostics : List ℕ) → List ℕ
-diagnostics_of_file None diagnostics = diagnostics
-diagnostics_of_file (Some file_name) diagnostics = with_file_names (string_bytes file_name) diagnostics
+abbrev pub diagnostics_of_file : DiagnosticFormat → Option (String Global) → (diagnostics : List ℕ) → List ℕ
+diagnostics_of_file format None diagnostics = diagnostics
+diagnostics_of_file format (Some file_name) diagnostics = with_file_names format (string_bytes file_name) diagnostics
+
+-- where the error of the line is at which a run stopped, or the JSON object for it
+abbrev pub IsReportIn : DiagnosticFormat → LineRun → conversion.Error → (report : List ℕ) → Type 0
+IsReportIn Text line_run fault report = IsPositionMessage (buffered_text line_run.state) fault report
+IsReportIn Json line_run fault report =
+    IsDiagnostic line_run.task.diagnostics (line_number_of line_run) fault (buffered_text line_run.state) report
+
+abbrev pub IsLineReport : LineRun → conversion.Error → (report : List ℕ) → Type 0
+IsLineReport line_run fault report = IsReportIn line_run.task.diagnostics line_run fault report
 
 -- ---- documents
 

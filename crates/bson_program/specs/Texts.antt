@@ -1,6 +1,6 @@
 -- A run over the texts of an input. All its bytes are one JSON text, or else a sequence of texts with white space between.
-use Rattle.std.specs.Prelude.{◌≡◌, ◌==◌, ◌⊎◌, ℕ, suc, Bool, true, false, List, [], ◌∷◌, ◌++◌, Option, IsUtf8, string_bytes}
-use Rattle.std.specs.Prelude.{count_by, drop, length, min, nat_eq, nat_lt, take, if◌then◌else◌}
+use Rattle.std.specs.Prelude.{◌≡◌, ◌⊎◌, ℕ, Bool, true, false, List, [], ◌∷◌, ◌++◌, Option, IsUtf8, string_bytes}
+use Rattle.std.specs.Prelude.{drop, length, nat_eq, nat_lt, take, if◌then◌else◌}
 use Rattle.std.specs.List.{starts_with}
 use Rattle.std.specs.Io.KnownBytes.{Appends, Keeps}
 use Rattle.bson.specs.Doubles.{Doubles}
@@ -8,16 +8,16 @@ use Rattle.bson.specs.Doubles.TheVariants.{Finite, Special}
 use Rattle.bson_json.specs.Sequence.{texts_in}
 use Rattle.bson_convert.specs.Run.{ReadsAll}
 use Rattle.bson_convert.specs.declared.error.Error.{Error}
-use Rattle.bson_convert.specs.declared.error.Error.TheVariants.{NotCanonical, NotJson, OutOfMemory}
+use Rattle.bson_convert.specs.declared.error.Error.TheVariants.{NotJson, OutOfMemory}
 use Rattle.bson_run.specs.Accepted.{IsUtf8Accepted, Outputs}
 use Rattle.bson_run.specs.Lines.{WritesText}
-use Rattle.bson_run.specs.ErrorMessages.{IsPositionMessage}
 use Rattle.bson_run.specs.declared.accepted.Accepted.{Accepted}
 use Rattle.bson_run.specs.declared.task.Criterion.TheVariants as criterion
 use Rattle.bson_run.specs.declared.task.Output as task
 use Rattle.bson_run.specs.declared.task.Output.TheVariants.{Nothing}
 use Rattle.bson_program.specs.Messages.{is_standard_stream}
 use Rattle.bson_program.specs.SingleText.{IsOutputOfText, IsTextRejected}
+use Rattle.bson_program.specs.TextErrors.{IsErrorReport}
 use Rattle.bson_program.specs.declared.invocation.Invocation.{Invocation}
 use Rattle.bson_program.specs.declared.run.RunFailure.{RunFailure}
 use Rattle.bson_program.specs.declared.run.RunFailure.TheVariants.{Input, Output, Text}
@@ -93,26 +93,13 @@ pub record HasTextOutput (invocation : Invocation) (text output : List ℕ) : Ty
   pub writes_output : IsOutputOfText invocation text output
   pub utf8 : WritesText invocation.task.output → IsUtf8 output
 
--- the line on which a text of a sequence begins, and none for a text that is all bytes
-abbrev pub text_start_line : (content : List ℕ) → (start : ℕ) → (text : List ℕ) → ℕ
-text_start_line content start text = if length text == length content then 0
-    else suc (count_by (λ byte. byte == 10) (take (min start (length content)) content))
-
--- if bytes are not JSON the line is that of the error, and a text that is not canonical differs on the first
-abbrev pub IsErrorLine : Error → (content : List ℕ) → (start : ℕ) → (text : List ℕ) → (line_number : ℕ) → Type 0
-IsErrorLine NotJson content start text line_number = Unit {0}
-IsErrorLine (NotCanonical column) content start text line_number = line_number ≡ 1
-IsErrorLine OutOfMemory content start text line_number = line_number ≡ 0
-IsErrorLine fault content start text line_number = line_number ≡ text_start_line content start text
-
--- the text was rejected, and nothing of it was written; the message says where its error is
-abbrev pub IsTextFailure : Invocation → Error → (position_message : List ℕ) → (line_number : ℕ) → (content : List ℕ)
+-- the text was rejected, and nothing of it was written; the report says where its error is
+abbrev pub IsTextFailure : Invocation → Error → (report : List ℕ) → (line_number : ℕ) → (content : List ℕ)
     → (start : ℕ) → (text : List ℕ) → Type 0
-IsTextFailure invocation OutOfMemory position_message line_number content start text = (line_number ≡ 0)
-    × (position_message ≡ [])
-IsTextFailure invocation fault position_message line_number content start text =
-    IsTextRejected invocation.options invocation.task fault text × IsPositionMessage text fault position_message
-    × IsErrorLine fault content start text line_number
+IsTextFailure invocation OutOfMemory report line_number content start text = (line_number ≡ 0) × (report ≡ [])
+IsTextFailure invocation fault report line_number content start text =
+    IsTextRejected invocation.options invocation.task fault text
+    × IsErrorReport invocation.task.diagnostics fault report line_number content start text
 
 -- what each failure at a text says of it
 abbrev pub FailsAtText : Invocation → RunFailure → (file_name content : List ℕ) → (start : ℕ) → (text : List ℕ)

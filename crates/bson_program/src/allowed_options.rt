@@ -117,10 +117,10 @@ fn purpose_allows(flag: Flag, purpose: Purpose) -> bool
 {
     match flag {
         Flag::SortKeys | Flag::Indent => purpose == Purpose::Output,
-        Flag::KeepGoing | Flag::Jobs | Flag::Output => purpose != Purpose::Comparison,
+        Flag::KeepGoing | Flag::Jobs | Flag::Output | Flag::Diagnostics => purpose != Purpose::Comparison,
         Flag::Unordered => purpose == Purpose::Comparison,
         Flag::Strict | Flag::V1 | Flag::NoDuplicateKeys | Flag::Canonical => true,
-        Flag::Array | Flag::Diagnostics => true,
+        Flag::Array => true,
     }
 }
 
@@ -138,7 +138,8 @@ fn command_allows(flag: Flag, input: Input, output: Output) -> bool
         Flag::Indent => input == Input::Text && writes_form(output),
         Flag::KeepGoing | Flag::Jobs => input != Input::Text,
         Flag::Array => input == Input::Text && reads_texts(input, output),
-        Flag::Unordered | Flag::Diagnostics => true,
+        Flag::Diagnostics => input != Input::Documents,
+        Flag::Unordered => true,
     }
 }
 

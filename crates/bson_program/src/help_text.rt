@@ -66,7 +66,7 @@ space between. For each it writes one line:
   --indent N              (canonical, relaxed) writes each document over several lines, with N spaces for each bracket
   --array                 (not check --canonical) reads each FILE as one JSON array, whose elements are the documents
   --unordered             (same) ignores the order of values
-  --diagnostics FORMAT    FORMAT is text, the default, or json: how each message about rejected input is written
+  --diagnostics FORMAT    (not same) writes errors as text, the default, or as JSON objects with their positions: json
   -o FILE, --output FILE  (not check, same) writes the output to FILE, as a whole at the end
 
 `bson --help` says more of each option, and lists the statuses.";
@@ -88,7 +88,7 @@ files, and reports the first difference. Blank lines are counted, and write noth
   --keep-going            (not same) skips a rejected line and reports it; without it the run ends there
   --jobs N                (not same) converts N parts of named files at a time
   --unordered             (same) ignores the order of values
-  --diagnostics FORMAT    FORMAT is text, the default, or json: how each message about rejected input is written
+  --diagnostics FORMAT    (not same) writes errors as text, the default, or as JSON objects with their positions: json
   -o FILE, --output FILE  (not check, same) writes the output to FILE, as a whole at the end
 
 `bson --help` says more of each option, and lists the statuses.";
@@ -109,7 +109,6 @@ reported with its number, its offset in the file, and the offset of the error in
   --keep-going            (not same) skips a rejected document and reports it, if all the bytes of its length are present
   --jobs N                (not same) converts N parts of named files at a time
   --unordered             (same) ignores the order of documents
-  --diagnostics FORMAT    FORMAT is text, the default, or json: how each message about rejected input is written
   -o FILE, --output FILE  (not check, same) writes the output to FILE, as a whole at the end
 
 `bson --help` says more of each option, and lists the statuses.";
@@ -129,7 +128,7 @@ than 2^31 bytes. Bytes are not written to a terminal.
                           below
   --keep-going            skips a rejected line and reports it; without it the run ends there
   --jobs N                converts N parts of named files at a time
-  --diagnostics FORMAT    FORMAT is text, the default, or json: how each message about rejected input is written
+  --diagnostics FORMAT    writes errors as text, the default, or as JSON objects with their positions: json
   -o FILE, --output FILE  writes the output to FILE, as a whole at the end
 
 `bson --help` says more of each option, and lists the statuses.";
@@ -192,7 +191,8 @@ a regular expression has a 0 byte. Each part must have fewer than 2^31 bytes. By
                           documents, and converts N parts at a time. Output, messages and status are those of one job.
                           Many small files are one job
   --unordered             (same) ignores the order of values: each value must occur as often in both files
-  --diagnostics FORMAT    FORMAT is text, the default, or json: how each message about rejected input is written
+  --diagnostics FORMAT    (not decode, same) writes errors as text, the default, or as JSON objects with their
+                          positions: json
   -o FILE, --output FILE  (not check, same) writes the output to FILE, as a whole at the end; if a run ends early, FILE
                           stays as it was
   -h, --help; -v, --version  after a command, `--help` writes the help of that command alone

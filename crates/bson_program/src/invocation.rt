@@ -6,7 +6,7 @@ ghost use Rattle.bson_run.specs.declared.task.Criterion.{Criterion};
 use crate::arguments::{ArgsSoFar, ParsedArg};
 use crate::request::into_request;
 use bson::extjson::Options;
-use bson_run::task::{DiagnosticFormat, OnRefusal, Output, Task};
+use bson_run::task::{OnRefusal, Output, Task};
 use std::alloc::{AllocError, Global};
 
 /// The name of standard input among the files that are read, and of standard output.
@@ -142,8 +142,6 @@ pub struct Invocation {
     pub is_unordered: bool,
     /// Whether each input is a JSON array, of whose elements each is a text.
     pub reads_array: bool,
-    /// How diagnostics are written.
-    pub diagnostics: DiagnosticFormat,
     /// The format of the input.
     pub input: Input,
     /// How many spaces indent the output for each bracket, if it is written over several lines.

@@ -2,9 +2,10 @@
 //! dumps, as its arguments request.
 //!
 //! The library `bson_run` converts. This crate has the arguments (`invocation`, `arguments`, `option_values`,
-//! `option_effects`, `allowed_options`, `request`), the files (`run`, `streams`, `output`; `texts` for JSON texts with `single_text` for
-//! each, `dump` for BSON documents), digests of lines (`digests`), comparisons (`compare_files`, `compare_outputs`),
-//! the line of progress (`progress`), the lines on standard error (`messages`, `usage_error`, `hints`,
+//! `option_effects`, `allowed_options`, `request`), the files (`run`, `streams`, `output`; `texts` for JSON texts with
+//! `single_text` for each and `text_errors` for the position of an error, `dump` for BSON documents), digests of lines
+//! (`digests`), comparisons (`compare_files`, `compare_outputs`), the line of progress (`progress`), the lines on standard
+//! error (`messages`, `failure_json`, `usage_error`, `hints`,
 //! `advice`, `rejection_hint`), the help (`help_text`) and the statuses.
 #![tactic(auto)]
 
@@ -15,6 +16,7 @@ mod compare_files;
 mod compare_outputs;
 mod digests;
 mod dump;
+mod failure_json;
 mod help_text;
 mod hints;
 mod invocation;
@@ -28,10 +30,12 @@ mod request;
 mod run;
 mod single_text;
 mod streams;
+mod text_errors;
 mod texts;
 mod usage_error;
 
 use crate::compare_files::{compare_files, difference_line_for};
+use crate::failure_json::failure_json;
 use crate::help_text::{OUT_OF_MEMORY, VERSION, help_of, usage_of};
 use crate::invocation::{
     Command, InvalidUsage, Invocation, Purpose, Request, STDIO, UsageError, parse_arguments,
@@ -41,6 +45,7 @@ use crate::run::{RunFailure, run};
 use crate::usage_error::usage_error_line;
 use bson_convert::fault::Fault;
 use bson_convert::program::{command_line_arguments, report_failure};
+use bson_run::task::DiagnosticFormat;
 use std::alloc::AllocError;
 use std::io::ErrorKind;
 use std::process::ExitCode;
@@ -94,6 +99,7 @@ fn run_invocation(rt: &HostRuntime, invocation: &Invocation) -> ExitCode {
     let mut hints = Vec::new(rt.alloc());
     let status = match run(rt, invocation, &mut hints) {
         Ok(counts) if counts.refused == 0 => ExitCode::SUCCESS,
+        Ok(_) if invocation.task.diagnostics == DiagnosticFormat::Json => ExitCode::from(1),
         Ok(counts) => report_with_status(
             rt,
             counts_summary(rt.alloc(), invocation.input, counts),
@@ -102,7 +108,7 @@ fn run_invocation(rt: &HostRuntime, invocation: &Invocation) -> ExitCode {
         Err(RunFailure::Output(_, Some(error))) if error.kind() == ErrorKind::BrokenPipe => {
             ExitCode::from(BROKEN_PIPE_STATUS)
         }
-        Err(failure) => report_with_status(rt, failure_message(rt.alloc(), failure), 1),
+        Err(failure) => report_with_status(rt, failure_line(rt, invocation, failure), 1),
     };
     print_hints(rt, &hints);
     status
@@ -118,10 +124,22 @@ fn compare_invocation(rt: &HostRuntime, invocation: &Invocation) -> ExitCode {
             difference_line_for(rt.alloc(), invocation, difference),
             1,
         ),
-        Err(failure) => report_with_status(rt, failure_message(rt.alloc(), failure), 2),
+        Err(failure) => report_with_status(rt, failure_line(rt, invocation, failure), 2),
     };
     print_hints(rt, &hints);
     status
+}
+
+// Returns the line for what stopped a run, in the format of its diagnostics.
+fn failure_line(
+    rt: &HostRuntime,
+    invocation: &Invocation,
+    failure: RunFailure<'_>,
+) -> Result<String, AllocError> {
+    match invocation.task.diagnostics {
+        DiagnosticFormat::Text => failure_message(rt.alloc(), failure),
+        DiagnosticFormat::Json => failure_json(rt.alloc(), failure),
+    }
 }
 
 fn print_hints(rt: &HostRuntime, hints: &Vec<String>) {

@@ -4,11 +4,13 @@ ghost use Rattle.bson_program.specs.Messages.{with_file_names, document_error_me
 ghost use Rattle.bson_program.specs.Messages.{input_kind, line_location, line_len, printable, shown_name, counts_summary};
 ghost use Rattle.bson_program.specs.Messages.{text_location, text_message, document_message, with_file_name, IsCauseSuffix, IsFailureMessage};
 
+use crate::failure_json::push_named_json;
 use crate::invocation::{Input, STDIO};
 use crate::run::RunFailure;
 use bson_codec::run_end::{RunEnd, RunFault};
 use bson_convert::error;
 use bson_run::lines::Counts;
+use bson_run::task::DiagnosticFormat;
 use std::alloc::{AllocError, Global};
 use std::io::Error;
 
@@ -91,8 +93,8 @@ fn document_failure_line(
     format!(in alloc; "{prefix}: {message}")
 }
 
-// Why it stopped there; of a stream alone without the document.
-fn document_error_message(alloc: Global, run_end: RunEnd) -> Result<String, AllocError>
+/// Why it stopped there; of a stream alone without the document.
+pub fn document_error_message(alloc: Global, run_end: RunEnd) -> Result<String, AllocError>
     ensures { IfOk result
         (λ message. string_bytes message ≡ document_error_message run_end.number run_end.start run_end.fault) }
 {
@@ -188,8 +190,8 @@ fn push_printable(text: &mut String, character: char) -> Result<(), AllocError>
     Ok(())
 }
 
-// Returns the system's message for an error, after a colon.
-fn cause_suffix(alloc: Global, error: Option<Error>) -> Result<String, AllocError>
+/// Returns the system's message for an error, after a colon.
+pub fn cause_suffix(alloc: Global, error: Option<Error>) -> Result<String, AllocError>
     ensures { IfOk result (λ cause. IsCauseSuffix error (string_bytes cause)) }
 {
     let Some(error) = error else {
@@ -203,20 +205,21 @@ fn cause_suffix(alloc: Global, error: Option<Error>) -> Result<String, AllocErro
 }
 
 /// Returns diagnostics on lines, with a file's name and the line's number in front, as editors and grep have
-/// them; on documents, with the name in front.
+/// them; on documents, with the name in front. A JSON object has the name as its first member.
 pub fn add_file_name(
     alloc: Global,
+    format: DiagnosticFormat,
     file_name: &str,
     diagnostics: &[u8],
 ) -> Result<Vec<u8>, AllocError>
     ensures { IfOk result
-        (λ named_diagnostics. named_diagnostics.items ≡ with_file_names file_name.now diagnostics.now) }
+        (λ named_diagnostics. named_diagnostics.items ≡ with_file_names format file_name.now diagnostics.now) }
 {
     let mut named_diagnostics = Vec::new(alloc);
     let mut remaining_bytes = diagnostics;
     while !remaining_bytes.is_empty() {
         let (diagnostic, after_line) = remaining_bytes.split_at(line_len(remaining_bytes));
-        push_named_diagnostic(&mut named_diagnostics, file_name, diagnostic)?;
+        push_in_format(alloc, format, &mut named_diagnostics, file_name, diagnostic)?;
         remaining_bytes = after_line;
     }
     Ok(named_diagnostics)
@@ -239,14 +242,32 @@ fn first_newline(bytes: &[u8]) -> Option<usize>
     bytes.iter().position(|byte| *byte == b'\n')
 }
 
-// Appends a diagnostic after the name.
+// Appends a diagnostic with the name.
+fn push_in_format(
+    alloc: Global,
+    format: DiagnosticFormat,
+    named_diagnostics: &mut Vec<u8>,
+    file_name: &str,
+    diagnostic: &[u8],
+) -> Result<(), AllocError>
+    ensures { OnOk result (named_diagnostics.new.items
+        ≡ named_diagnostics.old.items ++ with_file_name format file_name.now diagnostic.now) }
+{
+    match format {
+        DiagnosticFormat::Text => push_named_diagnostic(named_diagnostics, file_name, diagnostic),
+        DiagnosticFormat::Json => push_named_json(alloc, named_diagnostics, file_name, diagnostic),
+    }
+}
+
+// Appends a message after the name.
 fn push_named_diagnostic(
     named_diagnostics: &mut Vec<u8>,
     file_name: &str,
     diagnostic: &[u8],
 ) -> Result<(), AllocError>
     ensures { OnOk result
-        (named_diagnostics.new.items ≡ named_diagnostics.old.items ++ with_file_name file_name.now diagnostic.now) }
+        (named_diagnostics.new.items
+        ≡ named_diagnostics.old.items ++ with_file_name DiagnosticFormat.Text file_name.now diagnostic.now) }
 {
     named_diagnostics.extend_from_slice(file_name.as_bytes())?;
     if diagnostic.starts_with(DIAGNOSTIC_PREFIX) {

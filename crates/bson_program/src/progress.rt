@@ -4,6 +4,7 @@ ghost use Rattle.std.specs.Io.KnownBytes.{Appends};
 ghost use Rattle.bson_program.specs.RunFailures.{diagnostics_of_file};
 
 use crate::messages::add_file_name;
+use bson_run::task::DiagnosticFormat;
 use std::alloc::Global;
 use std::cell::Cell;
 use std::io::{Read, Write};
@@ -155,6 +156,7 @@ impl<R: Read> Read for CountingReader<'_, R> {
 pub struct DiagnosticsWriter<'a, T> {
     pub alloc: Global,
     pub writer: T,
+    pub format: DiagnosticFormat,
     pub file_name: Option<String>,
     pub progress: &'a Progress<'a>,
     pub has_finite_double: bool,
@@ -165,12 +167,17 @@ impl<T: Write> DiagnosticsWriter<'_, T> {
     // Writes whole diagnostics.
     fn write_diagnostics(&mut self, diagnostics: &[u8]) -> io::Result<()>
         ensures { OnOk result (Appends (T.contents self.old.writer) (T.contents self.new.writer)
-            (diagnostics_of_file self.old.file_name diagnostics.now)) }
+            (diagnostics_of_file self.old.format self.old.file_name diagnostics.now)) }
     {
         match &self.file_name {
             None => self.writer.write_all(diagnostics),
             Some(file_name) => {
-                let diagnostics = add_file_name(self.alloc, file_name.as_str(), diagnostics)?;
+                let diagnostics = add_file_name(
+                    self.alloc,
+                    self.format,
+                    file_name.as_str(),
+                    diagnostics,
+                )?;
                 self.writer.write_all(&diagnostics)
             }
         }

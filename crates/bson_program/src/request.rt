@@ -55,6 +55,7 @@ pub fn into_request(args_so_far: ArgsSoFar) -> Result<Request, AllocError>
         task: Task {
             preprocessing: requested_preprocessing(rejects_duplicates, reads_v1),
             output: output_kind,
+            diagnostics: requested_diagnostics(diagnostics),
         },
         options: Options {
             doubles: accepted_doubles(is_strict),
@@ -69,7 +70,6 @@ pub fn into_request(args_so_far: ArgsSoFar) -> Result<Request, AllocError>
         purpose,
         is_unordered,
         reads_array,
-        diagnostics: requested_diagnostics(diagnostics),
         input: requested_input(reads_array, input, output_kind),
         indent,
         output,

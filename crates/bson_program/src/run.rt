@@ -1,8 +1,10 @@
 //! A run over files: which files are opened, and the error if that fails.
 ghost use Rattle.std.specs.Prelude.{◌≡◌, ◌⊎◌, [], IfErr, IfOk, string_bytes};
-ghost use Rattle.bson_run.specs.Lines.{buffered_text};
+ghost use Rattle.bson_run.specs.Diagnostic.{IsDiagnostic};
 ghost use Rattle.bson_run.specs.ErrorMessages.{IsPositionMessage};
-ghost use Rattle.bson_program.specs.RunFailures.{IsDiagnosticsPrefix, IsInputFailure, IsWriterFailure};
+ghost use Rattle.bson_run.specs.Lines.{buffered_text, line_number_of};
+ghost use Rattle.bson_program.specs.RunFailures.{IsDiagnosticsPrefix, IsInputFailure, IsLineReport, IsWriterFailure};
+ghost use Rattle.bson_program.specs.RunFailures.{diagnostics_prefix};
 
 use crate::advice::advice_for;
 use crate::digests::hasher_for;
@@ -17,7 +19,8 @@ use crate::texts::convert_texts;
 use bson_codec::run_end::RunEnd;
 use bson_convert::error;
 use bson_run::lines::{Counts, LineRun};
-use std::alloc::Global;
+use bson_run::task::DiagnosticFormat;
+use std::alloc::{AllocError, Global};
 use std::fs;
 use std::fs::{File, Metadata};
 use std::io::{Error, IsTerminal};
@@ -37,7 +40,7 @@ pub enum RunFailure<'a> {
     /// Bytes would go to a terminal.
     OutputIsTerminal,
     /// At a text of the file that is refused: at the line of this number, or at no line (0), why,
-    /// and where in the text, as a message.
+    /// and where in the text, as a message; or the JSON object for the error.
     Text(&'a str, u64, error::Error, String),
     /// At a document of the file.
     Document(&'a str, RunEnd),
@@ -130,6 +133,7 @@ pub fn run_file<'a>(
     let mut diagnostics_writer = DiagnosticsWriter {
         alloc: rt.alloc(),
         writer: rt.stderr(),
+        format: invocation.task.diagnostics,
         file_name: diagnostics_prefix(rt, invocation, file_name)?,
         progress,
         has_finite_double: false,
@@ -154,7 +158,7 @@ pub fn run_file<'a>(
             &mut diagnostics_writer,
         ),
     };
-    if is_rejected(&run_result) {
+    if is_rejected(&run_result) && invocation.task.diagnostics == DiagnosticFormat::Text {
         let advice = advice_for(
             rt.alloc(),
             invocation,
@@ -195,20 +199,39 @@ fn run_over_lines<'a>(
             diagnostics_writer,
         )),
         Err(fault) => {
-            let position_message = position_message_in(rt.alloc(), &line_run, &fault);
-            Err(RunFailure::Text(file_name, line_run.number(), fault, position_message))
+            let report = error_report_in(rt.alloc(), &line_run, &fault);
+            Err(RunFailure::Text(file_name, line_run.number(), fault, report))
         }
     }
 }
 
-// Returns the position of the error in the line at which the run stopped, or nothing if memory for the message
-// is lacking.
+// Returns the position of the error in the line at which the run stopped, or the JSON object for the error.
+// It is empty if memory is lacking.
+fn error_report_in(alloc: Global, line_run: &LineRun, fault: &error::Error) -> String
+    ensures { IsLineReport line_run.now fault.now (string_bytes result) ⊎ (string_bytes result ≡ []) }
+{
+    match line_run.task.diagnostics {
+        DiagnosticFormat::Text => position_message_in(alloc, line_run, fault),
+        DiagnosticFormat::Json => error_json_in(alloc, line_run, fault),
+    }
+}
+
 fn position_message_in(alloc: Global, line_run: &LineRun, fault: &error::Error) -> String
     ensures { IsPositionMessage (buffered_text line_run.now.state) fault.now (string_bytes result)
         ⊎ (string_bytes result ≡ []) }
 {
     match line_run.place(alloc, fault) {
         Ok(position_message) => position_message,
+        Err(_) => String::new(alloc),
+    }
+}
+
+fn error_json_in(alloc: Global, line_run: &LineRun, fault: &error::Error) -> String
+    ensures { IsDiagnostic line_run.now.task.diagnostics (line_number_of line_run.now) fault.now
+        (buffered_text line_run.now.state) (string_bytes result) ⊎ (string_bytes result ≡ []) }
+{
+    match line_run.diagnostic(alloc, fault) {
+        Ok(error_json) => error_json,
         Err(_) => String::new(alloc),
     }
 }
@@ -262,21 +285,39 @@ fn open_input<'a>(rt: &HostRuntime, file_name: &'a str) -> Result<InputReader, R
     }
 }
 
-// Returns the name before each diagnostic, or none for lines of standard input.
+// Returns the name before each diagnostic, or none for messages on lines of standard input.
 fn diagnostics_prefix<'a>(
     rt: &HostRuntime,
     invocation: &Invocation,
     file_name: &'a str,
 ) -> Result<Option<String>, RunFailure<'a>>
-    ensures diagnostics_prefix { IfOk result (IsDiagnosticsPrefix invocation.now.input file_name.now) }
+    ensures diagnostics_prefix { IfOk result
+        (IsDiagnosticsPrefix invocation.now.task.diagnostics invocation.now.input file_name.now) }
     ensures failure { IfErr result (IsInputFailure file_name.now) }
 {
-    if file_name == STDIO && invocation.input != Input::Documents {
-        return Ok(None);
+    let format = invocation.task.diagnostics;
+    if format == DiagnosticFormat::Text {
+        if file_name == STDIO && invocation.input != Input::Documents {
+            return Ok(None);
+        }
     }
-    match message_prefix(rt.alloc(), file_name) {
+    match prefix_in_format(rt.alloc(), format, file_name) {
         Ok(diagnostics_prefix) => Ok(Some(diagnostics_prefix)),
         Err(error) => Err(RunFailure::Input(file_name, Some(Error::from(error)))),
+    }
+}
+
+// Returns the name before a diagnostic in this format.
+fn prefix_in_format(
+    alloc: Global,
+    format: DiagnosticFormat,
+    file_name: &str,
+) -> Result<String, AllocError>
+    ensures { IfOk result (λ prefix. string_bytes prefix ≡ diagnostics_prefix format file_name.now) }
+{
+    match format {
+        DiagnosticFormat::Text => message_prefix(alloc, file_name),
+        DiagnosticFormat::Json => String::from_str(alloc, file_name),
     }
 }
 

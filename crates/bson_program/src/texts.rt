@@ -1,61 +1,35 @@
 //! A run over the texts of an input: one text, on any number of lines, or several, one after the other.
-ghost use Rattle.std.specs.Prelude.{◌≡◌, ℕ, List, Option, IfOk, IfErr, OnOk, false, nat_lt, length, string_bytes, true};
+ghost use Rattle.std.specs.Prelude.{◌≡◌, ℕ, List, Option, IfOk, IfErr, OnOk, false, nat_lt, length, true};
 ghost use Rattle.bson_json.specs.Sequence.{texts_in};
-ghost use Rattle.bson_run.specs.ErrorMessages.{IsSyntaxPosition, IsPositionMessage};
-ghost use Rattle.bson_program.specs.Texts.{CannotWriteAccepted, IsErrorLine, IsSequence, WritesTextOutput, StopsAt, FailsAtText, ConvertsTexts, FailsOnInput};
-ghost use Rattle.bson_program.specs.Texts.{IsNotJson, WritesAcceptedText, WritesAllTexts, content_of, is_sequence, text_start_line, byte_order_mark_of, reads_several};
+ghost use Rattle.bson_program.specs.Texts.{CannotWriteAccepted, IsSequence, WritesTextOutput, StopsAt, FailsAtText, ConvertsTexts, FailsOnInput};
+ghost use Rattle.bson_program.specs.Texts.{IsNotJson, WritesAcceptedText, WritesAllTexts, content_of, is_sequence, byte_order_mark_of, reads_several};
 ghost use Rattle.bson_program.specs.SingleText.{IsTextRejected};
 
 use crate::invocation::{Invocation, STDIO};
 use crate::run::RunFailure;
 use crate::single_text::accept_single_text;
+use crate::text_errors::{InputText, error_report};
 use bson::extjson::Doubles;
 use bson_convert::error::Error;
 use bson_convert::fault::Fault;
 use bson_convert::stream::read_whole;
 use bson_json::sequence::split_text;
 use bson_run::accepted::Accepted;
-use bson_run::explain::explain_under;
-use bson_run::syntax_error;
-use bson_run::task::{Criterion, Output, Task};
-use std::alloc::{AllocError, Global};
+use bson_run::task::{Criterion, Output};
+use std::alloc::Global;
 use std::io::{Read, Write};
 
 /// The first bytes that a named file may have, unless its text has to be canonical.
 pub const BYTE_ORDER_MARK: &[u8] = b"\xef\xbb\xbf";
 
-/// A text of an input.
-#[derive(Clone, Copy)]
-struct InputText<'a> {
-    /// All bytes of the input after a byte order mark.
-    content: &'a [u8],
-    /// How many of them come before the text.
-    start: usize,
-    text: &'a [u8],
-}
-
-impl<'a> InputText<'a> {
-    // Returns all bytes as one text.
-    fn whole(content: &'a [u8]) -> InputText<'a>
-        ensures content { result.content.now ≡ content.now }
-        ensures start { result.start ≡ 0 }
-        ensures text { result.text.now ≡ content.now }
-    {
-        InputText {
-            content,
-            start: 0,
-            text: content,
-        }
-    }
-}
-
 /// Converts the texts of the file of this name. All its bytes are one text, or else a sequence of
 /// texts with white space between. Each text of a sequence is converted and written before the next.
 /// A strict run reads one text, and so does a check of canonical text.
 ///
-/// If a text is rejected, the failure has the line of an error in JSON. For any other error it has the
-/// line on which the text begins, or no line (0) if the text is all bytes. The cause of a failed
-/// reader or writer is known to the reader or writer.
+/// If a text is rejected, the failure has the line of an error in JSON, or the line on which a wrong
+/// value begins. For any other error, and for a value of an input of one line, it has the line on which
+/// the text begins, or no line (0) if the text is all bytes. The cause of a failed reader or writer is
+/// known to the reader or writer.
 pub fn convert_texts<'a, R: Read, W: Write>(
     alloc: Global,
     invocation: &'a Invocation,
@@ -249,7 +223,7 @@ fn write_accepted<'a, W: Write>(
     }
 }
 
-// Returns the failure at a text that was rejected, with its line and the place of the error.
+// Returns the failure at a text that was rejected, with its line and the report of the error.
 fn text_failure<'a>(
     alloc: Global,
     invocation: &Invocation,
@@ -262,70 +236,11 @@ fn text_failure<'a>(
         → IsTextRejected invocation.now.options invocation.now.task fault input_text.entry.text.now
         → FailsAtText invocation.now result file_name.now input_text.entry.content.now input_text.entry.start input_text.entry.text.now output_before output_before }
 {
-    match error_position(alloc, invocation.task, &fault, input_text) {
-        Ok((line_number, position_message)) => RunFailure::Text(
-            file_name,
-            line_number,
-            fault,
-            position_message,
-        ),
+    if fault.is_out_of_memory() {
+        return RunFailure::Text(file_name, 0, fault, String::new(alloc));
+    }
+    match error_report(alloc, invocation.task, &fault, input_text) {
+        Ok((line_number, report)) => RunFailure::Text(file_name, line_number, fault, report),
         Err(_) => RunFailure::Text(file_name, 0, Error::OutOfMemory, String::new(alloc)),
     }
-}
-
-// Returns the line of an error, and the message that says where the text is wrong.
-fn error_position(
-    alloc: Global,
-    task: Task,
-    fault: &Error,
-    input_text: InputText<'_>,
-) -> Result<(u64, String), AllocError>
-    ensures line_number { IfOk result
-        (λ line_and_message.
-        IsErrorLine fault.now input_text.entry.content.now input_text.entry.start input_text.entry.text.now line_and_message.0) }
-    ensures position_message { IfOk result
-        (λ line_and_message. IsPositionMessage input_text.entry.text.now fault.now (string_bytes line_and_message.1)) }
-{
-    match fault {
-        Error::NotJson => syntax_error_position(alloc, input_text),
-        Error::NotCanonical(_) => Ok((1, explain_under(alloc, task, fault, input_text.text)?)),
-        Error::OutOfMemory => Ok((0, String::new(alloc))),
-        _ => Ok((
-            text_start_line(input_text) as u64,
-            explain_under(alloc, task, fault, input_text.text)?,
-        )),
-    }
-}
-
-// Returns the line on which the text is not JSON, and the message that says where.
-fn syntax_error_position(
-    alloc: Global,
-    input_text: InputText<'_>,
-) -> Result<(u64, String), AllocError>
-    ensures { IfOk result
-        (λ line_and_message. IsSyntaxPosition input_text.entry.text.now (string_bytes line_and_message.1)) }
-{
-    let json_error = syntax_error::SyntaxError::of(alloc, input_text.text)?;
-    let json_error = syntax_error::SyntaxError {
-        offset: input_text.start.saturating_add(json_error.offset),
-        ..json_error
-    };
-    Ok((
-        json_error.line(input_text.content) as u64,
-        json_error.message(alloc, input_text.content)?,
-    ))
-}
-
-// Returns the line on which a text of a sequence begins; 0 for a text that is all bytes.
-fn text_start_line(input_text: InputText<'_>) -> usize
-    ensures { result ≡ text_start_line input_text.entry.content.now input_text.entry.start input_text.entry.text.now }
-{
-    if input_text.text.len() == input_text.content.len() {
-        return 0;
-    }
-    let bytes_before_text = &input_text.content[..input_text.start.min(input_text.content.len())];
-    1 + bytes_before_text
-        .iter()
-        .filter(|byte| **byte == b'\n')
-        .count()
 }

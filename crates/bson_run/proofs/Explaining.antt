@@ -1,6 +1,6 @@
 -- The place of a refused text's fault.
 use Rattle.std.proofs.Common.{◌≡◌, ◌<◌, ◌==◌, ◌^◌, ◌-◌, ◌++◌, ℕ, List, [], ◌∷◌, true, false, cond, length, codes, refl, sym, ap, subst}
-use Rattle.std.proofs.Common.{◌∙◌, inl, inr, arith, Option, Some, None, Result, Ok, Err, OnOk, take, nat_lt}
+use Rattle.std.proofs.Common.{◌∙◌, inl, inr, append_assoc, arith, Option, Some, None, Result, Ok, Err, OnOk, take, nat_lt}
 use Rattle.std.specs.Char.{is_control}
 use Rattle.std.specs.Fmt.{digits, digits_output, format_spec, padded_integral, radix_digits, styled_digits_output, ◌++?◌}
 use Rattle.std.specs.List.{flat_map, slice_get}
@@ -10,6 +10,7 @@ use Rattle.std.specs.Str.{chars}
 use Rattle.std.proofs.lemmas.Bool.{le-ltb, lt-ltb}
 use Rattle.std.proofs.lemmas.Fmt.{hex_byte}
 use Rattle.std.proofs.lemmas.Option.{slice_get_cases, slice_get_within}
+use Rattle.json.specs.Token.{Token}
 use Rattle.bson_tree.specs.Place.{path_text, path_of}
 use Rattle.bson_tree.specs.declared.place.Place.{Place}
 use Rattle.bson_convert.specs.declared.error.Error.{Error}
@@ -54,8 +55,9 @@ other_where text errors.CannotWrite h = refl
 pub where_from : (text : List ℕ) (fault : Error) (e : Explanation) → IsExplanation text fault e → IsPositionMessage text fault (explanation_message text e)
 where_from text fault (explained.Syntax stop) h =
     subst (λ (f : Error). IsPositionMessage text f (explanation_message text (explained.Syntax stop))) (sym h.0) (column_at stop.offset text, stop.rule, h.1, refl)
-where_from text fault (explained.Value place reason) h =
-    subst (λ (f : Error). IsPositionMessage text f (explanation_message text (explained.Value place reason))) (sym h.0) (
+where_from text fault (explained.Value place reason offset) h =
+    subst (λ (f : Error). IsPositionMessage text f (explanation_message text (explained.Value place reason offset))) (sym h.0) (
+      offset,
       h.1.0,
       h.1.1,
       ap (λ t. path_message (escaped_message (path_text (path_of place.now))) ++ codes " (" ++ t ++ codes ")") h.1.2,
@@ -97,3 +99,12 @@ pub cut_there : (max_chars : ℕ) (add_diagnostic : ℕ → List ℕ) (full_mess
 cut_there max_chars add_diagnostic full_message said more next e at is =
     is ∙ ap (λ s. s ++ cond (is_some next) (codes "..") []) e
     ∙ ap (λ b. flat_map add_diagnostic (take max_chars (chars full_message)) ++ cond b (codes "..") []) (are_more next (chars full_message) max_chars at)
+
+-- ---- tokens, a part after another
+
+pub two_added : (old x y one two : List Token) → one ≡ old ++ x → two ≡ one ++ y → two ≡ old ++ (x ++ y)
+two_added old x y one two e f = f ∙ ap (λ l. l ++ y) e ∙ append_assoc old x y
+
+pub three_added : (old x y z one two three : List Token) → one ≡ old ++ x → two ≡ one ++ y → three ≡ two ++ z
+    → three ≡ old ++ (x ++ y ++ z)
+three_added old x y z one two three e f g = two_added old (x ++ y) z two three (two_added old x y one two e f) g

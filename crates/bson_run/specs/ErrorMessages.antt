@@ -1,5 +1,5 @@
 -- The message that says where the error of a rejected text is.
-use Rattle.std.specs.Prelude.{◌≡◌, ◌≢◌, ◌⊎◌, ◌↔◌, ◌+◌, ◌<◌, ◌/◌, ◌%◌, ◌==◌, ℕ, List, [], ◌∷◌, ◌++◌, codes, length, nat_lt, take, sum_by, Some, IsUtf8, string_bytes, Bool, true, false, not, suc, ◌-◌, min}
+use Rattle.std.specs.Prelude.{◌≡◌, ◌≢◌, ◌⊎◌, ◌↔◌, ◌+◌, ◌<◌, ◌/◌, ◌%◌, ◌==◌, ℕ, List, [], ◌∷◌, ◌++◌, codes, length, nat_lt, take, sum_by, Option, None, Some, IsUtf8, string_bytes, Bool, true, false, not, suc, ◌-◌, min}
 use Rattle.std.specs.Prelude.{count_by, reverse, take_while}
 use Rattle.std.specs.Prelude.{if◌then◌else◌}
 use Rattle.std.specs.Char.{is_control, digit_char, encode_utf8}
@@ -12,7 +12,7 @@ use Rattle.json.specs.Token.{Token, begin_object, end_object, begin_array, end_a
 use Rattle.serde_json.specs.Data.{Data}
 use Rattle.serde_json.specs.Read.{max_depth}
 use Rattle.bson.specs.TextMeaning.{IsNotJsonText, IsTextOf}
-use Rattle.bson_tree.specs.Place.{path_text, path_of}
+use Rattle.bson_tree.specs.Place.{PathSegment, path_text, path_of}
 use Rattle.bson_tree.specs.declared.place.Place.{Place}
 use Rattle.bson_tree.specs.declared.place.Reason.{Reason}
 use Rattle.bson_tree.specs.declared.place.Reason.TheVariants.{BadObjectId, WrongShape}
@@ -61,21 +61,33 @@ found_message value = codes "; found " ++ truncated 60 encode_utf8 value
 abbrev pub IsSubslice : (part text : List ℕ) → Type 0
 IsSubslice part text = (text_before : List ℕ) × (text_after : List ℕ) × (text ≡ text_before ++ part ++ text_after)
 
--- nothing, or the quote of a part of the text; no contract says that it is the value at the path
-abbrev pub IsQuotedValue : (text full_message : List ℕ) → Type 0
-IsQuotedValue text full_message = (full_message ≡ [])
-    ⊎ ((part : List ℕ) × IsSubslice part text × (full_message ≡ found_message part))
+-- the part begins after this number of bytes of the text
+abbrev pub IsSubsliceAt : (offset : ℕ) → (part text : List ℕ) → Type 0
+IsSubsliceAt offset part text =
+    (text_before : List ℕ) × (text_after : List ℕ) × (text ≡ text_before ++ part ++ text_after)
+    × (length text_before ≡ offset)
 
--- what was expected, and after it what was found in the text; any message for an object id
-abbrev pub IsReasonMessage : (text : List ℕ) → Reason → (full_message : List ℕ) → Type 0
-IsReasonMessage text (WrongShape expected) full_message =
-    (quote : List ℕ) × IsQuotedValue text quote × (full_message ≡ expected.now ++ quote)
-IsReasonMessage text (BadObjectId object_id_error) full_message = Unit {0}
+-- no value and no quote; or the offset of a part of the text, with its quote or without one; no contract says that it is
+-- the value at the path
+abbrev pub IsQuotedValue : (text : List ℕ) → (offset : Option ℕ) → (quote : List ℕ) → Type 0
+IsQuotedValue text None quote = quote ≡ []
+IsQuotedValue text (Some offset) quote =
+    (part : List ℕ) × IsSubsliceAt offset part text × ((quote ≡ []) ⊎ (quote ≡ found_message part))
+
+-- what was expected, and after it the quote; any message for an object id
+abbrev pub IsQuotingMessage : Reason → (quote full_message : List ℕ) → Type 0
+IsQuotingMessage (WrongShape expected) quote full_message = full_message ≡ expected.now ++ quote
+IsQuotingMessage (BadObjectId object_id_error) quote full_message = Unit {0}
+
+-- the reason, after which a value of the text is quoted that begins at the offset
+abbrev pub IsReasonMessage : (text : List ℕ) → (offset : Option ℕ) → Reason → (full_message : List ℕ) → Type 0
+IsReasonMessage text offset reason full_message =
+    (quote : List ℕ) × IsQuotedValue text offset quote × IsQuotingMessage reason quote full_message
 
 -- the path of the error, and its reason
 abbrev pub IsPathMessage : (text : List ℕ) → Place → (full_message : List ℕ) → Type 0
 IsPathMessage text place full_message =
-    (message : List ℕ) × IsReasonMessage text place.reason message
+    (offset : Option ℕ) × (message : List ℕ) × IsReasonMessage text offset place.reason message
     × (full_message
     ≡ path_message (escaped_message (path_text (path_of place))) ++ codes " (" ++ escaped_message message ++ codes ")")
 
@@ -167,12 +179,13 @@ HasNoPosition (NotExtendedJson place) = ⊥
 HasNoPosition (NotCanonical column) = ⊥
 HasNoPosition other_error = Unit {0}
 
--- why a text is rejected: the rule that it breaks, or the path of its error and the reason in a message, or nothing
+-- why a text is rejected: the rule that it breaks, or the path of its error, the reason in a message and the offset of
+-- the value, or nothing
 abbrev pub IsExplanation : (text : List ℕ) → Error → Explanation → Type 0
 IsExplanation text fault (explained.Syntax syntax_error) = (fault ≡ NotJson) × BreaksRule text syntax_error.rule
-IsExplanation text fault (explained.Value place reason) =
+IsExplanation text fault (explained.Value place reason offset) =
     (fault ≡ NotExtendedJson place.now)
-    × ((message : List ℕ) × IsReasonMessage text place.now.reason message
+    × ((message : List ℕ) × IsReasonMessage text offset place.now.reason message
     × (string_bytes reason ≡ escaped_message message))
 IsExplanation text fault (explained.Difference column) = fault ≡ NotCanonical column
 IsExplanation text fault explained.Other = HasNoPosition fault
@@ -181,10 +194,22 @@ IsExplanation text fault explained.Other = HasNoPosition fault
 abbrev pub explanation_message : (text : List ℕ) → Explanation → List ℕ
 explanation_message text (explained.Syntax syntax_error) =
     column_and_rule (column_at syntax_error.offset text) syntax_error.rule
-explanation_message text (explained.Value place reason) =
+explanation_message text (explained.Value place reason offset) =
     path_message (escaped_message (path_text (path_of place.now))) ++ codes " (" ++ string_bytes reason ++ codes ")"
 explanation_message text (explained.Difference column) = column_message column
 explanation_message text explained.Other = []
+
+-- how many bytes of the text are before its error, if that is known; at most all but one if it ends too early
+abbrev pub explanation_offset : (text : List ℕ) → Explanation → Option ℕ
+explanation_offset text (explained.Syntax syntax_error) = Some (min syntax_error.offset (length text - 1))
+explanation_offset text (explained.Value place reason offset) = offset
+explanation_offset text (explained.Difference column) = Some (column - 1)
+explanation_offset text explained.Other = None
+
+-- the path to a value, from it outward
+abbrev pub explanation_path : Explanation → Option (List PathSegment)
+explanation_path (explained.Value place reason offset) = Some (path_of place.now)
+explanation_path explanation = None
 
 -- where the error of a text is; nothing for an error that is not one of a text
 abbrev pub IsPositionMessage : (text : List ℕ) → Error → (full_message : List ℕ) → Type 0

@@ -1,4 +1,5 @@
 pub mod Accepted
+pub mod Diagnostic
 pub mod Encode
 pub mod Indent
 pub mod Lines

@@ -1,17 +1,15 @@
 -- A run over lines: each line of the input is a text of its own.
 use Rattle.std.specs.Prelude.{◌≡◌, ◌≢◌, ◌⊎◌, ◌+◌, ◌==◌, ◌&&◌, ℕ, List, [], ◌∷◌, ◌++◌, Option, None, Some, length, drop}
-use Rattle.std.specs.Prelude.{codes, All, IsUtf8, if◌then◌else◌, min, ◌-◌, ◌^◌}
-use Rattle.std.specs.Fmt.{decimal}
+use Rattle.std.specs.Prelude.{All, IsUtf8, if◌then◌else◌, min, ◌-◌, ◌^◌}
 use Rattle.std.specs.List.{starts_with}
 use Rattle.std.specs.Io.KnownBytes.{Appends, Consumes}
 use Rattle.bson_model.specs.declared.options.Options.{Options}
-use Rattle.bson_convert.specs.Convert.{IsAccepted, IsCanonicalText, IsRejectedIn, IsUncanonicalAt, newline}
+use Rattle.bson_convert.specs.Convert.{IsAccepted, IsCanonicalText, IsRejectedIn, IsUncanonicalAt}
 use Rattle.bson_run.specs.Encode.{Encodes, TextHasNoBsonBytes}
 use Rattle.bson_convert.specs.InOrder.{ConvertsBy}
-use Rattle.bson_run.specs.ErrorMessages.{IsPositionMessage}
+use Rattle.bson_run.specs.Diagnostic.{IsDiagnostic}
 use Rattle.bson_convert.specs.Run.{WritesBeginning, WritesPart}
 use Rattle.bson_convert.specs.Run.{ReadsAll}
-use Rattle.bson_convert.specs.Messages.{error_message}
 use Rattle.bson_convert.specs.declared.error.Error.{Error}
 use Rattle.bson_convert.specs.declared.error.Error.TheVariants.{CannotRead, NotJson, NotExtendedJson, NoBytes, OutOfMemory}
 use Rattle.bson_convert.specs.declared.error.Error.TheVariants.{CannotWrite, NotCanonical}
@@ -106,15 +104,6 @@ IsRejectedLineIn options task (NoBytes no_bytes_cause) text =
 IsRejectedLineIn options task (NotCanonical column) text = HasNoOutputForTask options (NotCanonical column) task text
 IsRejectedLineIn options task other_error text = ⊥
 
--- the diagnostic for a rejected line: its number, the error and its path
-abbrev pub diagnostic_at : (line_number : ℕ) → Error → (position_message : List ℕ) → List ℕ
-diagnostic_at line_number fault position_message =
-    codes "bson: line " ++ decimal line_number ++ codes ": " ++ error_message fault ++ position_message ++ newline
-
-abbrev pub IsDiagnostic : (line_number : ℕ) → Error → (text diagnostic : List ℕ) → Type 0
-IsDiagnostic line_number fault text diagnostic = (position_message : List ℕ)
-    × IsPositionMessage text fault position_message × (diagnostic ≡ diagnostic_at line_number fault position_message)
-
 -- ---- what lines give, one after the other
 
 -- the output of these lines, their diagnostics, and the number of rejected lines
@@ -136,7 +125,7 @@ pub data LineOutcomes (options : Options) (task : Task) (on_refusal : OnRefusal)
       (diagnostic : List ℕ) → LineOutcomes options task on_refusal earlier_lines output diagnostics_before refused
       → on_refusal ≢ Stop
       → IsRejectedLineIn options task fault (line_text (length earlier_lines) line)
-      → IsDiagnostic (length earlier_lines + 1) fault (line_text (length earlier_lines) line) diagnostic
+      → IsDiagnostic task.diagnostics (length earlier_lines + 1) fault (line_text (length earlier_lines) line) diagnostic
       → LineOutcomes options task on_refusal (earlier_lines ++ line ∷ []) output (diagnostics_before ++ diagnostic)
       (refused + 1)
 

@@ -1,7 +1,8 @@
 -- For private clauses: how far a run over lines has come.
 use Rattle.std.specs.Prelude.{◌≡◌, ◌≢◌, ◌⊎◌, ◌<◌, ◌≤◌, ◌+◌, ◌-◌, ◌^◌, ℕ, List, [], ◌∷◌, ◌++◌, Option, length, All, IsUtf8}
 use Rattle.std.specs.Io.KnownBytes.{Appends, Consumes, Keeps}
-use Rattle.bson_run.specs.Lines.{lines, buffered_text, HasNoOutputFor, HaveLineOutcomes, IsRejectedLineIn, IsStoppedAtNextLine, IsDiagnostic}
+use Rattle.bson_run.specs.Lines.{lines, buffered_text, HasNoOutputFor, HaveLineOutcomes, IsRejectedLineIn, IsStoppedAtNextLine}
+use Rattle.bson_run.specs.Diagnostic.{IsDiagnostic}
 use Rattle.bson_convert.specs.Run.{WritesPart}
 -- the types that the steps speak of, for the proofs too
 pub use Rattle.bson_model.specs.declared.options.Options.{Options}
@@ -9,6 +10,7 @@ pub use Rattle.bson_convert.specs.declared.error.Error.{Error}
 pub use Rattle.bson_convert.specs.declared.error.Error.TheVariants.{CannotRead, NotJson, NotExtendedJson, NoBytes, OutOfMemory}
 pub use Rattle.bson_convert.specs.declared.error.Error.TheVariants.{CannotWrite, NotCanonical}
 pub use Rattle.bson_run.specs.declared.line_run_state.LineRunState.{LineRunState}
+pub use Rattle.bson_run.specs.declared.task.DiagnosticFormat.{DiagnosticFormat}
 pub use Rattle.bson_run.specs.declared.task.OnRefusal.{OnRefusal}
 pub use Rattle.bson_run.specs.declared.task.Output.{Output}
 pub use Rattle.bson_run.specs.declared.task.Task.{Task}
@@ -37,12 +39,11 @@ IsOutputFailure options OutOfMemory output text = Unit {0}
 IsOutputFailure options fault output text = HasNoOutputFor options fault output text
 
 -- the diagnostic on a text was appended to those before
-abbrev pub IsDiagnosticAppended : Options → Task → (line_number : ℕ) → Error
+abbrev pub IsDiagnosticAppended : DiagnosticFormat → (line_number : ℕ) → Error
     → (text old_diagnostics new_diagnostics : List ℕ) → Type 0
-IsDiagnosticAppended options task line_number fault text old_diagnostics new_diagnostics =
-    (diagnostic : List ℕ) × (IsRejectedLineIn options task fault text
-    → IsDiagnostic line_number fault text diagnostic) × (new_diagnostics ≡ old_diagnostics ++ diagnostic)
-    × IsUtf8 diagnostic
+IsDiagnosticAppended format line_number fault text old_diagnostics new_diagnostics =
+    (diagnostic : List ℕ) × IsDiagnostic format line_number fault text diagnostic
+    × (new_diagnostics ≡ old_diagnostics ++ diagnostic) × IsUtf8 diagnostic
 
 -- the run is before its first line
 pub record IsBeforeFirstLine (state : LineRunState) : Type 0 where

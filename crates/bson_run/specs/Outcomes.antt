@@ -4,7 +4,9 @@ use Rattle.bson_model.specs.declared.options.Options.{Options}
 use Rattle.bson_tree.specs.Place.{path_of}
 use Rattle.bson_convert.specs.declared.error.Error.{Error}
 use Rattle.bson_convert.specs.declared.error.Error.TheVariants.{NotJson, NotExtendedJson, NoBytes, NotCanonical}
-use Rattle.bson_run.specs.Lines.{line_text, IsRejectedLineIn, LineOutcomes, IsDiagnostic}
+use Rattle.bson_run.specs.Lines.{line_text, IsRejectedLineIn, LineOutcomes}
+use Rattle.bson_run.specs.Diagnostic.{IsDiagnostic}
+use Rattle.bson_run.specs.declared.task.DiagnosticFormat.{DiagnosticFormat}
 use Rattle.bson_run.specs.declared.task.OnRefusal.{OnRefusal}
 use Rattle.bson_run.specs.declared.task.OnRefusal.TheVariants.{Stop}
 use Rattle.bson_run.specs.declared.task.Task.{Task}
@@ -27,13 +29,13 @@ IsSameFault fault other_error = ⊥
 
 -- diagnostics on the same texts for the same errors; they differ only in what `IsDiagnostic` leaves open: the column
 -- and the rule of a text that is not JSON, and after a path the message of what was expected and found
-pub data AreSameDiagnostics : List ℕ → List ℕ → Type 0 where
-  silent : AreSameDiagnostics [] []
+pub data AreSameDiagnostics (format : DiagnosticFormat) : List ℕ → List ℕ → Type 0 where
+  silent : AreSameDiagnostics format [] []
   also : {diagnostics other_diagnostics : List ℕ} (line_number : ℕ) (fault cause : Error)
-      (text diagnostic other_diagnostic : List ℕ) → AreSameDiagnostics diagnostics other_diagnostics
-      → IsSameFault fault cause → IsDiagnostic line_number fault text diagnostic
-      → IsDiagnostic line_number cause text other_diagnostic
-      → AreSameDiagnostics (diagnostics ++ diagnostic) (other_diagnostics ++ other_diagnostic)
+      (text diagnostic other_diagnostic : List ℕ) → AreSameDiagnostics format diagnostics other_diagnostics
+      → IsSameFault fault cause → IsDiagnostic format line_number fault text diagnostic
+      → IsDiagnostic format line_number cause text other_diagnostic
+      → AreSameDiagnostics format (diagnostics ++ diagnostic) (other_diagnostics ++ other_diagnostic)
 
 -- a run over these lines does those before the one of this number, and stops at that one, which is refused for the fault
 pub record StopsInsideInput (options : Options) (task : Task) (on_refusal : OnRefusal) (all : List (List ℕ))

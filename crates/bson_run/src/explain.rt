@@ -1,11 +1,11 @@
 //! Why a text is rejected, and where: as data, and as a message.
-ghost use Rattle.std.specs.Prelude.{◌≡◌, ◌++◌, codes, ℕ, List, IfOk, string_bytes};
-ghost use Rattle.bson_tree.specs.Place.{path_text, path_of};
-ghost use Rattle.bson_run.specs.ErrorMessages.{IsExplanation, IsQuotedValue, IsReasonMessage, IsPositionMessage, column_message, path_message, escaped_message};
-ghost use Rattle.bson_run.specs.ErrorMessages.{explanation_message};
+ghost use Rattle.std.specs.Prelude.{◌≡◌, ◌++◌, codes, ℕ, List, IfOk, map, option_map, string_bytes};
+ghost use Rattle.bson_tree.specs.Place.{path_text, path_of, segment_of};
+ghost use Rattle.bson_run.specs.ErrorMessages.{IsExplanation, IsQuotedValue, IsQuotingMessage, IsPositionMessage, column_message, path_message, escaped_message};
+ghost use Rattle.bson_run.specs.ErrorMessages.{explanation_message, explanation_offset, explanation_path};
 
 use crate::preprocessed::{DUPLICATE_KEY, upgrade};
-use crate::quoted_value::quote_value_at;
+use crate::quoted_value::{Occurrence, QuotedValue, quote_value_at};
 use crate::shorten::shorten;
 use crate::syntax_error::SyntaxError;
 use crate::task::Task;
@@ -21,9 +21,10 @@ const MAX_CHARS: usize = 300;
 /// ```
 /// let text: &[u8] = br#"{"orders": [1.5]}"#;
 /// if let Err(error) = convert(alloc, Mode::Canonical, text) {
-///     if let Explanation::Value(place, reason) = Explanation::of(alloc, &error, text)? {
+///     if let Explanation::Value { place, reason, offset } = Explanation::of(alloc, &error, text)? {
 ///         println!(rt; "{:?}", place.segments)?; // [Element(0), Key("orders")]
 ///         println!(rt; "{reason}")?; // not a 64-bit integer; found 1.5
+///         println!(rt; "{offset:?}")?; // Some(12)
 ///     }
 /// }
 /// ```
@@ -31,9 +32,17 @@ const MAX_CHARS: usize = 300;
 pub enum Explanation<'a> {
     /// The text is not JSON: where it stops to be JSON, and the rule that it breaks.
     Syntax(SyntaxError),
-    /// A value is invalid: its place, and the reason as a message has it. That is what was expected,
-    /// and the value in the text, in at most 300 characters.
-    Value(&'a Place, String),
+    /// A value is invalid.
+    Value {
+        /// Its path, and what is wrong there.
+        place: &'a Place,
+        /// The reason as a message has it: what was expected, and the value in the text, in at most 300
+        /// characters.
+        reason: String,
+        /// The number of bytes of the text before the value. If a key is a duplicate, the value is that of
+        /// its second occurrence. `None` if the text has no value at the path.
+        offset: Option<usize>,
+    },
     /// The text is valid, and not canonical: the column of the first byte that differs, from 1. It is
     /// on the first line, since a canonical text has one.
     Difference(usize),
@@ -63,9 +72,34 @@ impl<'a> Explanation<'a> {
     {
         match self {
             Explanation::Syntax(syntax_error) => syntax_error.message(alloc, text),
-            Explanation::Value(place, reason) => place_text(alloc, place, reason.as_str()),
+            Explanation::Value { place, reason, .. } => place_text(alloc, place, reason.as_str()),
             Explanation::Difference(column) => column_text(alloc, *column),
             Explanation::Other => Ok(String::new(alloc)),
+        }
+    }
+
+    /// Returns the number of bytes of the text before the error, if it is known. If the text ends too
+    /// early, it is that of the last byte.
+    pub fn offset(&self, text: &[u8]) -> Option<usize>
+        ensures { result ≡ explanation_offset text.now self.now }
+    {
+        match self {
+            Explanation::Syntax(syntax_error) => {
+                Some(syntax_error.offset.min(text.len().saturating_sub(1)))
+            }
+            Explanation::Value { offset, .. } => *offset,
+            Explanation::Difference(column) => Some(column.saturating_sub(1)),
+            Explanation::Other => None,
+        }
+    }
+
+    /// Returns the path to the invalid value, from the value outward.
+    pub fn path(&self) -> Option<&[Segment]>
+        ensures { option_map (λ segments. map segment_of segments.now) result ≡ explanation_path self.now }
+    {
+        match self {
+            Explanation::Value { place, .. } => Some(place.segments.as_slice()),
+            _ => None,
         }
     }
 }
@@ -94,7 +128,7 @@ impl<'a> Explanation<'a> {
 pub fn explain(alloc: Global, fault: &Error, text: &[u8]) -> Result<String, AllocError>
     ensures place { IfOk result (λ full_message. IsPositionMessage text.now fault.now (string_bytes full_message)) }
 {
-    explain_in(alloc, fault, text, None)
+    Explanation::of(alloc, fault, text)?.message(alloc, text)
 }
 
 /// Explains why a task rejected a text, as [`explain`] does. If another text was read instead, the
@@ -111,12 +145,30 @@ pub fn explain_under(
 ) -> Result<String, AllocError>
     ensures place { IfOk result (λ full_message. IsPositionMessage text.now fault.now (string_bytes full_message)) }
 {
+    explanation_under(alloc, task, fault, text)?.message(alloc, text)
+}
+
+/// Explains why a task rejected a text, as data. If another text was read instead, the path leads
+/// into that text. The value there is quoted, and has an offset, only if the first text has it at
+/// that path, too.
+///
+/// # Errors
+///
+/// `AllocError` if an allocation fails.
+pub fn explanation_under<'a>(
+    alloc: Global,
+    task: Task,
+    fault: &'a Error,
+    text: &[u8],
+) -> Result<Explanation<'a>, AllocError>
+    ensures { IfOk result (λ explanation. IsExplanation text.now fault.now explanation) }
+{
     let Error::NotExtendedJson(_) = fault else {
-        return explain(alloc, fault, text);
+        return explanation_in(alloc, fault, text, None);
     };
     match upgraded_text(alloc, task, text)? {
-        Some(upgraded) => explain_in(alloc, fault, text, Some(upgraded.as_bytes())),
-        None => explain_in(alloc, fault, text, None),
+        Some(upgraded) => explanation_in(alloc, fault, text, Some(upgraded.as_bytes())),
+        None => explanation_in(alloc, fault, text, None),
     }
 }
 
@@ -131,18 +183,6 @@ fn upgraded_text(alloc: Global, task: Task, text: &[u8]) -> Result<Option<String
     }
 }
 
-// Returns the message for the error of a text, or of the newer text that was read.
-fn explain_in(
-    alloc: Global,
-    fault: &Error,
-    text: &[u8],
-    upgraded: Option<&[u8]>,
-) -> Result<String, AllocError>
-    ensures { IfOk result (λ full_message. IsPositionMessage text.now fault.now (string_bytes full_message)) }
-{
-    explanation_in(alloc, fault, text, upgraded)?.message(alloc, text)
-}
-
 // Explains the error of a text, or of the newer one that was read.
 fn explanation_in<'a>(
     alloc: Global,
@@ -155,8 +195,13 @@ fn explanation_in<'a>(
     match fault {
         Error::NotJson => Ok(Explanation::Syntax(SyntaxError::of(alloc, text)?)),
         Error::NotExtendedJson(place) => {
-            let reason = reason_text(alloc, place, text, upgraded)?;
-            Ok(Explanation::Value(place, reason))
+            let value = value_at_place(alloc, place, text, upgraded)?;
+            let reason = reason_text(alloc, &place.reason, value.quote.as_str())?;
+            Ok(Explanation::Value {
+                place,
+                reason,
+                offset: value.offset,
+            })
         }
         Error::NotCanonical(column) => Ok(Explanation::Difference(*column)),
         _ => Ok(Explanation::Other),
@@ -183,60 +228,53 @@ fn place_text(alloc: Global, place: &Place, reason: &str) -> Result<String, Allo
     format!(in alloc; " at {path} ({reason})")
 }
 
-// The reason at a place, as a message has it.
-fn reason_text(
-    alloc: Global,
-    place: &Place,
-    text: &[u8],
-    upgraded: Option<&[u8]>,
-) -> Result<String, AllocError>
-    ensures { IfOk result (λ full_message. (message : List ℕ) × IsReasonMessage text.now place.now.reason message
+// The reason as a message has it, with the quote of the value.
+fn reason_text(alloc: Global, reason: &Reason, quote: &str) -> Result<String, AllocError>
+    ensures { IfOk result (λ full_message. (message : List ℕ) × IsQuotingMessage reason.now quote.now message
         × (string_bytes full_message ≡ escaped_message message)) }
 {
-    let reason = reason_in(alloc, place, text, upgraded)?;
+    let reason = uncut_reason(alloc, reason, quote)?;
     shorten(alloc, reason.as_str(), MAX_CHARS, true)
 }
 
-// Returns the message for what was expected at a path, and for the value that was found there.
-fn reason_in(
+// Returns the message for what was expected, and after it the quote of the value that was found.
+fn uncut_reason(alloc: Global, reason: &Reason, quote: &str) -> Result<String, AllocError>
+    ensures { IfOk result (λ full_message. IsQuotingMessage reason.now quote.now (string_bytes full_message)) }
+{
+    match reason {
+        Reason::BadObjectId(object_id_error) => format!(in alloc; "{object_id_error}"),
+        Reason::WrongShape(expected) => format!(in alloc; "{expected}{quote}"),
+    }
+}
+
+// Returns the value at the path of an error. The second value at a duplicate key is not quoted, since it
+// is not wrong. There is no value if the newer text has another value there.
+fn value_at_place(
     alloc: Global,
     place: &Place,
     text: &[u8],
     upgraded: Option<&[u8]>,
-) -> Result<String, AllocError>
-    ensures { IfOk result (λ full_message. IsReasonMessage text.now place.now.reason (string_bytes full_message)) }
+) -> Result<QuotedValue, AllocError>
+    ensures { IfOk result (λ value. IsQuotedValue text.now value.offset (string_bytes value.quote)) }
 {
-    match &place.reason {
-        Reason::BadObjectId(object_id_error) => format!(in alloc; "{object_id_error}"),
-        Reason::WrongShape(expected) => {
-            let quoted_value_text = quote_at(alloc, expected, &place.segments, text, upgraded)?;
-            format!(in alloc; "{expected}{quoted_value_text}")
-        }
+    let segments = &place.segments;
+    if is_duplicate_key(&place.reason) {
+        let value = quote_value_at(alloc, segments, text, Occurrence::Second)?;
+        return Ok(value.without_quote(alloc));
+    }
+    let value = quote_value_at(alloc, segments, text, Occurrence::Last)?;
+    let Some(upgraded) = upgraded else {
+        return Ok(value);
+    };
+    let upgraded_value = quote_value_at(alloc, segments, upgraded, Occurrence::Last)?;
+    if upgraded_value.quote.as_str() == value.quote.as_str() {
+        Ok(value)
+    } else {
+        Ok(QuotedValue::missing(alloc))
     }
 }
 
-// Returns the quote of the value at a path. It is empty for a duplicate key, since no value is wrong,
-// and none if the newer text has another value there.
-fn quote_at(
-    alloc: Global,
-    expected: &str,
-    segments: &[Segment],
-    text: &[u8],
-    upgraded: Option<&[u8]>,
-) -> Result<String, AllocError>
-    ensures { IfOk result (λ full_message. IsQuotedValue text.now (string_bytes full_message)) }
-{
-    if expected == DUPLICATE_KEY {
-        return Ok(String::new(alloc));
-    }
-    let quoted_value_text = quote_value_at(alloc, segments, text)?;
-    let Some(upgraded) = upgraded else {
-        return Ok(quoted_value_text);
-    };
-    let upgraded_value_text = quote_value_at(alloc, segments, upgraded)?;
-    if upgraded_value_text.as_str() == quoted_value_text.as_str() {
-        Ok(quoted_value_text)
-    } else {
-        Ok(String::new(alloc))
-    }
+// Returns whether the reason is that of a duplicate key.
+fn is_duplicate_key(reason: &Reason) -> bool {
+    matches!(reason, Reason::WrongShape(expected) if *expected == DUPLICATE_KEY)
 }

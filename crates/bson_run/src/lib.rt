@@ -7,11 +7,13 @@
 //! `task` (what is requested), `line_run_state` (the line that is read, and the output of those before it) and
 //! `lines` (the whole run). Messages for a rejected text: `syntax_error` (the offset at which bytes are not JSON)
 //! with `rule` (which of its rules they break, which `broken_rule` finds), and `explain` with `quoted_value`
-//! (the value at a path) and `shorten` (a message, cut and escaped).
+//! (the value at a path), `shorten` (a message, cut and escaped), `position` (lines and columns) and `diagnostic`
+//! (a message on a line, or a JSON object).
 #![tactic(auto)]
 
 pub mod accepted;
 mod broken_rule;
+pub mod diagnostic;
 pub mod encode;
 pub mod explain;
 pub mod indent;
@@ -19,6 +21,7 @@ pub mod indented;
 pub mod laws;
 mod line_run_state;
 pub mod lines;
+pub mod position;
 pub mod preprocessed;
 mod quoted_value;
 pub mod rule;

@@ -1,19 +1,19 @@
 //! The state of a run over lines: the buffered line, and the output of the lines before it.
 ghost use Rattle.std.specs.Prelude.{◌≡◌, ◌⊎◌, ◌++◌, ◌+◌, [], ◌∷◌, ◌<◌, length, IfOk, IfErr, take};
 ghost use Rattle.std.specs.Prelude.{OnOk, OnErr, None, Ok, IsTrue, ◌↔◌, string_bytes};
-ghost use Rattle.std.specs.Prelude.{MatchOption, IfSome, IsUtf8, ◌≢◌, slice_index};
-ghost use Rattle.bson_run.specs.Lines.{IsBlank, IsRejectedLineIn, IsStoppedAtText, IsDiagnostic, WritesOutputForTask};
-ghost use Rattle.bson_run.specs.Lines.{diagnostic_at, buffered_text, line_text, CriterionAccepts, WritesOutput, WritesText};
+ghost use Rattle.std.specs.Prelude.{MatchOption, IfSome, IsUtf8, ◌≢◌, slice_index, min, ◌-◌, ◌^◌};
+ghost use Rattle.bson_run.specs.Lines.{IsBlank, IsRejectedLineIn, IsStoppedAtText, WritesOutputForTask};
+ghost use Rattle.bson_run.specs.Diagnostic.{IsDiagnostic};
+ghost use Rattle.bson_run.specs.Lines.{buffered_text, line_text, CriterionAccepts, WritesOutput, WritesText};
 ghost use Rattle.bson_run.specs.LinesSteps.{EndsLastLine, LineCountFits, HaveSameResults, IsLineCountOverflow};
 ghost use Rattle.bson_run.specs.LinesSteps.{IsConversionFailure, IsOutputFailure, HasNoNewline, IsBeforeFirstLine, IsDiagnosticAppended, StopsAtLastLine, StopsInBytes};
 ghost use Rattle.bson_run.specs.LinesSteps.{ReadsBytes, EndsLine};
 ghost use Rattle.bson_run.specs.declared.task.OnRefusal.TheVariants.{Stop};
 ghost use Rattle.bson_run.specs.ErrorMessages.{IsPositionMessage};
-ghost use Rattle.bson_run.specs.declared.task.Task.{Task};
 ghost use Rattle.bson_run.specs.declared.task.Output.TheVariants.{Nothing};
 ghost use Rattle.bson_run.specs.Preprocessed.{preprocessed_of};
-ghost use Rattle.bson_model.specs.declared.options.Options.{Options};
 
+use crate::diagnostic::line_diagnostic;
 use crate::encode::encode_line;
 use crate::explain::explain_under;
 use crate::preprocessed::preprocess_text;
@@ -155,19 +155,6 @@ fn check_by_criterion(
     }
 }
 
-// Returns the diagnostic for a rejected line: its number, the message of the error, and the path.
-fn diagnostic_line(
-    alloc: Global,
-    number: u64,
-    fault: &Error,
-    place: &str,
-) -> Result<String, AllocError>
-    ensures { IfOk result (λ diagnostics. string_bytes diagnostics ≡ diagnostic_at number fault.now place.now) }
-{
-    let message = fault.message();
-    format!(in alloc; "bson: line {number}: {message}{place}\n")
-}
-
 /// Removes the bytes, and frees the memory of many.
 pub(crate) fn clear_buffer(bytes: &mut Vec<u8>)
     ensures { bytes.new.items ≡ [] }
@@ -216,6 +203,19 @@ impl LineRunState {
         ensures { IfOk result (λ place. IsPositionMessage (buffered_text self.now) fault.now (string_bytes place)) }
     {
         explain_under(alloc, task, fault, text(self.lines, &self.line))
+    }
+
+    /// Returns the diagnostic on the line that is being read, in the format of the task.
+    ///
+    /// # Errors
+    ///
+    /// `AllocError` if an allocation fails.
+    pub fn diagnostic(&self, alloc: Global, task: Task, fault: &Error) -> Result<String, AllocError>
+        ensures { IfOk result (λ diagnostic. IsDiagnostic task.diagnostics (min (self.now.lines + 1) (2 ^ 64 - 1))
+            fault.now (buffered_text self.now) (string_bytes diagnostic)) }
+    {
+        let number = self.lines.saturating_add(1);
+        line_diagnostic(alloc, task, number, fault, text(self.lines, &self.line))
     }
 
     // Appends bytes to the line.
@@ -273,8 +273,8 @@ impl LineRunState {
         requires room { LineCountFits self.old }
         ensures ok { OnOk result ((fault ≢ Error.OutOfMemory) × (settings.on_refusal ≢ Stop)
             × (self.new.refused ≡ self.old.refused + 1)
-            × ((options : Options) (task : Task) → IsDiagnosticAppended options task (self.old.lines + 1) fault
-            (line_text self.old.lines self.old.line.items) self.old.diagnostics.items self.new.diagnostics.items)) }
+            × IsDiagnosticAppended settings.task.diagnostics (self.old.lines + 1) fault
+            (line_text self.old.lines self.old.line.items) self.old.diagnostics.items self.new.diagnostics.items) }
         ensures err { OnErr result ((self.new.diagnostics.items ≡ self.old.diagnostics.items)
             × (self.new.refused ≡ self.old.refused)) }
         ensures unchanged { (self.new.line ≡ self.old.line) × (self.new.output ≡ self.old.output)
@@ -300,16 +300,15 @@ impl LineRunState {
     fn add_diagnostic(&mut self, alloc: Global, task: Task, fault: &Error) -> Result<(), AllocError>
         requires room { LineCountFits self.old }
         ensures ok { OnOk result
-            ((options : Options) (task : Task) → IsDiagnosticAppended options task (self.old.lines + 1) fault.now
+            (IsDiagnosticAppended task.diagnostics (self.old.lines + 1) fault.now
             (line_text self.old.lines self.old.line.items) self.old.diagnostics.items self.new.diagnostics.items) }
         ensures err { OnErr result (self.new.diagnostics.items ≡ self.old.diagnostics.items) }
         ensures unchanged { (self.new.line ≡ self.old.line) × (self.new.output ≡ self.old.output)
             × (self.new.lines ≡ self.old.lines) × (self.new.refused ≡ self.old.refused) }
     {
-        let place = self.place(alloc, task, fault)?;
-        let diagnostic_line = diagnostic_line(alloc, self.lines + 1, fault, &place)?;
-        self.diagnostics
-            .extend_from_slice(diagnostic_line.as_bytes())
+        let line = text(self.lines, &self.line);
+        let diagnostic = line_diagnostic(alloc, task, self.lines + 1, fault, line)?;
+        self.diagnostics.extend_from_slice(diagnostic.as_bytes())
     }
 
     /// Reads bytes: each line that ends in them, and the beginning of the next.

@@ -3,6 +3,7 @@ ghost use Rattle.std.specs.Prelude.{◌≡◌, ◌+◌, ℕ, List, Option, IfOk,
 ghost use Rattle.std.specs.Prelude.{string_bytes};
 ghost use Rattle.std.specs.Io.KnownBytes.{Appends, Consumes, IsAtEnd};
 ghost use Rattle.bson_model.specs.NamedOptions.{default_options};
+ghost use Rattle.bson_run.specs.Diagnostic.{IsDiagnostic};
 ghost use Rattle.bson_run.specs.Lines.{RunHasDoneAllLines, RunFailsAtLine, line_number_of, buffered_text};
 ghost use Rattle.bson_run.specs.LinesSteps.{CannotWriteBoth, LineCountFits, HasFlushed, IsLineCountOverflow};
 ghost use Rattle.bson_run.specs.LinesSteps.{IsBeforeFirstLine, RunProgress};
@@ -149,6 +150,18 @@ impl LineRun {
             (λ place. IsPositionMessage (buffered_text self.now.state) fault.now (string_bytes place)) }
     {
         self.state.place(alloc, self.task, fault)
+    }
+
+    /// Returns the diagnostic on the line at which the run stopped, in the format of the task.
+    ///
+    /// # Errors
+    ///
+    /// `AllocError` if an allocation fails.
+    pub fn diagnostic(&self, alloc: Global, fault: &Error) -> Result<String, AllocError>
+        ensures { IfOk result (λ diagnostic. IsDiagnostic self.now.task.diagnostics (line_number_of self.now)
+            fault.now (buffered_text self.now.state) (string_bytes diagnostic)) }
+    {
+        self.state.diagnostic(alloc, self.task, fault)
     }
 }
 

@@ -1,9 +1,10 @@
 //! The offset at which bytes are not JSON.
 ghost use Rattle.std.specs.Prelude.{◌≡◌, ◌↔◌, IfOk, IsTrue, false, string_bytes};
 ghost use Rattle.bson.specs.TextMeaning.{IsNotJsonText};
-ghost use Rattle.bson_run.specs.ErrorMessages.{BreaksRule, IsWellFormedJson, IsTextOfTree, column_and_rule, bytes_before, column_at, line_at};
+ghost use Rattle.bson_run.specs.ErrorMessages.{BreaksRule, IsWellFormedJson, IsTextOfTree, column_and_rule, column_at, line_at};
 
 use crate::broken_rule::find_broken_rule;
+use crate::position::{column_at, line_at};
 use crate::rule::Rule;
 use bson_model::options::KeyOrder;
 use bson_tokens::MAX_DEPTH;
@@ -62,19 +63,14 @@ impl SyntaxError {
     pub fn line(self, bytes: &[u8]) -> usize
         ensures { result ≡ line_at self.offset bytes.now }
     {
-        let preceding_bytes = self.preceding_bytes(bytes);
-        1 + preceding_bytes
-            .iter()
-            .filter(|byte| **byte == b'\n')
-            .count()
+        line_at(self.offset, bytes)
     }
 
     /// Returns the column of the byte there, or of the last byte if the bytes end, counted from 1.
     pub fn column(self, bytes: &[u8]) -> usize
         ensures { result ≡ column_at self.offset bytes.now }
     {
-        let line = self.preceding_bytes(bytes).iter().rev();
-        1 + line.take_while(|byte| **byte != b'\n').count()
+        column_at(self.offset, bytes)
     }
 
     /// Returns the end of a message, after the name of the error: the column and the rule.
@@ -89,13 +85,6 @@ impl SyntaxError {
         let column = self.column(bytes);
         let rule = self.rule.message();
         format!(in alloc; " at column {column} ({rule})")
-    }
-
-    // The bytes before it, which are not all.
-    fn preceding_bytes(self, bytes: &[u8]) -> &[u8]
-        ensures { result.now ≡ bytes_before self.offset bytes.now }
-    {
-        &bytes[..self.offset.min(bytes.len().saturating_sub(1))]
     }
 }
 

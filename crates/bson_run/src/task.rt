@@ -25,6 +25,30 @@ pub struct Task {
     pub preprocessing: Preprocessing,
     /// What is written for a line that is accepted.
     pub output: Output,
+    /// The format of the diagnostic for a line that is rejected.
+    pub diagnostics: DiagnosticFormat,
+}
+
+/// The format of diagnostics.
+///
+/// ```
+/// let mut lines: &[u8] = b"[";
+/// let (mut output, mut diagnostics) = (Vec::new(alloc), Vec::new(alloc));
+/// let task = Task {
+///     diagnostics: DiagnosticFormat::Json,
+///     ..Task::new(Output::Nothing(Criterion::Valid))
+/// };
+/// let mut run = LineRun::new(alloc, task, OnRefusal::KeepGoing);
+/// drop(run.run(alloc, &mut lines, &mut output, &mut diagnostics));
+/// rt.print(str::from_utf8(&diagnostics)?)?;
+/// // {"line":1,"column":1,"offset":0,"path":null,"pointer":null,"code":"not_json","message":"not JSON at ..
+/// ```
+#[derive(Clone, Copy, PartialEq, Eq, Debug)]
+pub enum DiagnosticFormat {
+    /// A message for people, on one line.
+    Text,
+    /// A JSON object, on one line.
+    Json,
 }
 
 /// What is checked or rewritten before a text is read. The default is nothing.
@@ -38,7 +62,7 @@ pub struct Task {
 /// };
 /// let task = Task {
 ///     preprocessing,
-///     output: Output::Nothing(Criterion::Valid),
+///     ..Task::new(Output::Nothing(Criterion::Valid))
 /// };
 /// let mut run = LineRun::new(alloc, task, OnRefusal::KeepGoing);
 /// drop(run.run(alloc, &mut lines, &mut output, &mut diagnostics));
@@ -64,7 +88,7 @@ pub struct Preprocessing {
 /// };
 /// let task = Task {
 ///     preprocessing,
-///     output: Output::Text(Mode::Relaxed),
+///     ..Task::new(Output::Text(Mode::Relaxed))
 /// };
 /// let mut run = LineRun::new(alloc, task, OnRefusal::Stop);
 /// drop(run.run(alloc, &mut lines, &mut output, &mut diagnostics));
@@ -100,14 +124,16 @@ pub enum Criterion {
 }
 
 impl Task {
-    /// Makes the task with this output, and without preprocessing.
+    /// Makes the task with this output, without preprocessing, and with diagnostics as messages.
     pub fn new(output: Output) -> Task
         ensures preprocessing { result.preprocessing ≡ default_preprocessing }
         ensures output { result.output ≡ output }
+        ensures diagnostics { result.diagnostics ≡ DiagnosticFormat.Text }
     {
         Task {
             preprocessing: Preprocessing::default(),
             output,
+            diagnostics: DiagnosticFormat::Text,
         }
     }
 }
@@ -156,13 +182,4 @@ pub enum OnRefusal {
     Stop,
     /// The line is skipped, with a diagnostic that has the path of its error, and the run goes on.
     KeepGoing,
-}
-
-/// How the diagnostics of a run are written. The default of the program is text.
-#[derive(Clone, Copy, PartialEq, Eq, Debug)]
-pub enum DiagnosticFormat {
-    /// Each as a line of text.
-    Text,
-    /// Each as a JSON object on a line.
-    Json,
 }

@@ -85,7 +85,7 @@ reason_code (WrongShape message) n is zero = absurd (omega (arith, is, zero))
 some_code : (text : List ℕ) (fault : Error) (it : Explanation) (n : ℕ) → IsExplanation text fault it → (HasNoPosition fault → ⊥)
     → n ≡ explanation_code it → n ≡ 0 → ⊥
 some_code text fault (explained.Syntax stop) n h reported is zero = absurd (omega (arith, is, zero))
-some_code text fault (explained.Value place reason) n h reported is zero = reason_code place.now.reason n is zero
+some_code text fault (explained.Value place reason offset) n h reported is zero = reason_code place.now.reason n is zero
 some_code text fault (explained.Difference column) n h reported is zero = absurd (omega (arith, is, zero))
 some_code text fault explained.Other n h reported is zero = reported h
 

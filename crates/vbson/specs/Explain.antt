@@ -30,39 +30,39 @@ use Rattle.vbson.specs.declared.options.CallOptions.{CallOptions}
 -- the status of the error, or 0 if there is none
 abbrev pub explanation_code : Explanation → ℕ
 explanation_code (Syntax syntax_error) = 2
-explanation_code (explanations.Value place reason) = status_of_reason place.now.reason
+explanation_code (explanations.Value place reason offset) = status_of_reason place.now.reason
 explanation_code (Difference column) = 16
 explanation_code Other = 0
 
 -- where a text stops to be JSON, or to be canonical: the line and the column, from 1, and the offset; otherwise 0
 abbrev pub explanation_line : (text : List ℕ) → Explanation → ℕ
 explanation_line text (Syntax syntax_error) = line_at syntax_error.offset text
-explanation_line text (explanations.Value place reason) = 0
+explanation_line text (explanations.Value place reason offset) = 0
 explanation_line text (Difference column) = 1
 explanation_line text Other = 0
 
 abbrev pub explanation_column : (text : List ℕ) → Explanation → ℕ
 explanation_column text (Syntax syntax_error) = column_at syntax_error.offset text
-explanation_column text (explanations.Value place reason) = 0
+explanation_column text (explanations.Value place reason offset) = 0
 explanation_column text (Difference column) = column
 explanation_column text Other = 0
 
 abbrev pub explanation_offset : (text : List ℕ) → Explanation → ℕ
 explanation_offset text (Syntax syntax_error) = min syntax_error.offset (length text - 1)
-explanation_offset text (explanations.Value place reason) = 0
+explanation_offset text (explanations.Value place reason offset) = 0
 explanation_offset text (Difference column) = column - 1
 explanation_offset text Other = 0
 
 -- the path from the invalid value outward
 abbrev pub explanation_path : Explanation → List PathSegment
 explanation_path (Syntax syntax_error) = []
-explanation_path (explanations.Value place reason) = path_of place.now
+explanation_path (explanations.Value place reason offset) = path_of place.now
 explanation_path (Difference column) = []
 explanation_path Other = []
 
 abbrev pub explanation_reason : Explanation → List ℕ
 explanation_reason (Syntax syntax_error) = rule_message syntax_error.rule
-explanation_reason (explanations.Value place reason) = string_bytes reason
+explanation_reason (explanations.Value place reason offset) = string_bytes reason
 explanation_reason (Difference column) = []
 explanation_reason Other = []
 

@@ -5,6 +5,7 @@ use Rattle.bson_convert.specs.declared.error.Error.{Error}
 use Rattle.bson_convert.specs.declared.error.Error.TheVariants.{CannotRead, CannotWrite, OutOfMemory}
 use Rattle.bson_run.specs.Lines.{HaveLineOutcomes, IsRejectedLineIn, lines as lines_of, line_text}
 use Rattle.bson_convert.specs.declared.mode.Mode.{Mode}
+use Rattle.bson_run.specs.declared.task.DiagnosticFormat.TheVariants as format
 use Rattle.bson_run.specs.declared.task.OnRefusal.TheVariants.{KeepGoing, Stop}
 use Rattle.bson_run.specs.declared.task.Task.{Task}
 use Rattle.bson_run.specs.declared.task.Output.{Output}
@@ -16,7 +17,11 @@ use Rattle.vbson.specs.declared.options.CallOptions.{CallOptions}
 
 -- the task that writes the output of each line, with the preprocessing that the options request
 abbrev pub task_of : CallOptions → Output → Task
-task_of options output = record { preprocessing = preprocessing_of options; output = output }
+task_of options output = record {
+  preprocessing = preprocessing_of options;
+  output = output;
+  diagnostics = format.Text;
+}
 
 -- the task writes this output and these diagnostics for the lines of the block; these are the numbers of lines and of
 -- rejected lines

@@ -221,7 +221,7 @@ fn code_of(explanation: &Explanation<'_>) -> u32
 {
     match explanation {
         Explanation::Syntax(_) => status::NOT_JSON,
-        Explanation::Value(place, _) => match &place.reason {
+        Explanation::Value { place, .. } => match &place.reason {
             Reason::BadObjectId(_) => status::BAD_OBJECT_ID,
             Reason::WrongShape(_) => status::NOT_EXTENDED_JSON,
         },
@@ -268,7 +268,7 @@ fn segments_of<'a>(explanation: &'a Explanation<'_>) -> &'a [Segment]
     ensures { map segment_of result.now ≡ explanation_path explanation.now }
 {
     match explanation {
-        Explanation::Value(place, _) => place.segments.as_slice(),
+        Explanation::Value { place, .. } => place.segments.as_slice(),
         _ => &[],
     }
 }
@@ -279,7 +279,7 @@ fn reason_of<'a>(explanation: &'a Explanation<'_>) -> &'a str
 {
     match explanation {
         Explanation::Syntax(syntax_error) => syntax_error.rule.message(),
-        Explanation::Value(_, reason) => reason.as_str(),
+        Explanation::Value { reason, .. } => reason.as_str(),
         Explanation::Difference(_) | Explanation::Other => "",
     }
 }

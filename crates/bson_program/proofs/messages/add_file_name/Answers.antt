@@ -14,5 +14,5 @@ loop-remaining_bytes-smaller c =
 pub loop-remaining_bytes-preserved : goal.loop-remaining_bytes-preserved
 loop-remaining_bytes-preserved c =
     let some : 0 < length c.loop-remaining_bytes.remaining_bytes.now = grind (arith, nat_tests) in
-    named_on c.args.file_name.now c.loop-remaining_bytes.remaining_bytes.now _ _ c.loop-remaining_bytes.named_diagnostics.items _ _ c.line_len.result some
-    c.line_len.ensures c.split_at.ensures.front c.split_at.ensures.back c.in_ok-push_named_diagnostic.ensures c.loop-remaining_bytes.invariant
+    named_on c.args.format c.args.file_name.now c.loop-remaining_bytes.remaining_bytes.now _ _ c.loop-remaining_bytes.named_diagnostics.items _ _ c.line_len.result some
+    c.line_len.ensures c.split_at.ensures.front c.split_at.ensures.back c.in_ok-push_in_format.ensures c.loop-remaining_bytes.invariant

@@ -2,12 +2,14 @@ use Rattle.std.proofs.Common.{subst, sym}
 use Rattle.bson_run.specs.ErrorMessages.{IsPositionMessage}
 use Rattle.bson_run.proofs.Explaining.{where_from}
 use Rattle.bson_run.proofs.LinesLaws.{oks_with}
-use Rattle.bson_run.proofs.explain.explain_in.Goals as goal
+use Rattle.bson_run.proofs.explain.explain.Goals as goal
 
 pub returns : goal.returns
 returns c =
     let text = c.args.text.now in
     let fault = c.args.fault.now in
-    let found = c.in_ok-explanation_in.field-0 in
-    oks_with c.message.result c.message.ensures
-    (λ full_message e. subst (IsPositionMessage text fault) (sym e) (where_from text fault found c.in_ok-explanation_in.ensures))
+    let found = c.in_ok-of.field-0 in
+    record {
+      place = oks_with c.message.result c.message.ensures
+          (λ full_message e. subst (IsPositionMessage text fault) (sym e) (where_from text fault found c.in_ok-of.ensures));
+    }

@@ -1,0 +1,154 @@
+//! What stopped a run, as a JSON object on one line, and the names of files in these objects.
+ghost use Rattle.std.specs.Prelude.{◌≡◌, ◌++◌, [], IfOk, OnOk, codes, string_bytes};
+ghost use Rattle.std.specs.Str.{trim_end};
+ghost use Rattle.json.specs.Print.{print};
+ghost use Rattle.bson_program.specs.Messages.{IsFailureObject, IsFileFailureObject, failure_object, file_member};
+ghost use Rattle.bson_program.specs.Messages.{file_tokens, with_json_file};
+
+use crate::invocation::STDIO;
+use crate::messages::{cause_suffix, document_error_message, show_name};
+use crate::run::RunFailure;
+use bson_convert::error;
+use bson_run::diagnostic::write_message;
+use json::Writer;
+use std::alloc::{AllocError, Global};
+use std::io::Error;
+
+const TERMINAL_MESSAGE: &str = "BSON bytes are not written to a terminal; give -o FILE, or a pipe";
+
+/// Returns the JSON object for what stopped the run: the file, the code and the message. A rejected text has
+/// its own object, to which the file is added.
+pub fn failure_json(alloc: Global, failure: RunFailure<'_>) -> Result<String, AllocError>
+    ensures { IfOk result (λ line. IsFailureObject failure.entry (string_bytes line)) }
+{
+    match failure {
+        RunFailure::Input(file_name, error) => input_failure(alloc, file_name, error),
+        RunFailure::Output(file_name, error) => output_failure(alloc, file_name, error),
+        RunFailure::InputIsOutput(file_name) => {
+            let shown_name = show_name(alloc, file_name, "input")?;
+            let message = format!(in alloc; "{shown_name} is both an input and the output")?;
+            failure_object(alloc, file_name, "input_is_output", &message)
+        }
+        RunFailure::OutputIsTerminal => {
+            failure_object(alloc, STDIO, "output_is_terminal", TERMINAL_MESSAGE)
+        }
+        RunFailure::Text(file_name, _, error::Error::OutOfMemory, _) => {
+            failure_object(alloc, file_name, "out_of_memory", "out of memory")
+        }
+        RunFailure::Text(file_name, _, _, report) => named_report(alloc, file_name, &report),
+        RunFailure::Document(file_name, run_end) => {
+            let message = document_error_message(alloc, run_end)?;
+            failure_object(alloc, file_name, "malformed", message.trim_end())
+        }
+    }
+}
+
+// Returns the object for an input that can't be read.
+fn input_failure(
+    alloc: Global,
+    file_name: &str,
+    error: Option<Error>,
+) -> Result<String, AllocError>
+    ensures { IfOk result (λ line. IsFileFailureObject (codes "cannot_read") (codes "read ") file_name.now
+        (codes "input") error (string_bytes line)) }
+{
+    let (shown_name, cause) = (
+        show_name(alloc, file_name, "input")?,
+        cause_suffix(alloc, error)?,
+    );
+    let message = format!(in alloc; "cannot read {shown_name}{cause}")?;
+    failure_object(alloc, file_name, "cannot_read", &message)
+}
+
+// Returns the object for an output that can't be written.
+fn output_failure(
+    alloc: Global,
+    file_name: &str,
+    error: Option<Error>,
+) -> Result<String, AllocError>
+    ensures { IfOk result (λ line. IsFileFailureObject (codes "cannot_write") (codes "write ") file_name.now
+        (codes "output") error (string_bytes line)) }
+{
+    let (shown_name, cause) = (
+        show_name(alloc, file_name, "output")?,
+        cause_suffix(alloc, error)?,
+    );
+    let message = format!(in alloc; "cannot write {shown_name}{cause}")?;
+    failure_object(alloc, file_name, "cannot_write", &message)
+}
+
+// Returns the object of a file, a code and a message.
+fn failure_object(
+    alloc: Global,
+    file_name: &str,
+    code: &str,
+    message: &str,
+) -> Result<String, AllocError>
+    ensures { IfOk result (λ line. string_bytes line ≡ failure_object file_name.now code.now message.now) }
+{
+    let mut writer = Writer::new(Vec::new(alloc));
+    write_file(&mut writer, file_name)?;
+    write_message(&mut writer, code, message)?;
+    Ok(into_text(writer))
+}
+
+// Begins an object, and writes the name of the file.
+fn write_file(writer: &mut Writer, file_name: &str) -> Result<(), AllocError>
+    ensures added { OnOk result (writer.new.tokens ≡ writer.old.tokens ++ file_tokens file_name.now) }
+    ensures before { writer.new.before ≡ writer.old.before }
+{
+    writer.begin_object()?;
+    writer.key("file")?;
+    writer.string(file_name)
+}
+
+// Returns the text that was written.
+fn into_text(writer: Writer) -> String
+    requires { writer.before ≡ [] }
+    ensures { string_bytes result ≡ print writer.tokens }
+{
+    let Ok(text) = String::from_utf8(writer.into_inner()) else {
+        unreachable!();
+    };
+    text
+}
+
+// Returns the object of a rejected text with its file, without the newline.
+fn named_report(alloc: Global, file_name: &str, report: &str) -> Result<String, AllocError>
+    ensures { IfOk result (λ line. string_bytes line ≡ with_json_file file_name.now (trim_end report.now)) }
+{
+    let member = file_member(alloc, file_name)?;
+    let members = match report.trim_end().split_at_checked(1) {
+        Some((_, members)) => members,
+        None => "",
+    };
+    format!(in alloc; "{member},{members}")
+}
+
+// Returns the beginning of an object with its first member, the name of the file.
+fn file_member(alloc: Global, file_name: &str) -> Result<String, AllocError>
+    ensures { IfOk result (λ member. string_bytes member ≡ file_member file_name.now) }
+{
+    let mut writer = Writer::new(Vec::new(alloc));
+    write_file(&mut writer, file_name)?;
+    Ok(into_text(writer))
+}
+
+/// Appends a JSON object, with the name of its file as the first member.
+pub fn push_named_json(
+    alloc: Global,
+    named_diagnostics: &mut Vec<u8>,
+    file_name: &str,
+    json: &[u8],
+) -> Result<(), AllocError>
+    ensures { OnOk result
+        (named_diagnostics.new.items ≡ named_diagnostics.old.items ++ with_json_file file_name.now json.now) }
+{
+    let member = file_member(alloc, file_name)?;
+    named_diagnostics.extend_from_slice(member.as_bytes())?;
+    named_diagnostics.push(b',')?;
+    match json.split_first() {
+        Some((_, members)) => named_diagnostics.extend_from_slice(members),
+        None => Ok(()),
+    }
+}

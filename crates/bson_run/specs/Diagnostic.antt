@@ -1,0 +1,117 @@
+-- The diagnostic on a rejected line: a message on one line, or a JSON object on one line.
+use Rattle.std.specs.Prelude.{◌≡◌, ◌==◌, ℕ, List, [], ◌∷◌, ◌++◌, Option, None, Some, codes, encode_utf8, option_map, if◌then◌else◌}
+use Rattle.std.specs.Fmt.{decimal}
+use Rattle.std.specs.List.{flat_map}
+use Rattle.std.specs.Str.{chars}
+use Rattle.json.specs.Print.{print}
+use Rattle.json.specs.Token as token
+use Rattle.json.specs.Token.{Token}
+use Rattle.bson_tree.specs.Place.{PathSegment, key, element}
+use Rattle.bson_tree.specs.declared.place.Reason.{Reason}
+use Rattle.bson_tree.specs.declared.place.Reason.TheVariants.{BadObjectId, WrongShape}
+use Rattle.bson_convert.specs.Convert.{newline}
+use Rattle.bson_convert.specs.Messages.{error_message}
+use Rattle.bson_convert.specs.declared.error.Error.{Error}
+use Rattle.bson_convert.specs.declared.error.Error.TheVariants as error
+use Rattle.bson_run.specs.ErrorMessages.{IsExplanation, column_at, explanation_message, explanation_offset, explanation_path}
+use Rattle.bson_run.specs.declared.position.Position.{Position}
+use Rattle.bson_run.specs.declared.explain.Explanation.{Explanation}
+use Rattle.bson_run.specs.declared.task.DiagnosticFormat.{DiagnosticFormat}
+use Rattle.bson_run.specs.declared.task.DiagnosticFormat.TheVariants.{Text, Json}
+
+-- ---- the code of an error
+
+abbrev pub reason_code : Reason → List ℕ
+reason_code (BadObjectId object_id_error) = codes "bad_object_id"
+reason_code (WrongShape expected) = codes "not_extended_json"
+
+abbrev pub error_code : Error → List ℕ
+error_code error.CannotRead = codes "cannot_read"
+error_code error.NotJson = codes "not_json"
+error_code (error.NotExtendedJson place) = reason_code place.reason
+error_code (error.NoBytes no_bytes_cause) = codes "no_bytes"
+error_code (error.NotCanonical column) = codes "not_canonical"
+error_code error.OutOfMemory = codes "out_of_memory"
+error_code error.CannotWrite = codes "cannot_write"
+
+-- ---- the path, from the value outward, as an array and as a JSON Pointer (RFC 6901)
+
+abbrev pub segment_token : PathSegment → Token
+segment_token (key key_text) = token.string key_text
+segment_token (element element_index) = token.number (decimal element_index)
+
+abbrev pub segment_tokens : List PathSegment → List Token
+segment_tokens [] = []
+segment_tokens (segment ∷ outer_segments) = segment_tokens outer_segments ++ segment_token segment ∷ []
+
+-- `~` is written as `~0`, and `/` as `~1`
+abbrev pub pointer_char : (code_point : ℕ) → List ℕ
+pointer_char code_point = if code_point == 126 then codes "~0"
+    else (if code_point == 47 then codes "~1" else encode_utf8 code_point)
+
+abbrev pub reference_token : PathSegment → List ℕ
+reference_token (key key_text) = flat_map pointer_char (chars key_text)
+reference_token (element element_index) = decimal element_index
+
+abbrev pub json_pointer : List PathSegment → List ℕ
+json_pointer [] = []
+json_pointer (segment ∷ outer_segments) = json_pointer outer_segments ++ codes "/" ++ reference_token segment
+
+-- ---- the JSON object
+
+-- a number, or null
+abbrev pub number_or_null : Option ℕ → Token
+number_or_null None = token.null
+number_or_null (Some number) = token.number (decimal number)
+
+abbrev pub number_tokens : (name : List ℕ) → Option ℕ → List Token
+number_tokens name number = token.key name ∷ number_or_null number ∷ []
+
+abbrev pub text_tokens : (name text : List ℕ) → List Token
+text_tokens name text = token.key name ∷ token.string text ∷ []
+
+-- the beginning of the object
+abbrev pub line_tokens : (line_number : ℕ) → List Token
+line_tokens line_number = token.begin_object ∷ token.key (codes "line") ∷ token.number (decimal line_number) ∷ []
+
+abbrev pub position_tokens : Position → List Token
+position_tokens position = line_tokens position.line ++ number_tokens (codes "column") position.column
+    ++ number_tokens (codes "offset") position.offset
+
+abbrev pub path_tokens : Option (List PathSegment) → List Token
+path_tokens None = number_tokens (codes "path") None ++ number_tokens (codes "pointer") None
+path_tokens (Some path) = (token.key (codes "path") ∷ token.begin_array ∷ []) ++ segment_tokens path
+    ++ token.end_array ∷ token.key (codes "pointer") ∷ token.string (json_pointer path) ∷ []
+
+abbrev pub message_tokens : (code message : List ℕ) → List Token
+message_tokens code message =
+    text_tokens (codes "code") code ++ text_tokens (codes "message") message ++ token.end_object ∷ []
+
+abbrev pub diagnostic_tokens : Position → Option (List PathSegment) → (code message : List ℕ) → List Token
+diagnostic_tokens position path code message = position_tokens position ++ path_tokens path ++ message_tokens code message
+
+-- the compact text of the object, on a line
+abbrev pub json_line : List Token → List ℕ
+json_line token_list = print token_list ++ newline
+
+-- ---- the diagnostic on a line
+
+-- the error and its path
+abbrev pub explained_message : Error → (text : List ℕ) → Explanation → List ℕ
+explained_message fault text explanation = error_message fault ++ explanation_message text explanation
+
+-- where the error of an input is: on this line of it, which is the content or a part of it
+abbrev pub position_at : (line_number : ℕ) → (offset : Option ℕ) → (content : List ℕ) → Position
+position_at line_number offset content =
+    record { line = line_number; column = option_map (λ byte_offset. column_at byte_offset content) offset; offset = offset }
+
+abbrev pub diagnostic_line : DiagnosticFormat → (line_number : ℕ) → Error → (text : List ℕ) → Explanation → List ℕ
+diagnostic_line Text line_number fault text explanation =
+    codes "bson: line " ++ decimal line_number ++ codes ": " ++ explained_message fault text explanation ++ newline
+diagnostic_line Json line_number fault text explanation =
+    json_line (diagnostic_tokens (position_at line_number (explanation_offset text explanation) text)
+    (explanation_path explanation) (error_code fault) (explained_message fault text explanation))
+
+abbrev pub IsDiagnostic : DiagnosticFormat → (line_number : ℕ) → Error → (text diagnostic : List ℕ) → Type 0
+IsDiagnostic format line_number fault text diagnostic = (explanation : Explanation)
+    × IsExplanation text fault explanation × (diagnostic ≡ diagnostic_line format line_number fault text explanation)
