@@ -22,8 +22,9 @@ class Options(TypedDict, total=False):
     keep_order              keep the order of keys; False sorts them (True by default)
     reject_duplicate_keys   reject input in which an object or a document has a duplicate key; without it the last value
                             wins, at the position of the first (False by default)
-    v1                      accept Extended JSON v1 too: {"$binary": .., "$type": ..}, {"$regex": .., "$options": ..}, and a
-                            $date with an offset such as +0100 (False by default)
+    v1                      accept Extended JSON v1 too: {"$binary": .., "$type": ..}, {"$regex": .., "$options": ..}, a
+                            $date without seconds or with an offset such as +0100, a $uuid without hyphens, and the words
+                            NaN, Infinity and -Infinity (False by default)
     mongodb_layout          write dates and wrappers as libbson and json_util of PyMongo do: a fraction of a second has
                             three digits, and with keep_order "t" is before "i", "pattern" before "options", and "$ref"
                             before "$id". False writes no zeros at the end of a fraction, and ascending keys in
