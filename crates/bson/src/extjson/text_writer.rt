@@ -28,7 +28,7 @@ use crate::scalar::scalar_ref;
 use bson_model::options::{KeyOrder, Options};
 use bson_scalar::form::{Doubles, Form};
 use bson_scalar::scalar_ref::ScalarRef;
-use bson_scalar::write::{print_scalar_in, print_ordered_scalar, put_binary};
+use bson_scalar::write::{print_ordered_scalar, print_scalar_in, put_binary};
 use bson_scalar::write_error::WriteError;
 use bson_store::small::Iter;
 use bson_types::binary::Binary;
