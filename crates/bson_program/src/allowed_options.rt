@@ -117,7 +117,8 @@ fn purpose_allows(flag: Flag, purpose: Purpose) -> bool
 {
     match flag {
         Flag::SortKeys | Flag::Indent => purpose == Purpose::Output,
-        Flag::KeepGoing | Flag::Jobs | Flag::Output | Flag::Diagnostics => purpose != Purpose::Comparison,
+        Flag::KeepGoing | Flag::Jobs | Flag::Output | Flag::Diagnostics => purpose
+            != Purpose::Comparison,
         Flag::Unordered => purpose == Purpose::Comparison,
         Flag::Strict | Flag::V1 | Flag::NoDuplicateKeys | Flag::Canonical => true,
         Flag::Array => true,

@@ -44,11 +44,7 @@ pub fn failure_json(alloc: Global, failure: RunFailure<'_>) -> Result<String, Al
 }
 
 // Returns the object for an input that can't be read.
-fn input_failure(
-    alloc: Global,
-    file_name: &str,
-    error: Option<Error>,
-) -> Result<String, AllocError>
+fn input_failure(alloc: Global, file_name: &str, error: Option<Error>) -> Result<String, AllocError>
     ensures { IfOk result (λ line. IsFileFailureObject (codes "cannot_read") (codes "read ") file_name.now
         (codes "input") error (string_bytes line)) }
 {

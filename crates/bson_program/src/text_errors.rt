@@ -64,7 +64,10 @@ fn error_line(input_text: InputText<'_>, explanation: &Explanation<'_>) -> u64
 {
     let line_number = match explanation {
         Explanation::Syntax(syntax_error) => {
-            line_at(offset_in_input(input_text.start, syntax_error.offset), input_text.content)
+            line_at(
+                offset_in_input(input_text.start, syntax_error.offset),
+                input_text.content,
+            )
         }
         Explanation::Value { offset, .. } => value_line(input_text, *offset),
         Explanation::Difference(_) => 1,

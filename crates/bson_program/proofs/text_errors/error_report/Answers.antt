@@ -20,8 +20,7 @@ returns c =
     let text = c.args.input_text.text.now in
     let explanation = c.in_ok-explanation.explanation in
     subst (λ format. IsErrorReport format fault (string_bytes c.in_ok-json.json) c.error_line-line_number.result content start text)
-    (sym c.in-Json.is)
-    (
+    (sym c.in-Json.is) (
       explanation,
       c.in_ok-explanation.ensures,
       c.in_ok-json.ensures
