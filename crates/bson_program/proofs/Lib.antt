@@ -1,9 +1,11 @@
 mod Advising
+mod Arrays
 mod Asking
 mod DigestLaws
 mod Dumping
 mod SameLaws
 mod Spaces
 mod Telling
+mod TextParts
 mod Verdicts
 mod Sequences

@@ -385,4 +385,5 @@ abbrev pub is_rejected : Result Counts RunFailure → Bool
 is_rejected (Ok counts) = nat_lt 0 counts.refused
 is_rejected (Err (failure.Text file_name line_number fault position_message)) = is_text_error fault
 is_rejected (Err (failure.Document file_name run_end)) = is_document_error run_end.fault
+is_rejected (Err (failure.NotArray file_name)) = true
 is_rejected (Err run_failure) = false

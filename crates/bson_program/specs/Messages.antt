@@ -116,6 +116,8 @@ IsFailureMessage (failure.InputIsOutput file_name) line =
     line ≡ codes "bson: " ++ shown_name file_name.now (codes "input") ++ codes " is both an input and the output"
 IsFailureMessage failure.OutputIsTerminal line =
     line ≡ codes "bson: BSON bytes are not written to a terminal; give -o FILE, or a pipe"
+IsFailureMessage (failure.NotArray file_name) line =
+    line ≡ message_prefix file_name.now ++ codes ": not a JSON array, which --array reads"
 IsFailureMessage (failure.Text file_name line_number fault position_message) line =
     line ≡ text_message file_name.now line_number fault (string_bytes position_message)
 IsFailureMessage (failure.Document file_name run_end) line = line ≡ document_message file_name.now run_end

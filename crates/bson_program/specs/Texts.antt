@@ -1,11 +1,19 @@
+<<<<<<< HEAD
 -- A run over the texts of an input. All its bytes are one JSON text, or else a sequence of texts with white space between.
 use Rattle.std.specs.Prelude.{◌≡◌, ◌⊎◌, ℕ, Bool, true, false, List, [], ◌∷◌, ◌++◌, Option, IsUtf8, string_bytes}
 use Rattle.std.specs.Prelude.{drop, length, nat_eq, nat_lt, take, if◌then◌else◌}
+=======
+-- A run over the texts of an input. All its bytes are one JSON text, or else a sequence of texts with white space between;
+-- or they are an array, of whose elements each is a text.
+use Rattle.std.specs.Prelude.{◌≡◌, ◌==◌, ◌⊎◌, ◌+◌, ℕ, suc, Bool, true, false, List, [], ◌∷◌, ◌++◌, Option, IsUtf8, string_bytes}
+use Rattle.std.specs.Prelude.{count_by, drop, length, min, nat_eq, nat_lt, take, if◌then◌else◌}
+>>>>>>> 0b55ee6ca2e95c8167fa7001632572334eec28fc
 use Rattle.std.specs.List.{starts_with}
 use Rattle.std.specs.Io.KnownBytes.{Appends, Keeps}
 use Rattle.bson.specs.Doubles.{Doubles}
 use Rattle.bson.specs.Doubles.TheVariants.{Finite, Special}
-use Rattle.bson_json.specs.Sequence.{texts_in}
+use Rattle.bson_json.specs.Sequence.{between_brackets, texts_in, IsArray}
+use Rattle.bson_json.specs.declared.sequence.Separator.TheVariants.{Comma, WhiteSpace}
 use Rattle.bson_convert.specs.Run.{ReadsAll}
 use Rattle.bson_convert.specs.declared.error.Error.{Error}
 use Rattle.bson_convert.specs.declared.error.Error.TheVariants.{NotJson, OutOfMemory}
@@ -15,12 +23,13 @@ use Rattle.bson_run.specs.declared.accepted.Accepted.{Accepted}
 use Rattle.bson_run.specs.declared.task.Criterion.TheVariants as criterion
 use Rattle.bson_run.specs.declared.task.Output as task
 use Rattle.bson_run.specs.declared.task.Output.TheVariants.{Nothing}
+use Rattle.bson_program.specs.Hints.{has_non_whitespace}
 use Rattle.bson_program.specs.Messages.{is_standard_stream}
 use Rattle.bson_program.specs.SingleText.{IsOutputOfText, IsTextRejected}
 use Rattle.bson_program.specs.TextErrors.{IsErrorReport}
 use Rattle.bson_program.specs.declared.invocation.Invocation.{Invocation}
 use Rattle.bson_program.specs.declared.run.RunFailure.{RunFailure}
-use Rattle.bson_program.specs.declared.run.RunFailure.TheVariants.{Input, Output, Text}
+use Rattle.bson_program.specs.declared.run.RunFailure.TheVariants.{Input, NotArray, Output, Text}
 
 -- ---- the bytes of an input
 
@@ -52,12 +61,17 @@ reads_several Finite output = true
 -- they are two texts or more, and several are read
 abbrev pub is_sequence : Invocation → (content : List ℕ) → Bool
 is_sequence invocation content =
-    if reads_several invocation.options.doubles invocation.task.output then nat_lt 1 (length (texts_in content)) else false
+    if reads_several invocation.options.doubles invocation.task.output then nat_lt 1 (length (texts_in WhiteSpace content))
+    else false
 
 -- they are read as a sequence: they are not one JSON text
 pub record IsSequence (invocation : Invocation) (content : List ℕ) : Type 0 where
   pub not_single_text : IsTextRejected invocation.options invocation.task NotJson content
   pub several : is_sequence invocation content ≡ true
+
+-- the elements of an array, by the bytes between its brackets: none if these are white space alone
+abbrev pub elements_in : (between : List ℕ) → List (List ℕ)
+elements_in between = if has_non_whitespace between then texts_in Comma between else []
 
 -- the outputs of texts, one after the other
 pub data AreTextOutputs (invocation : Invocation) : (texts : List (List ℕ)) → (output : List ℕ) → Type 0 where
@@ -67,11 +81,19 @@ pub data AreTextOutputs (invocation : Invocation) : (texts : List (List ℕ)) �
       → IsOutputOfText invocation text output
       → AreTextOutputs invocation (texts ++ text ∷ []) (written ++ output)
 
--- the output of the one text, or those of the sequence
-abbrev pub HasOutputOfTexts : Invocation → (content output : List ℕ) → Type 0
-HasOutputOfTexts invocation content output =
+-- the content is an array, and the outputs of its elements are these
+pub record HasOutputOfArray (invocation : Invocation) (content output : List ℕ) : Type 0 where
+  pub opening : ℕ
+  pub closing : ℕ
+  pub is_array : IsArray content opening closing
+  pub outputs : AreTextOutputs invocation (elements_in (between_brackets content opening closing)) output
+
+-- the output of the one text, or those of the sequence, or those of the elements
+abbrev pub HasOutputOfTexts : (reads_array : Bool) → Invocation → (content output : List ℕ) → Type 0
+HasOutputOfTexts true invocation content output = HasOutputOfArray invocation content output
+HasOutputOfTexts false invocation content output =
     IsOutputOfText invocation content output
-    ⊎ (IsSequence invocation content × AreTextOutputs invocation (texts_in content) output)
+    ⊎ (IsSequence invocation content × AreTextOutputs invocation (texts_in WhiteSpace content) output)
 
 -- ---- a run
 --
@@ -84,7 +106,7 @@ pub record ConvertsTexts (invocation : Invocation) (file_name : List ℕ)
   pub bytes : List ℕ
   pub output : List ℕ
   pub reads_all : ReadsAll before after bytes
-  pub writes_output : HasOutputOfTexts invocation (content_of invocation file_name bytes) output
+  pub writes_output : HasOutputOfTexts invocation.reads_array invocation (content_of invocation file_name bytes) output
   pub utf8 : WritesText invocation.task.output → IsUtf8 output
   pub written : Appends output_before output_after output
 
@@ -125,33 +147,59 @@ pub record IsWholeInput (invocation : Invocation) (failure : RunFailure) (conten
   pub nothing_written : written ≡ []
   pub not_sequence : IsNotJson failure → is_sequence invocation content ≡ false
 
--- the text is one of a sequence, and the outputs of those before it were written
-pub record IsTextOfSequence (invocation : Invocation) (content text written : List ℕ) (start : ℕ) : Type 0 where
+-- the text is one of these, and the outputs of those before it were written
+pub record IsTextAmong (invocation : Invocation) (texts : List (List ℕ)) (content text written : List ℕ)
+    (start : ℕ) : Type 0 where
   pub texts_before : List (List ℕ)
   pub texts_after : List (List ℕ)
-  pub sequence : IsSequence invocation content
-  pub texts : texts_in content ≡ texts_before ++ text ∷ texts_after
+  pub is_among : texts ≡ texts_before ++ text ∷ texts_after
   pub is_text_at_start : take (length text) (drop start content) ≡ text
   pub outputs : AreTextOutputs invocation texts_before written
 
+-- the text is all bytes, or one of a sequence
+abbrev pub IsTextOfInput : Invocation → RunFailure → (content text written : List ℕ) → (start : ℕ) → Type 0
+IsTextOfInput invocation failure content text written start = IsWholeInput invocation failure content text written start
+    ⊎ (IsSequence invocation content × IsTextAmong invocation (texts_in WhiteSpace content) content text written start)
+
+-- the text is an element of an array
+abbrev pub IsElement : Invocation → (content text written : List ℕ) → (start : ℕ) → Type 0
+IsElement invocation content text written start = (opening : ℕ) × (closing : ℕ) × IsArray content opening closing
+    × IsTextAmong invocation (elements_in (between_brackets content opening closing)) content text written start
+
 -- the text at which a run stops, and what was written before it
-pub record StopsAt (invocation : Invocation) (failure : RunFailure) (file_name content : List ℕ)
-    (output_before output_after : Option (List ℕ)) : Type 0 where
+pub record StopsAt (IsStop : (text written : List ℕ) → (start : ℕ) → Type 0) (invocation : Invocation)
+    (failure : RunFailure) (file_name content : List ℕ) (output_before output_after : Option (List ℕ)) : Type 0 where
   pub text : List ℕ
   pub start : ℕ
   pub written : List ℕ
   pub output_between : Option (List ℕ)
-  pub input_text : IsWholeInput invocation failure content text written start
-      ⊎ IsTextOfSequence invocation content text written start
+  pub is_stop : IsStop text written start
   pub written_before : Appends output_before output_between written
   pub fails_at_text : FailsAtText invocation failure file_name content start text output_between output_after
+
+-- the content is not an array
+abbrev pub IsArrayFailure : RunFailure → (file_name content : List ℕ) → (output_before output_after : Option (List ℕ))
+    → Type 0
+IsArrayFailure (NotArray failed_name) file_name content output_before output_after = (failed_name.now ≡ file_name)
+    × ((opening closing : ℕ) → IsArray content opening closing → ⊥) × Keeps output_before output_after
+IsArrayFailure failure file_name content output_before output_after = ⊥
+
+-- why a run stops
+abbrev pub StopsOn : (reads_array : Bool) → Invocation → RunFailure → (file_name content : List ℕ)
+    → (output_before output_after : Option (List ℕ)) → Type 0
+StopsOn true invocation failure file_name content output_before output_after =
+    IsArrayFailure failure file_name content output_before output_after
+    ⊎ StopsAt (IsElement invocation content) invocation failure file_name content output_before output_after
+StopsOn false invocation failure file_name content output_before output_after =
+    StopsAt (IsTextOfInput invocation failure content) invocation failure file_name content output_before output_after
 
 -- all was read before the run stopped
 pub record FailsAfterReading (invocation : Invocation) (failure : RunFailure) (file_name : List ℕ)
     (before after output_before output_after : Option (List ℕ)) : Type 0 where
   pub bytes : List ℕ
   pub reads_all : ReadsAll before after bytes
-  pub stops_at : StopsAt invocation failure file_name (content_of invocation file_name bytes) output_before output_after
+  pub stops_on : StopsOn invocation.reads_array invocation failure file_name (content_of invocation file_name bytes)
+      output_before output_after
 
 -- the bytes could not be read, for a reader that failed or for lack of memory
 abbrev pub CannotReadInput : RunFailure → (file_name : List ℕ) → (output_before output_after : Option (List ℕ)) → Type 0
@@ -191,10 +239,10 @@ pub record WritesAcceptedText (invocation : Invocation) (accepted : Accepted)
   pub written : Appends output_before output_after output
 
 -- the outputs of all texts were written
-pub record WritesAllTexts (invocation : Invocation) (content : List ℕ)
+pub record WritesAllTexts (invocation : Invocation) (texts : List (List ℕ))
     (output_before output_after : Option (List ℕ)) : Type 0 where
   pub output : List ℕ
-  pub outputs : AreTextOutputs invocation (texts_in content) output
+  pub outputs : AreTextOutputs invocation texts output
   pub utf8 : WritesText invocation.task.output → IsUtf8 output
   pub written : Appends output_before output_after output
 
@@ -204,3 +252,18 @@ pub record WritesTextOutput (invocation : Invocation) (text : List ℕ)
   pub output : List ℕ
   pub text_output : HasTextOutput invocation text output
   pub written : Appends output_before output_after output
+
+-- the content is an array, and the outputs of its elements were written
+pub record WritesElements (invocation : Invocation) (content : List ℕ)
+    (output_before output_after : Option (List ℕ)) : Type 0 where
+  pub opening : ℕ
+  pub closing : ℕ
+  pub is_array : IsArray content opening closing
+  pub elements : WritesAllTexts invocation (elements_in (between_brackets content opening closing)) output_before output_after
+
+-- a sequence is in the content, and ends after so many bytes
+pub record IsWithin (content bytes : List ℕ) (end : ℕ) : Type 0 where
+  pub before : List ℕ
+  pub after : List ℕ
+  pub split : content ≡ before ++ (bytes ++ after)
+  pub is_end : end ≡ length before + length bytes

@@ -16,7 +16,7 @@ use bson_codec::run_end::RunFault;
 use bson_convert::check::check;
 use bson_convert::encode_error::NoBytes;
 use bson_convert::error::Error;
-use bson_json::sequence::split_text;
+use bson_json::sequence::{Separator, split_text};
 use bson_run::lines::Counts;
 use bson_run::preprocessed::preprocess_text;
 use bson_run::rule::Rule;
@@ -68,7 +68,7 @@ pub fn advice_for(
         return Some(Advice::FiniteDoubles);
     }
     match run_result {
-        Err(RunFailure::Text(_, _, _, _)) => {
+        Err(RunFailure::Text(_, _, _, _)) if !invocation.reads_array => {
             first_advice(
                 alloc,
                 invocation,
@@ -151,7 +151,7 @@ fn next_text<'a>(invocation: &Invocation, remaining_bytes: &'a [u8]) -> (&'a [u8
         return split_first_line(remaining_bytes);
     }
     if reads_several(invocation.options.doubles, invocation.task.output) {
-        return split_text(remaining_bytes);
+        return split_text(Separator::WhiteSpace, remaining_bytes);
     }
     (remaining_bytes, b"")
 }

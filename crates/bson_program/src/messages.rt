@@ -66,6 +66,10 @@ pub fn failure_message(alloc: Global, failure: RunFailure<'_>) -> Result<String,
             format!(in alloc; "bson: {file_name} is both an input and the output")
         }
         RunFailure::OutputIsTerminal => String::from_str(alloc, TERMINAL_MESSAGE),
+        RunFailure::NotArray(file_name) => {
+            let prefix = message_prefix(alloc, file_name)?;
+            format!(in alloc; "{prefix}: not a JSON array, which --array reads")
+        }
         RunFailure::Text(file_name, line_number, fault, position_message) => text_failure_line(
             alloc,
             file_name,

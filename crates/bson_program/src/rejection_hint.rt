@@ -92,6 +92,7 @@ pub fn is_rejected(run_result: &Result<Counts, RunFailure<'_>>) -> bool
                 RunFault::Malformed { .. } | RunFault::FiniteDouble
             )
         }
+        Err(RunFailure::NotArray(_)) => true,
         Err(_) => false,
     }
 }

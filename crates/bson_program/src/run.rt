@@ -39,6 +39,8 @@ pub enum RunFailure<'a> {
     InputIsOutput(&'a str),
     /// Bytes would go to a terminal.
     OutputIsTerminal,
+    /// The file is not an array, which the run reads.
+    NotArray(&'a str),
     /// At a text of the file that is refused: at the line of this number, or at no line (0), why,
     /// and where in the text, as a message; or the JSON object for the error.
     Text(&'a str, u64, error::Error, String),

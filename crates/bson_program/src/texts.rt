@@ -1,10 +1,23 @@
+<<<<<<< HEAD
 //! A run over the texts of an input: one text, on any number of lines, or several, one after the other.
 ghost use Rattle.std.specs.Prelude.{◌≡◌, ℕ, List, Option, IfOk, IfErr, OnOk, false, nat_lt, length, true};
 ghost use Rattle.bson_json.specs.Sequence.{texts_in};
 ghost use Rattle.bson_program.specs.Texts.{CannotWriteAccepted, IsSequence, WritesTextOutput, StopsAt, FailsAtText, ConvertsTexts, FailsOnInput};
 ghost use Rattle.bson_program.specs.Texts.{IsNotJson, WritesAcceptedText, WritesAllTexts, content_of, is_sequence, byte_order_mark_of, reads_several};
+=======
+//! A run over the texts of an input: one text, on any number of lines, or several, one after the other, or the
+//! elements of an array.
+ghost use Rattle.std.specs.Prelude.{◌≡◌, ℕ, List, Option, IfOk, IfErr, OnOk, false, nat_lt, length, string_bytes, true};
+ghost use Rattle.bson_json.specs.Sequence.{texts_in};
+ghost use Rattle.bson_json.specs.declared.sequence.Separator.TheVariants.{WhiteSpace};
+ghost use Rattle.bson_run.specs.ErrorMessages.{IsSyntaxPosition, IsPositionMessage};
+ghost use Rattle.bson_program.specs.Texts.{CannotWriteAccepted, IsErrorLine, WritesTextOutput, StopsAt, StopsOn, FailsAtText, ConvertsTexts, FailsOnInput};
+ghost use Rattle.bson_program.specs.Texts.{IsNotJson, IsTextAmong, IsWithin, WritesAcceptedText, WritesAllTexts, WritesElements};
+ghost use Rattle.bson_program.specs.Texts.{content_of, is_sequence, text_start_line, byte_order_mark_of, reads_several};
+>>>>>>> 0b55ee6ca2e95c8167fa7001632572334eec28fc
 ghost use Rattle.bson_program.specs.SingleText.{IsTextRejected};
 
+use crate::hints::has_non_whitespace;
 use crate::invocation::{Invocation, STDIO};
 use crate::run::RunFailure;
 use crate::single_text::accept_single_text;
@@ -13,7 +26,7 @@ use bson::extjson::Doubles;
 use bson_convert::error::Error;
 use bson_convert::fault::Fault;
 use bson_convert::stream::read_whole;
-use bson_json::sequence::split_text;
+use bson_json::sequence::{Separator, array_elements, split_text};
 use bson_run::accepted::Accepted;
 use bson_run::task::{Criterion, Output};
 use std::alloc::Global;
@@ -22,9 +35,50 @@ use std::io::{Read, Write};
 /// The first bytes that a named file may have, unless its text has to be canonical.
 pub const BYTE_ORDER_MARK: &[u8] = b"\xef\xbb\xbf";
 
+<<<<<<< HEAD
+=======
+/// A text of an input.
+#[derive(Clone, Copy)]
+struct InputText<'a> {
+    /// All bytes of the input after a byte order mark.
+    content: &'a [u8],
+    /// How many of them come before the text.
+    start: usize,
+    text: &'a [u8],
+}
+
+impl<'a> InputText<'a> {
+    // Returns all bytes as one text.
+    fn whole(content: &'a [u8]) -> InputText<'a>
+        ensures content { result.content.now ≡ content.now }
+        ensures start { result.start ≡ 0 }
+        ensures text { result.text.now ≡ content.now }
+    {
+        InputText {
+            content,
+            start: 0,
+            text: content,
+        }
+    }
+}
+
+/// A sequence of texts in an input.
+#[derive(Clone, Copy)]
+struct TextSequence<'a> {
+    /// What is between the texts.
+    separator: Separator,
+    /// All bytes of the input after a byte order mark.
+    content: &'a [u8],
+    /// How many of them come before the end of the sequence.
+    end: usize,
+    bytes: &'a [u8],
+}
+
+>>>>>>> 0b55ee6ca2e95c8167fa7001632572334eec28fc
 /// Converts the texts of the file of this name. All its bytes are one text, or else a sequence of
 /// texts with white space between. Each text of a sequence is converted and written before the next.
-/// A strict run reads one text, and so does a check of canonical text.
+/// A strict run reads one text, and so does a check of canonical text. If the run reads an array, the
+/// texts are its elements, also in a strict run.
 ///
 /// If a text is rejected, the failure has the line of an error in JSON, or the line on which a wrong
 /// value begins. For any other error, and for a value of an input of one line, it has the line on which
@@ -54,11 +108,20 @@ pub fn convert_texts<'a, R: Read, W: Write>(
         )),
     };
     let content = content_of(invocation, file_name, &bytes);
+    if invocation.reads_array {
+        return convert_array(alloc, invocation, file_name, content, writer);
+    }
     let accepted = match accept_single_text(alloc, invocation, content) {
         Ok(accepted) => accepted,
         Err(fault) => {
             if is_read_as_sequence(invocation, &fault, content) {
-                return convert_sequence(alloc, invocation, file_name, content, writer);
+                let sequence = TextSequence {
+                    separator: Separator::WhiteSpace,
+                    content,
+                    end: content.len(),
+                    bytes: content,
+                };
+                return convert_sequence(alloc, invocation, file_name, sequence, writer);
             }
             return Err(text_failure(
                 alloc,
@@ -133,13 +196,13 @@ pub fn reads_several(doubles: Doubles, output: Output) -> bool
 
 // Returns whether there are two texts or more.
 fn has_two_texts(content: &[u8]) -> bool
-    ensures { result ≡ nat_lt 1 (length (texts_in content.now)) }
+    ensures { result ≡ nat_lt 1 (length (texts_in WhiteSpace content.now)) }
 {
     let mut remaining_bytes = content;
     let mut has_first_text = false;
     while !remaining_bytes.is_empty() {
-        let (text, after_text) = split_text(remaining_bytes);
-        if !text.is_empty() {
+        let (text, after_text) = split_text(Separator::WhiteSpace, remaining_bytes);
+        if Separator::WhiteSpace.is_text(text) {
             if has_first_text {
                 return true;
             }
@@ -150,8 +213,8 @@ fn has_two_texts(content: &[u8]) -> bool
     false
 }
 
-// Converts the texts of a sequence.
-fn convert_sequence<'a, W: Write>(
+// Converts the elements of an array.
+fn convert_array<'a, W: Write>(
     alloc: Global,
     invocation: &'a Invocation,
     file_name: &'a str,
@@ -159,20 +222,52 @@ fn convert_sequence<'a, W: Write>(
     writer: &mut W,
 ) -> Result<(), RunFailure<'a>>
     ensures done { OnOk result
-        (WritesAllTexts invocation.now content.now (W.contents writer.old) (W.contents writer.new)) }
-    ensures stops { IsSequence invocation.now content.now
-        → IfErr result (λ failure. StopsAt invocation.now failure file_name.now content.now
+        (WritesElements invocation.now content.now (W.contents writer.old) (W.contents writer.new)) }
+    ensures stops { IfErr result (λ failure. StopsOn true invocation.now failure file_name.now content.now
         (W.contents writer.old) (W.contents writer.new)) }
 {
-    let mut remaining_bytes = content;
-    while !remaining_bytes.is_empty() {
-        let (text, after_text) = split_text(remaining_bytes);
-        let input_text = InputText {
+    let Some((bytes, end)) = array_elements(content) else {
+        return Err(RunFailure::NotArray(file_name));
+    };
+    if has_non_whitespace(bytes) {
+        let sequence = TextSequence {
+            separator: Separator::Comma,
             content,
-            start: content.len() - remaining_bytes.len(),
-            text,
+            end,
+            bytes,
         };
-        if !text.is_empty() {
+        return convert_sequence(alloc, invocation, file_name, sequence, writer);
+    }
+    Ok(())
+}
+
+// Converts the texts of a sequence.
+fn convert_sequence<'a, W: Write>(
+    alloc: Global,
+    invocation: &'a Invocation,
+    file_name: &'a str,
+    sequence: TextSequence<'_>,
+    writer: &mut W,
+) -> Result<(), RunFailure<'a>>
+    ensures done { OnOk result
+        (WritesAllTexts invocation.now (texts_in sequence.entry.separator sequence.entry.bytes.now)
+        (W.contents writer.old) (W.contents writer.new)) }
+    ensures stops { IsWithin sequence.entry.content.now sequence.entry.bytes.now sequence.entry.end
+        → IfErr result (λ failure. StopsAt
+        (IsTextAmong invocation.now (texts_in sequence.entry.separator sequence.entry.bytes.now) sequence.entry.content.now)
+        invocation.now failure file_name.now sequence.entry.content.now (W.contents writer.old) (W.contents writer.new)) }
+{
+    let mut remaining_bytes = sequence.bytes;
+    let mut has_more = true;
+    while has_more {
+        let (text, after_text) = split_text(sequence.separator, remaining_bytes);
+        has_more = text.len() < remaining_bytes.len();
+        if sequence.separator.is_text(text) {
+            let input_text = InputText {
+                content: sequence.content,
+                start: sequence.end.saturating_sub(remaining_bytes.len()),
+                text,
+            };
             convert_text(alloc, invocation, file_name, input_text, writer)?;
         }
         remaining_bytes = after_text;

@@ -1,5 +1,5 @@
 use Rattle.std.specs.Prelude.{length}
-use Rattle.bson_program.proofs.Sequences.{AreCounted}
+use Rattle.bson_program.proofs.TextParts.{AreCounted}
 use Rattle.bson_program.proofs.texts.has_two_texts.Given as goal
 
 abbrev pub invariant-loop-remaining_bytes : goal.invariant-loop-remaining_bytes
