@@ -1,11 +1,6 @@
 -- The texts of a sequence, one after the other, and where a run over them stops.
-<<<<<<< HEAD
-use Rattle.std.proofs.Common.{◌≡◌, ◌⊎◌, ◌≢◌, inl, inr, ◌<◌, ◌+◌, ◌-◌, ℕ, Bool, true, false, cond, List, [], ◌∷◌, ◌++◌, Option, Result, Ok, Err, OnOk, IfErr}
-use Rattle.std.proofs.Common.{length, drop, take, refl, ap, sym, subst, ◌∙◌, append_assoc, append-nil, length-append, nat_lt, arith}
-=======
-use Rattle.std.proofs.Common.{◌≡◌, ◌⊎◌, inl, inr, ◌+◌, ◌-◌, ℕ, Bool, true, false, List, [], ◌∷◌, ◌++◌, Option, Result, Ok, Err, OnOk, IfErr}
+use Rattle.std.proofs.Common.{◌≡◌, ◌⊎◌, ◌≢◌, inl, inr, ◌+◌, ◌-◌, ℕ, Bool, true, false, List, [], ◌∷◌, ◌++◌, Option, Result, Ok, Err, OnOk, IfErr}
 use Rattle.std.proofs.Common.{length, drop, take, refl, ap, sym, subst, ◌∙◌, append_assoc, append-nil, length-append, arith}
->>>>>>> 0b55ee6ca2e95c8167fa7001632572334eec28fc
 use Rattle.std.proofs.KnownBytes.{Appends-nil, Appends-trans}
 use Rattle.std.proofs.lemmas.Str.{IsUtf8-append, IsUtf8-nil}
 use Rattle.std.specs.Prelude.{IsUtf8}
@@ -20,15 +15,9 @@ use Rattle.bson_convert.specs.Run.{ReadsAll}
 use Rattle.bson_run.specs.Accepted.{HasOutput, IsUtf8Accepted}
 use Rattle.bson_run.specs.declared.accepted.Accepted.{Accepted}
 use Rattle.bson_run.specs.Lines.{WritesText}
-<<<<<<< HEAD
-use Rattle.bson_program.specs.Texts.{CannotWriteAccepted, AreTextOutputs, IsNotJson, IsSequence, WritesTextOutput, StopsAt, IsTextFailure}
-use Rattle.bson_program.specs.Texts.{FailsAtText, ConvertsTexts, FailsOnInput, HasOutputOfTexts, WritesAcceptedText, WritesAllTexts, content_of, is_sequence}
-=======
-use Rattle.bson_run.specs.ErrorMessages.{IsPositionMessage}
 use Rattle.bson_program.specs.Texts.{content_of, is_sequence, AreTextOutputs, CannotWriteAccepted, ConvertsTexts, FailsAtText, FailsOnInput}
-use Rattle.bson_program.specs.Texts.{HasOutputOfTexts, IsErrorLine, IsNotJson, IsSequence, IsTextAmong, IsTextFailure, IsTextOfInput}
+use Rattle.bson_program.specs.Texts.{HasOutputOfTexts, IsNotJson, IsSequence, IsTextAmong, IsTextFailure, IsTextOfInput}
 use Rattle.bson_program.specs.Texts.{IsWithin, StopsAt, StopsOn, WritesAcceptedText, WritesAllTexts, WritesElements, WritesTextOutput}
->>>>>>> 0b55ee6ca2e95c8167fa7001632572334eec28fc
 use Rattle.bson_program.specs.Texts.AreTextOutputs.{no_texts, one_more_text}
 use Rattle.bson_program.specs.SingleText.{IsOutputOfText, IsTextRejected}
 use Rattle.bson_program.specs.TextErrors.{IsErrorReport}

@@ -153,6 +153,8 @@ IsFailureObject (failure.Output file_name error) line =
     IsFileFailureObject (codes "cannot_write") (codes "write ") file_name.now (codes "output") error line
 IsFailureObject (failure.InputIsOutput file_name) line = line ≡ failure_object file_name.now (codes "input_is_output")
     (shown_name file_name.now (codes "input") ++ codes " is both an input and the output")
+IsFailureObject (failure.NotArray file_name) line =
+    line ≡ failure_object file_name.now (codes "not_an_array") (codes "not a JSON array, which --array reads")
 IsFailureObject failure.OutputIsTerminal line = line ≡ failure_object (codes "-") (codes "output_is_terminal")
     (codes "BSON bytes are not written to a terminal; give -o FILE, or a pipe")
 IsFailureObject (failure.Text file_name line_number conversion_error.OutOfMemory report) line =

@@ -1,13 +1,7 @@
-<<<<<<< HEAD
--- A run over the texts of an input. All its bytes are one JSON text, or else a sequence of texts with white space between.
-use Rattle.std.specs.Prelude.{◌≡◌, ◌⊎◌, ℕ, Bool, true, false, List, [], ◌∷◌, ◌++◌, Option, IsUtf8, string_bytes}
-use Rattle.std.specs.Prelude.{drop, length, nat_eq, nat_lt, take, if◌then◌else◌}
-=======
 -- A run over the texts of an input. All its bytes are one JSON text, or else a sequence of texts with white space between;
 -- or they are an array, of whose elements each is a text.
-use Rattle.std.specs.Prelude.{◌≡◌, ◌==◌, ◌⊎◌, ◌+◌, ℕ, suc, Bool, true, false, List, [], ◌∷◌, ◌++◌, Option, IsUtf8, string_bytes}
-use Rattle.std.specs.Prelude.{count_by, drop, length, min, nat_eq, nat_lt, take, if◌then◌else◌}
->>>>>>> 0b55ee6ca2e95c8167fa7001632572334eec28fc
+use Rattle.std.specs.Prelude.{◌≡◌, ◌⊎◌, ◌+◌, ℕ, Bool, true, false, List, [], ◌∷◌, ◌++◌, Option, IsUtf8, string_bytes}
+use Rattle.std.specs.Prelude.{drop, length, nat_eq, nat_lt, take, if◌then◌else◌}
 use Rattle.std.specs.List.{starts_with}
 use Rattle.std.specs.Io.KnownBytes.{Appends, Keeps}
 use Rattle.bson.specs.Doubles.{Doubles}

@@ -16,6 +16,8 @@ use std::io::Error;
 
 const TERMINAL_MESSAGE: &str = "BSON bytes are not written to a terminal; give -o FILE, or a pipe";
 
+const NOT_ARRAY_MESSAGE: &str = "not a JSON array, which --array reads";
+
 /// Returns the JSON object for what stopped the run: the file, the code and the message. A rejected text has
 /// its own object, to which the file is added.
 pub fn failure_json(alloc: Global, failure: RunFailure<'_>) -> Result<String, AllocError>
@@ -28,6 +30,9 @@ pub fn failure_json(alloc: Global, failure: RunFailure<'_>) -> Result<String, Al
             let shown_name = show_name(alloc, file_name, "input")?;
             let message = format!(in alloc; "{shown_name} is both an input and the output")?;
             failure_object(alloc, file_name, "input_is_output", &message)
+        }
+        RunFailure::NotArray(file_name) => {
+            failure_object(alloc, file_name, "not_an_array", NOT_ARRAY_MESSAGE)
         }
         RunFailure::OutputIsTerminal => {
             failure_object(alloc, STDIO, "output_is_terminal", TERMINAL_MESSAGE)

@@ -1,20 +1,11 @@
-<<<<<<< HEAD
-//! A run over the texts of an input: one text, on any number of lines, or several, one after the other.
-ghost use Rattle.std.specs.Prelude.{◌≡◌, ℕ, List, Option, IfOk, IfErr, OnOk, false, nat_lt, length, true};
-ghost use Rattle.bson_json.specs.Sequence.{texts_in};
-ghost use Rattle.bson_program.specs.Texts.{CannotWriteAccepted, IsSequence, WritesTextOutput, StopsAt, FailsAtText, ConvertsTexts, FailsOnInput};
-ghost use Rattle.bson_program.specs.Texts.{IsNotJson, WritesAcceptedText, WritesAllTexts, content_of, is_sequence, byte_order_mark_of, reads_several};
-=======
 //! A run over the texts of an input: one text, on any number of lines, or several, one after the other, or the
 //! elements of an array.
-ghost use Rattle.std.specs.Prelude.{◌≡◌, ℕ, List, Option, IfOk, IfErr, OnOk, false, nat_lt, length, string_bytes, true};
+ghost use Rattle.std.specs.Prelude.{◌≡◌, ℕ, List, Option, IfOk, IfErr, OnOk, false, nat_lt, length, true};
 ghost use Rattle.bson_json.specs.Sequence.{texts_in};
 ghost use Rattle.bson_json.specs.declared.sequence.Separator.TheVariants.{WhiteSpace};
-ghost use Rattle.bson_run.specs.ErrorMessages.{IsSyntaxPosition, IsPositionMessage};
-ghost use Rattle.bson_program.specs.Texts.{CannotWriteAccepted, IsErrorLine, WritesTextOutput, StopsAt, StopsOn, FailsAtText, ConvertsTexts, FailsOnInput};
+ghost use Rattle.bson_program.specs.Texts.{CannotWriteAccepted, WritesTextOutput, StopsAt, StopsOn, FailsAtText, ConvertsTexts, FailsOnInput};
 ghost use Rattle.bson_program.specs.Texts.{IsNotJson, IsTextAmong, IsWithin, WritesAcceptedText, WritesAllTexts, WritesElements};
-ghost use Rattle.bson_program.specs.Texts.{content_of, is_sequence, text_start_line, byte_order_mark_of, reads_several};
->>>>>>> 0b55ee6ca2e95c8167fa7001632572334eec28fc
+ghost use Rattle.bson_program.specs.Texts.{content_of, is_sequence, byte_order_mark_of, reads_several};
 ghost use Rattle.bson_program.specs.SingleText.{IsTextRejected};
 
 use crate::hints::has_non_whitespace;
@@ -35,33 +26,6 @@ use std::io::{Read, Write};
 /// The first bytes that a named file may have, unless its text has to be canonical.
 pub const BYTE_ORDER_MARK: &[u8] = b"\xef\xbb\xbf";
 
-<<<<<<< HEAD
-=======
-/// A text of an input.
-#[derive(Clone, Copy)]
-struct InputText<'a> {
-    /// All bytes of the input after a byte order mark.
-    content: &'a [u8],
-    /// How many of them come before the text.
-    start: usize,
-    text: &'a [u8],
-}
-
-impl<'a> InputText<'a> {
-    // Returns all bytes as one text.
-    fn whole(content: &'a [u8]) -> InputText<'a>
-        ensures content { result.content.now ≡ content.now }
-        ensures start { result.start ≡ 0 }
-        ensures text { result.text.now ≡ content.now }
-    {
-        InputText {
-            content,
-            start: 0,
-            text: content,
-        }
-    }
-}
-
 /// A sequence of texts in an input.
 #[derive(Clone, Copy)]
 struct TextSequence<'a> {
@@ -74,7 +38,6 @@ struct TextSequence<'a> {
     bytes: &'a [u8],
 }
 
->>>>>>> 0b55ee6ca2e95c8167fa7001632572334eec28fc
 /// Converts the texts of the file of this name. All its bytes are one text, or else a sequence of
 /// texts with white space between. Each text of a sequence is converted and written before the next.
 /// A strict run reads one text, and so does a check of canonical text. If the run reads an array, the
