@@ -15,7 +15,7 @@ use Rattle.bson_codec.specs.Diagnostics as documents
 use Rattle.bson_codec.specs.declared.run_end.RunEnd.{RunEnd}
 use Rattle.bson_codec.specs.declared.run_end.RunFault.{RunFault}
 use Rattle.bson_codec.specs.declared.run_end.RunFault.TheVariants as run_fault
-use Rattle.bson_run.specs.Diagnostic.{message_tokens}
+use Rattle.bson_run.specs.Diagnostic.{json_line, message_tokens}
 use Rattle.bson_run.specs.Lines.{prepend_to_first_line}
 use Rattle.bson_run.specs.declared.task.DiagnosticFormat.{DiagnosticFormat}
 use Rattle.bson_run.specs.declared.task.DiagnosticFormat.TheVariants as format
@@ -137,7 +137,7 @@ with_json_file file_name json = file_member file_name ++ codes "," ++ drop 1 jso
 
 -- the name of the file, the code, and the message without the program's name
 abbrev pub failure_object : (file_name code message : List ℕ) → List ℕ
-failure_object file_name code message = print (file_tokens file_name ++ message_tokens code message)
+failure_object file_name code message = json_line (file_tokens file_name ++ message_tokens code message)
 
 -- a file can't be read or written
 abbrev pub IsFileFailureObject : (code verb file_name stream : List ℕ) → Option Error → (line : List ℕ) → Type 0
@@ -145,7 +145,7 @@ IsFileFailureObject code verb file_name stream error line =
     (cause : List ℕ) × IsCauseSuffix error cause
     × (line ≡ failure_object file_name code (codes "cannot " ++ verb ++ shown_name file_name stream ++ cause))
 
--- the object for what stopped the run; a text has its own, unless memory was lacking
+-- the object for what stopped the run, on a line; a text has its own, unless memory was lacking
 abbrev pub IsFailureObject : RunFailure → (line : List ℕ) → Type 0
 IsFailureObject (failure.Input file_name error) line =
     IsFileFailureObject (codes "cannot_read") (codes "read ") file_name.now (codes "input") error line
@@ -160,7 +160,7 @@ IsFailureObject failure.OutputIsTerminal line = line ≡ failure_object (codes "
 IsFailureObject (failure.Text file_name line_number conversion_error.OutOfMemory report) line =
     line ≡ failure_object file_name.now (codes "out_of_memory") (codes "out of memory")
 IsFailureObject (failure.Text file_name line_number fault report) line =
-    line ≡ with_json_file file_name.now (trim_end (string_bytes report))
+    line ≡ with_json_file file_name.now (string_bytes report)
 IsFailureObject (failure.Document file_name run_end) line = line ≡ failure_object file_name.now (codes "malformed")
     (trim_end (document_error_message run_end.number run_end.start run_end.fault))
 

@@ -41,13 +41,13 @@ position_message content start text (Syntax syntax_error) =
 position_message content start text explanation = explanation_message text explanation
 
 -- the line, the column and the offset of an error in the input; the line of the text's first byte, if no more is known
-abbrev pub position_of : (content : List ℕ) → (start : ℕ) → (offset : Option ℕ) → Position
-position_of content start None = position_at (line_at start content) None content
-position_of content start (Some offset) =
+abbrev pub position_of_offset : (content : List ℕ) → (start : ℕ) → (offset : Option ℕ) → Position
+position_of_offset content start None = position_at (line_at start content) None content
+position_of_offset content start (Some offset) =
     position_at (line_at (offset_in_input start offset) content) (Some (offset_in_input start offset)) content
 
 abbrev pub position_in_input : (content : List ℕ) → (start : ℕ) → (text : List ℕ) → Explanation → Position
-position_in_input content start text explanation = position_of content start (explanation_offset text explanation)
+position_in_input content start text explanation = position_of_offset content start (explanation_offset text explanation)
 
 -- the JSON object for an error
 abbrev pub error_json : Error → (content : List ℕ) → (start : ℕ) → (text : List ℕ) → Explanation

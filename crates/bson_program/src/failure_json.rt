@@ -1,7 +1,5 @@
 //! What stopped a run, as a JSON object on one line, and the names of files in these objects.
-ghost use Rattle.std.specs.Prelude.{◌≡◌, ◌++◌, [], IfOk, OnOk, codes, string_bytes};
-ghost use Rattle.std.specs.Str.{trim_end};
-ghost use Rattle.json.specs.Print.{print};
+ghost use Rattle.std.specs.Prelude.{◌≡◌, ◌++◌, IfOk, OnOk, codes};
 ghost use Rattle.bson_program.specs.Messages.{IsFailureObject, IsFileFailureObject, failure_object, file_member};
 ghost use Rattle.bson_program.specs.Messages.{file_tokens, with_json_file};
 
@@ -20,8 +18,8 @@ const NOT_ARRAY_MESSAGE: &str = "not a JSON array, which --array reads";
 
 /// Returns the JSON object for what stopped the run: the file, the code and the message. A rejected text has
 /// its own object, to which the file is added.
-pub fn failure_json(alloc: Global, failure: RunFailure<'_>) -> Result<String, AllocError>
-    ensures { IfOk result (λ line. IsFailureObject failure.entry (string_bytes line)) }
+pub fn failure_json(alloc: Global, failure: RunFailure<'_>) -> Result<Vec<u8>, AllocError>
+    ensures { IfOk result (λ line. IsFailureObject failure.entry line.items) }
 {
     match failure {
         RunFailure::Input(file_name, error) => input_failure(alloc, file_name, error),
@@ -40,7 +38,7 @@ pub fn failure_json(alloc: Global, failure: RunFailure<'_>) -> Result<String, Al
         RunFailure::Text(file_name, _, error::Error::OutOfMemory, _) => {
             failure_object(alloc, file_name, "out_of_memory", "out of memory")
         }
-        RunFailure::Text(file_name, _, _, report) => named_report(alloc, file_name, &report),
+        RunFailure::Text(file_name, _, _, report) => named_report(alloc, file_name, report.as_bytes()),
         RunFailure::Document(file_name, run_end) => {
             let message = document_error_message(alloc, run_end)?;
             failure_object(alloc, file_name, "malformed", message.trim_end())
@@ -49,9 +47,13 @@ pub fn failure_json(alloc: Global, failure: RunFailure<'_>) -> Result<String, Al
 }
 
 // Returns the object for an input that can't be read.
-fn input_failure(alloc: Global, file_name: &str, error: Option<Error>) -> Result<String, AllocError>
+fn input_failure(
+    alloc: Global,
+    file_name: &str,
+    error: Option<Error>,
+) -> Result<Vec<u8>, AllocError>
     ensures { IfOk result (λ line. IsFileFailureObject (codes "cannot_read") (codes "read ") file_name.now
-        (codes "input") error (string_bytes line)) }
+        (codes "input") error line.items) }
 {
     let (shown_name, cause) = (
         show_name(alloc, file_name, "input")?,
@@ -66,9 +68,9 @@ fn output_failure(
     alloc: Global,
     file_name: &str,
     error: Option<Error>,
-) -> Result<String, AllocError>
+) -> Result<Vec<u8>, AllocError>
     ensures { IfOk result (λ line. IsFileFailureObject (codes "cannot_write") (codes "write ") file_name.now
-        (codes "output") error (string_bytes line)) }
+        (codes "output") error line.items) }
 {
     let (shown_name, cause) = (
         show_name(alloc, file_name, "output")?,
@@ -84,13 +86,15 @@ fn failure_object(
     file_name: &str,
     code: &str,
     message: &str,
-) -> Result<String, AllocError>
-    ensures { IfOk result (λ line. string_bytes line ≡ failure_object file_name.now code.now message.now) }
+) -> Result<Vec<u8>, AllocError>
+    ensures { IfOk result (λ line. line.items ≡ failure_object file_name.now code.now message.now) }
 {
     let mut writer = Writer::new(Vec::new(alloc));
     write_file(&mut writer, file_name)?;
     write_message(&mut writer, code, message)?;
-    Ok(into_text(writer))
+    let mut line = writer.into_inner();
+    line.push(b'\n')?;
+    Ok(line)
 }
 
 // Begins an object, and writes the name of the file.
@@ -103,36 +107,22 @@ fn write_file(writer: &mut Writer, file_name: &str) -> Result<(), AllocError>
     writer.string(file_name)
 }
 
-// Returns the text that was written.
-fn into_text(writer: Writer) -> String
-    requires { writer.before ≡ [] }
-    ensures { string_bytes result ≡ print writer.tokens }
+// Returns the object of a rejected text with its file.
+fn named_report(alloc: Global, file_name: &str, report: &[u8]) -> Result<Vec<u8>, AllocError>
+    ensures { IfOk result (λ line. line.items ≡ with_json_file file_name.now report.now) }
 {
-    let Ok(text) = String::from_utf8(writer.into_inner()) else {
-        unreachable!();
-    };
-    text
-}
-
-// Returns the object of a rejected text with its file, without the newline.
-fn named_report(alloc: Global, file_name: &str, report: &str) -> Result<String, AllocError>
-    ensures { IfOk result (λ line. string_bytes line ≡ with_json_file file_name.now (trim_end report.now)) }
-{
-    let member = file_member(alloc, file_name)?;
-    let members = match report.trim_end().split_at_checked(1) {
-        Some((_, members)) => members,
-        None => "",
-    };
-    format!(in alloc; "{member},{members}")
+    let mut line = Vec::new(alloc);
+    push_named_json(alloc, &mut line, file_name, report)?;
+    Ok(line)
 }
 
 // Returns the beginning of an object with its first member, the name of the file.
-fn file_member(alloc: Global, file_name: &str) -> Result<String, AllocError>
-    ensures { IfOk result (λ member. string_bytes member ≡ file_member file_name.now) }
+fn file_member(alloc: Global, file_name: &str) -> Result<Vec<u8>, AllocError>
+    ensures { IfOk result (λ member. member.items ≡ file_member file_name.now) }
 {
     let mut writer = Writer::new(Vec::new(alloc));
     write_file(&mut writer, file_name)?;
-    Ok(into_text(writer))
+    Ok(writer.into_inner())
 }
 
 /// Appends a JSON object, with the name of its file as the first member.
@@ -146,7 +136,7 @@ pub fn push_named_json(
         (named_diagnostics.new.items ≡ named_diagnostics.old.items ++ with_json_file file_name.now json.now) }
 {
     let member = file_member(alloc, file_name)?;
-    named_diagnostics.extend_from_slice(member.as_bytes())?;
+    named_diagnostics.extend_from_slice(&member)?;
     named_diagnostics.push(b',')?;
     match json.split_first() {
         Some((_, members)) => named_diagnostics.extend_from_slice(members),

@@ -47,11 +47,15 @@ use bson_convert::fault::Fault;
 use bson_convert::program::{command_line_arguments, report_failure};
 use bson_run::task::DiagnosticFormat;
 use std::alloc::AllocError;
-use std::io::ErrorKind;
+use std::io::{ErrorKind, Write};
 use std::process::ExitCode;
 
 /// The status that reports to a shell that nobody reads the output any more: 128, and SIGPIPE.
 const BROKEN_PIPE_STATUS: u8 = 141;
+
+/// What is reported as JSON if memory for the object is lacking.
+const OUT_OF_MEMORY_JSON: &str =
+    "{\"file\":\"-\",\"code\":\"out_of_memory\",\"message\":\"out of memory\"}";
 
 // Status 0: done, and no line was refused. Status 1: a line was refused, or the run could not go
 // on, which standard error shows. Status 2: wrong arguments, and nothing was read. Status 141:
@@ -108,7 +112,7 @@ fn run_invocation(rt: &HostRuntime, invocation: &Invocation) -> ExitCode {
         Err(RunFailure::Output(_, Some(error))) if error.kind() == ErrorKind::BrokenPipe => {
             ExitCode::from(BROKEN_PIPE_STATUS)
         }
-        Err(failure) => report_with_status(rt, failure_line(rt, invocation, failure), 1),
+        Err(failure) => report_stop(rt, invocation, failure, 1),
     };
     print_hints(rt, &hints);
     status
@@ -124,21 +128,28 @@ fn compare_invocation(rt: &HostRuntime, invocation: &Invocation) -> ExitCode {
             difference_line_for(rt.alloc(), invocation, difference),
             1,
         ),
-        Err(failure) => report_with_status(rt, failure_line(rt, invocation, failure), 2),
+        Err(failure) => report_stop(rt, invocation, failure, 2),
     };
     print_hints(rt, &hints);
     status
 }
 
-// Returns the line for what stopped a run, in the format of its diagnostics.
-fn failure_line(
+// Reports what stopped a run, in the format of its diagnostics, and returns this status.
+fn report_stop(
     rt: &HostRuntime,
     invocation: &Invocation,
     failure: RunFailure<'_>,
-) -> Result<String, AllocError> {
-    match invocation.task.diagnostics {
-        DiagnosticFormat::Text => failure_message(rt.alloc(), failure),
-        DiagnosticFormat::Json => failure_json(rt.alloc(), failure),
+    status: u8,
+) -> ExitCode {
+    if invocation.task.diagnostics == DiagnosticFormat::Text {
+        return report_with_status(rt, failure_message(rt.alloc(), failure), status);
+    }
+    match failure_json(rt.alloc(), failure) {
+        Ok(line) => {
+            let _ = rt.stderr().write_all(&line);
+            ExitCode::from(status)
+        }
+        Err(_) => report_failure(rt, OUT_OF_MEMORY_JSON, status),
     }
 }
 

@@ -2,7 +2,7 @@
 ghost use Rattle.std.specs.Prelude.{◌≡◌, ◌⊎◌, ◌++◌, ◌+◌, [], ◌∷◌, ◌<◌, length, IfOk, IfErr, take};
 ghost use Rattle.std.specs.Prelude.{OnOk, OnErr, None, Ok, IsTrue, ◌↔◌, string_bytes};
 ghost use Rattle.std.specs.Prelude.{MatchOption, IfSome, IsUtf8, ◌≢◌, slice_index, min, ◌-◌, ◌^◌};
-ghost use Rattle.bson_run.specs.Lines.{IsBlank, IsRejectedLineIn, IsStoppedAtText, WritesOutputForTask};
+ghost use Rattle.bson_run.specs.Lines.{IsBlank, IsStoppedAtText, WritesOutputForTask};
 ghost use Rattle.bson_run.specs.Diagnostic.{IsDiagnostic};
 ghost use Rattle.bson_run.specs.Lines.{buffered_text, line_text, CriterionAccepts, WritesOutput, WritesText};
 ghost use Rattle.bson_run.specs.LinesSteps.{EndsLastLine, LineCountFits, HaveSameResults, IsLineCountOverflow};

@@ -47,18 +47,18 @@ explanation_column text (explanations.Value place reason offset) = 0
 explanation_column text (Difference column) = column
 explanation_column text Other = 0
 
-abbrev pub explanation_offset : (text : List ℕ) → Explanation → ℕ
-explanation_offset text (Syntax syntax_error) = min syntax_error.offset (length text - 1)
-explanation_offset text (explanations.Value place reason offset) = 0
-explanation_offset text (Difference column) = column - 1
-explanation_offset text Other = 0
+abbrev pub reported_offset : (text : List ℕ) → Explanation → ℕ
+reported_offset text (Syntax syntax_error) = min syntax_error.offset (length text - 1)
+reported_offset text (explanations.Value place reason offset) = 0
+reported_offset text (Difference column) = column - 1
+reported_offset text Other = 0
 
 -- the path from the invalid value outward
-abbrev pub explanation_path : Explanation → List PathSegment
-explanation_path (Syntax syntax_error) = []
-explanation_path (explanations.Value place reason offset) = path_of place.now
-explanation_path (Difference column) = []
-explanation_path Other = []
+abbrev pub reported_path : Explanation → List PathSegment
+reported_path (Syntax syntax_error) = []
+reported_path (explanations.Value place reason offset) = path_of place.now
+reported_path (Difference column) = []
+reported_path Other = []
 
 abbrev pub explanation_reason : Explanation → List ℕ
 explanation_reason (Syntax syntax_error) = rule_message syntax_error.rule
@@ -72,8 +72,8 @@ pub record ReportsExplanation (text : List ℕ) (explanation : Explanation) (des
   pub code : rejection.code ≡ explanation_code explanation
   pub line : rejection.line ≡ explanation_line text explanation
   pub column : rejection.column ≡ explanation_column text explanation
-  pub offset : rejection.offset ≡ explanation_offset text explanation
-  pub path : IsOwnedText (document_bytes (path_pairs (explanation_path explanation))) rejection.path
+  pub offset : rejection.offset ≡ reported_offset text explanation
+  pub path : IsOwnedText (document_bytes (path_pairs (reported_path explanation))) rejection.path
   pub reason : IsOwnedText (explanation_reason explanation) rejection.reason
   pub message : IsOwnedText description rejection.message
 
@@ -132,15 +132,15 @@ abbrev pub IsUnexplained : PathError → (rejects : Error → Type 0) → Type 0
 IsUnexplained error rejects = error ≢ path_error.OutOfMemory → (fault : Error) × rejects fault × HasTooLongPath fault
 
 abbrev pub PathIsTooLong : Explanation → Type 0
-PathIsTooLong explanation = FitsDocument (path_pairs (explanation_path explanation)) → ⊥
+PathIsTooLong explanation = FitsDocument (path_pairs (reported_path explanation)) → ⊥
 
 -- the fields are those of an explanation of an error of the text
 pub record AreFieldsOfExplanation (text : List ℕ) (explanation : Explanation) (fields : RejectionFields) : Type 0 where
   pub code : fields.code ≡ explanation_code explanation
   pub line : fields.line ≡ explanation_line text explanation
   pub column : fields.column ≡ explanation_column text explanation
-  pub offset : fields.offset ≡ explanation_offset text explanation
-  pub path : fields.path.items ≡ document_bytes (path_pairs (explanation_path explanation)) ++ newline
+  pub offset : fields.offset ≡ reported_offset text explanation
+  pub path : fields.path.items ≡ document_bytes (path_pairs (reported_path explanation)) ++ newline
   pub reason : fields.reason.items ≡ explanation_reason explanation ++ newline
   pub utf8 : IsUtf8 (explanation_reason explanation)
 

@@ -5,7 +5,7 @@ ghost use Rattle.bson_convert.specs.Convert.{IsRejectedIn, newline};
 ghost use Rattle.bson_convert.specs.Messages.{error_message};
 ghost use Rattle.bson_tree.specs.Place.{segment_of};
 ghost use Rattle.vbson.specs.Explain.{AreFieldsOfExplanation, Explains, ExplainsWithoutPreprocessing, ExplainsError, PathIsTooLong, HasTooLongPath, IsRejectionWithFields, ErrorPathIsTooLong, IsUnexplained, ReportsExplanation};
-ghost use Rattle.vbson.specs.Explain.{explanation_code, explanation_column, explanation_line, explanation_offset, explanation_path, explanation_reason};
+ghost use Rattle.vbson.specs.Explain.{explanation_code, explanation_column, explanation_line, reported_offset, reported_path, explanation_reason};
 ghost use Rattle.vbson.specs.Options.{AreInvalid};
 ghost use Rattle.vbson.specs.Reading.{MeansUnder};
 ghost use Rattle.bson_bytes.specs.declared.error.Error.TheVariants as path_error;
@@ -201,7 +201,7 @@ fn rejection_fields_of(
         code: code_of(explanation),
         line: explanation_line(explanation, text),
         column: explanation_column(explanation, text),
-        offset: explanation_offset(explanation, text),
+        offset: reported_offset(explanation, text),
         path,
         reason,
     })
@@ -253,8 +253,8 @@ fn explanation_column(explanation: &Explanation<'_>, text: &[u8]) -> usize
 }
 
 // Returns the offset at which the text stops to be JSON, or 0.
-fn explanation_offset(explanation: &Explanation<'_>, text: &[u8]) -> usize
-    ensures { result ≡ explanation_offset text.now explanation.now }
+fn reported_offset(explanation: &Explanation<'_>, text: &[u8]) -> usize
+    ensures { result ≡ reported_offset text.now explanation.now }
 {
     match explanation {
         Explanation::Syntax(syntax_error) => syntax_error.offset.min(text.len().saturating_sub(1)),
@@ -265,7 +265,7 @@ fn explanation_offset(explanation: &Explanation<'_>, text: &[u8]) -> usize
 
 // Returns the path segments that lead to the invalid value, from the value outward.
 fn segments_of<'a>(explanation: &'a Explanation<'_>) -> &'a [Segment]
-    ensures { map segment_of result.now ≡ explanation_path explanation.now }
+    ensures { map segment_of result.now ≡ reported_path explanation.now }
 {
     match explanation {
         Explanation::Value { place, .. } => place.segments.as_slice(),

@@ -1,4 +1,4 @@
-use Rattle.std.proofs.Common.{◌≡◌, ◌∙◌, ap}
+use Rattle.std.proofs.Common.{◌∙◌, ap}
 use Rattle.bson_run.proofs.LinesLaws.{oks_with}
 use Rattle.bson_run.specs.Diagnostic.{diagnostic_tokens, json_line}
 use Rattle.bson_run.specs.ErrorMessages.{explanation_path}
