@@ -103,12 +103,12 @@ parts separator scan_state (byte ∷ later_bytes) =
     (parts separator (scan scan_state byte) later_bytes)
 
 -- a part is a text, unless it is empty between white space
-abbrev pub is_text : Separator → (part : List ℕ) → Bool
-is_text WhiteSpace [] = false
-is_text separator part = true
+abbrev pub keeps_part : Separator → (part : List ℕ) → Bool
+keeps_part WhiteSpace [] = false
+keeps_part separator part = true
 
 abbrev pub prepend_text : Separator → (part : List ℕ) → (later_texts : List (List ℕ)) → List (List ℕ)
-prepend_text separator part later_texts = if is_text separator part then part ∷ later_texts else later_texts
+prepend_text separator part later_texts = if keeps_part separator part then part ∷ later_texts else later_texts
 
 unfoldable pub texts_of_parts : Separator → List (List ℕ) → List (List ℕ)
 texts_of_parts separator [] = []

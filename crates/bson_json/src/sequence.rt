@@ -1,6 +1,6 @@
 //! Where the texts of a sequence of JSON texts end.
 ghost use Rattle.std.specs.Prelude.{◌≡◌, ◌≤◌, ◌<◌, ◌+◌, ◌^◌, ◌-◌, ◌++◌, ◌∷◌, ◌⊎◌, [], ℕ, IfSome, None, false, get_or, length, nat_lt, true};
-ghost use Rattle.bson_json.specs.Sequence.{open_brackets_of, is_closer, is_opener, is_separator, is_text, one_bracket_less};
+ghost use Rattle.bson_json.specs.Sequence.{open_brackets_of, is_closer, is_opener, is_separator, keeps_part, one_bracket_less};
 ghost use Rattle.bson_json.specs.Sequence.{scan, scan_state_of, separates, texts_after, texts_in, prepend_text};
 ghost use Rattle.bson_json.specs.Sequence.{IsArray, between_brackets};
 ghost use Rattle.json.specs.Word.{is_space};
@@ -26,7 +26,7 @@ impl Separator {
     /// println!(rt; "{}", Separator::WhiteSpace.is_text(b""))?; // false
     /// ```
     pub fn is_text(self, part: &[u8]) -> bool
-        ensures { result ≡ is_text self part.now }
+        ensures { result ≡ keeps_part self part.now }
     {
         match self {
             Separator::WhiteSpace => !part.is_empty(),

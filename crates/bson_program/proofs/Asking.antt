@@ -1,5 +1,5 @@
 -- What the arguments request.
-use Rattle.std.proofs.Common.{◌≡◌, ◌⊎◌, codes, inl, inr, ◌<◌, ◌∙◌, ℕ, Bool, true, false, List, Option, Some, None, map, length}
+use Rattle.std.proofs.Common.{◌≡◌, ◌⊎◌, inl, inr, ◌<◌, ◌∙◌, ℕ, Bool, true, false, List, Option, Some, None, map, length}
 use Rattle.std.proofs.Common.{refl, sym, ap, subst, get_or, Result, Ok, Err, IfOk, zero, suc, [], ◌∷◌, ◌++◌, ◌+◌, take, add-one, arith}
 use Rattle.std.proofs.lemmas.List.{get_or-map, length-map}
 use Rattle.std.specs.List.{Contains}

@@ -1,5 +1,5 @@
 -- The texts of a sequence, one after the other, and where a run over them stops.
-use Rattle.std.proofs.Common.{◌≡◌, ◌⊎◌, ◌≢◌, inl, inr, ◌+◌, ◌-◌, ℕ, Bool, true, false, List, [], ◌∷◌, ◌++◌, Option, Result, Ok, Err, OnOk, IfErr}
+use Rattle.std.proofs.Common.{◌≡◌, ◌≢◌, inl, inr, ◌+◌, ◌-◌, ℕ, Bool, true, false, List, [], ◌∷◌, ◌++◌, Option, Result, Ok, Err, OnOk, IfErr}
 use Rattle.std.proofs.Common.{length, drop, take, refl, ap, sym, subst, ◌∙◌, append_assoc, append-nil, length-append, arith}
 use Rattle.std.proofs.KnownBytes.{Appends-nil, Appends-trans}
 use Rattle.std.proofs.lemmas.Str.{IsUtf8-append, IsUtf8-nil}
@@ -7,7 +7,7 @@ use Rattle.std.specs.Prelude.{IsUtf8}
 use Rattle.std.specs.Io.KnownBytes.{Appends}
 use Rattle.bson_json.specs.declared.sequence.Separator.{Separator}
 use Rattle.bson_json.specs.declared.sequence.Separator.TheVariants.{WhiteSpace}
-use Rattle.bson_json.specs.Sequence.{is_text, prepend_text, texts_after, texts_in}
+use Rattle.bson_json.specs.Sequence.{keeps_part, prepend_text, texts_after, texts_in}
 use Rattle.bson_convert.specs.declared.error.Error.{Error}
 use Rattle.bson_convert.specs.declared.error.Error.TheVariants.{CannotRead, CannotWrite, NotJson, NotExtendedJson}
 use Rattle.bson_convert.specs.declared.error.Error.TheVariants.{NoBytes, NotCanonical, OutOfMemory}
@@ -72,7 +72,7 @@ module _ (k : Separator) (invocation : Invocation) (bytes : List ℕ) (output_be
       ∙ sym (append_assoc front (text ++ a.between) next)
 
   pub passes : (rest text next : List ℕ) (has_more more : Bool) (output_after : Option (List ℕ)) → has_more ≡ true
-      → texts_in k rest ≡ prepend_text k text (texts_after k more next) → IsNext rest text next → is_text k text ≡ false
+      → texts_in k rest ≡ prepend_text k text (texts_after k more next) → IsNext rest text next → keeps_part k text ≡ false
       → Reaches k invocation bytes rest has_more output_before output_after → Reaches k invocation bytes next more output_before output_after
   passes rest text next has_more more output_after going found place none r =
       let a = after rest text next place in
@@ -89,7 +89,7 @@ module _ (k : Separator) (invocation : Invocation) (bytes : List ℕ) (output_be
       }
 
   pub goes_on : (rest text next : List ℕ) (has_more more : Bool) (output_between output_after : Option (List ℕ)) → has_more ≡ true
-      → texts_in k rest ≡ prepend_text k text (texts_after k more next) → IsNext rest text next → is_text k text ≡ true
+      → texts_in k rest ≡ prepend_text k text (texts_after k more next) → IsNext rest text next → keeps_part k text ≡ true
       → WritesTextOutput invocation text output_between output_after
       → Reaches k invocation bytes rest has_more output_before output_between → Reaches k invocation bytes next more output_before output_after
   goes_on rest text next has_more more output_between output_after going found place some t r =
@@ -146,7 +146,7 @@ text_there content before bytes after front rest text between next end start spl
 
 pub stops_in : (k : Separator) (invocation : Invocation) (stop : RunFailure) (name content bytes rest text next : List ℕ) (end start : ℕ)
     (has_more more : Bool) (output_before output_between output_after : Option (List ℕ)) → has_more ≡ true
-    → texts_in k rest ≡ prepend_text k text (texts_after k more next) → IsNext rest text next → is_text k text ≡ true
+    → texts_in k rest ≡ prepend_text k text (texts_after k more next) → IsNext rest text next → keeps_part k text ≡ true
     → Reaches k invocation bytes rest has_more output_before output_between → start ≡ end - length rest
     → FailsAtText invocation stop name content start text output_between output_after → IsWithin content bytes end
     → StopsAt (IsTextAmong invocation (texts_in k bytes) content) invocation stop name content output_before output_after

@@ -4,7 +4,7 @@ use Rattle.std.proofs.Common.{refl, ap, sym, ◌∙◌, length-append, nat_lt, a
 use Rattle.std.proofs.lemmas.Bool.Decides.{nat_tests}
 use Rattle.bson_json.specs.declared.sequence.Separator.{Separator}
 use Rattle.bson_json.specs.declared.sequence.Separator.TheVariants.{WhiteSpace}
-use Rattle.bson_json.specs.Sequence.{is_text, parts, prepend_text, texts_after, texts_in, texts_of_parts}
+use Rattle.bson_json.specs.Sequence.{keeps_part, parts, prepend_text, texts_after, texts_in, texts_of_parts}
 
 -- ---- parts that are texts
 
@@ -21,10 +21,10 @@ none_next rest text is =
     let none : nat_lt (length text) (length text) ≡ false = grind (arith, nat_tests) in
     ap (λ l. nat_lt (length text) (length l)) is ∙ none
 
-pub no_text : (k : Separator) (text : List ℕ) (texts : List (List ℕ)) → is_text k text ≡ false → prepend_text k text texts ≡ texts
+pub no_text : (k : Separator) (text : List ℕ) (texts : List (List ℕ)) → keeps_part k text ≡ false → prepend_text k text texts ≡ texts
 no_text k text texts e = ap (λ b. if b then text ∷ texts else texts) e
 
-pub one_text : (k : Separator) (text : List ℕ) (texts : List (List ℕ)) → is_text k text ≡ true → prepend_text k text texts ≡ text ∷ texts
+pub one_text : (k : Separator) (text : List ℕ) (texts : List (List ℕ)) → keeps_part k text ≡ true → prepend_text k text texts ≡ text ∷ texts
 one_text k text texts e = ap (λ b. if b then text ∷ texts else texts) e
 
 -- ---- how many there are
@@ -54,28 +54,17 @@ AreCounted content rest has_one = length (texts_in WhiteSpace content) ≡ cond 
 module _ (content rest text next : List ℕ)
     (found : texts_in WhiteSpace rest ≡ prepend_text WhiteSpace text (texts_after WhiteSpace (has_next rest text) next))
     (place : IsNext rest text next) where
-  pub counts_none : (has_one : Bool) → is_text WhiteSpace text ≡ false → AreCounted content rest has_one → AreCounted content next has_one
-  counts_none has_one none before =
-      before ∙ ap (λ ts. cond has_one 1 0 + length ts) (found ∙ no_text WhiteSpace text _ none ∙ texts_left rest text next place)
-
-  left : is_text WhiteSpace text ≡ true → length (texts_in WhiteSpace rest) ≡ 1 + length (texts_in WhiteSpace next)
+  left : keeps_part WhiteSpace text ≡ true → length (texts_in WhiteSpace rest) ≡ 1 + length (texts_in WhiteSpace next)
   left some =
       let all = ap length (found ∙ one_text WhiteSpace text _ some) in
       let same = ap length (texts_left rest text next place) in
       omega (arith, all, same)
 
-  pub counts_one : (has_one : Bool) → has_one ≡ false → is_text WhiteSpace text ≡ true → AreCounted content rest has_one
+  pub counts_one : (has_one : Bool) → has_one ≡ false → keeps_part WhiteSpace text ≡ true → AreCounted content rest has_one
       → AreCounted content next true
   counts_one has_one first some before =
       let none = before ∙ ap (λ b. cond b 1 0 + length (texts_in WhiteSpace rest)) first in
       omega (arith, none, left some)
-
-  pub two_texts : (has_one : Bool) → has_one ≡ true → is_text WhiteSpace text ≡ true → AreCounted content rest has_one
-      → true ≡ nat_lt 1 (length (texts_in WhiteSpace content))
-  two_texts has_one first some before =
-      let one = before ∙ ap (λ b. cond b 1 0 + length (texts_in WhiteSpace rest)) first in
-      let many : 1 < length (texts_in WhiteSpace content) = omega (arith, one, left some) in
-      grind (arith, nat_tests, many)
 
 at_most_one : (has_one : Bool) (all : ℕ) → all ≡ cond has_one 1 0 + 0 → false ≡ nat_lt 1 all
 at_most_one true all is = grind (arith, nat_tests, is)

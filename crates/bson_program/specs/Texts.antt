@@ -156,8 +156,8 @@ IsTextOfInput invocation failure content text written start = IsWholeInput invoc
     ⊎ (IsSequence invocation content × IsTextAmong invocation (texts_in WhiteSpace content) content text written start)
 
 -- the text is an element of an array
-abbrev pub IsElement : Invocation → (content text written : List ℕ) → (start : ℕ) → Type 0
-IsElement invocation content text written start = (opening : ℕ) × (closing : ℕ) × IsArray content opening closing
+abbrev pub IsArrayElement : Invocation → (content text written : List ℕ) → (start : ℕ) → Type 0
+IsArrayElement invocation content text written start = (opening : ℕ) × (closing : ℕ) × IsArray content opening closing
     × IsTextAmong invocation (elements_in (between_brackets content opening closing)) content text written start
 
 -- the text at which a run stops, and what was written before it
@@ -183,7 +183,7 @@ abbrev pub StopsOn : (reads_array : Bool) → Invocation → RunFailure → (fil
     → (output_before output_after : Option (List ℕ)) → Type 0
 StopsOn true invocation failure file_name content output_before output_after =
     IsArrayFailure failure file_name content output_before output_after
-    ⊎ StopsAt (IsElement invocation content) invocation failure file_name content output_before output_after
+    ⊎ StopsAt (IsArrayElement invocation content) invocation failure file_name content output_before output_after
 StopsOn false invocation failure file_name content output_before output_after =
     StopsAt (IsTextOfInput invocation failure content) invocation failure file_name content output_before output_after
 

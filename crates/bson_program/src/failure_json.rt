@@ -38,7 +38,11 @@ pub fn failure_json(alloc: Global, failure: RunFailure<'_>) -> Result<Vec<u8>, A
         RunFailure::Text(file_name, _, error::Error::OutOfMemory, _) => {
             failure_object(alloc, file_name, "out_of_memory", "out of memory")
         }
-        RunFailure::Text(file_name, _, _, report) => named_report(alloc, file_name, report.as_bytes()),
+        RunFailure::Text(file_name, _, _, report) => named_report(
+            alloc,
+            file_name,
+            report.as_bytes(),
+        ),
         RunFailure::Document(file_name, run_end) => {
             let message = document_error_message(alloc, run_end)?;
             failure_object(alloc, file_name, "malformed", message.trim_end())
