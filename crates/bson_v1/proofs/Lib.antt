@@ -5,4 +5,3 @@ pub mod Passing
 pub mod Complete
 pub mod Objects
 pub mod Version1Laws
-pub mod Words
