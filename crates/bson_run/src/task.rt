@@ -159,6 +159,10 @@ pub enum OnRefusal {
 }
 
 /// How the diagnostics of a run are written. The default of the program is text.
+///
+/// ```
+/// println!(rt; "{:?}", DiagnosticFormat::Json)?; // Json
+/// ```
 #[derive(Clone, Copy, PartialEq, Eq, Debug)]
 pub enum DiagnosticFormat {
     /// Each as a line of text.
