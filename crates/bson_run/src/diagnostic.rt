@@ -216,13 +216,6 @@ fn push_pointer_char(pointer: &mut String, character: char) -> Result<(), AllocE
 /// # Errors
 ///
 /// `AllocError` if an allocation fails.
-///
-/// ```
-/// let mut writer = Writer::new(Vec::new(alloc));
-/// writer.begin_object()?;
-/// write_message(&mut writer, "cannot_read", "cannot read a")?;
-/// rt.print(str::from_utf8(&writer.into_inner())?)?; // {"code":"cannot_read","message":"cannot read a"}
-/// ```
 pub fn write_message(writer: &mut Writer, code: &str, message: &str) -> Result<(), AllocError>
     ensures added { OnOk result (writer.new.tokens ≡ writer.old.tokens ++ message_tokens code.now message.now) }
     ensures before { writer.new.before ≡ writer.old.before }

@@ -21,7 +21,12 @@ const MAX_CHARS: usize = 300;
 /// ```
 /// let text: &[u8] = br#"{"orders": [1.5]}"#;
 /// if let Err(error) = convert(alloc, Mode::Canonical, text) {
-///     if let Explanation::Value { place, reason, offset } = Explanation::of(alloc, &error, text)? {
+///     if let Explanation::Value {
+///         place,
+///         reason,
+///         offset,
+///     } = Explanation::of(alloc, &error, text)?
+///     {
 ///         println!(rt; "{:?}", place.segments)?; // [Element(0), Key("orders")]
 ///         println!(rt; "{reason}")?; // not a 64-bit integer; found 1.5
 ///         println!(rt; "{offset:?}")?; // Some(12)
