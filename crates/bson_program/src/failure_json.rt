@@ -59,10 +59,8 @@ fn input_failure(
     ensures { IfOk result (λ line. IsFileFailureObject (codes "cannot_read") (codes "read ") file_name.now
         (codes "input") error line.items) }
 {
-    let (shown_name, cause) = (
-        show_name(alloc, file_name, "input")?,
-        cause_suffix(alloc, error)?,
-    );
+    let shown_name = show_name(alloc, file_name, "input")?;
+    let cause = cause_suffix(alloc, error)?;
     let message = format!(in alloc; "cannot read {shown_name}{cause}")?;
     failure_object(alloc, file_name, "cannot_read", &message)
 }
@@ -76,10 +74,8 @@ fn output_failure(
     ensures { IfOk result (λ line. IsFileFailureObject (codes "cannot_write") (codes "write ") file_name.now
         (codes "output") error line.items) }
 {
-    let (shown_name, cause) = (
-        show_name(alloc, file_name, "output")?,
-        cause_suffix(alloc, error)?,
-    );
+    let shown_name = show_name(alloc, file_name, "output")?;
+    let cause = cause_suffix(alloc, error)?;
     let message = format!(in alloc; "cannot write {shown_name}{cause}")?;
     failure_object(alloc, file_name, "cannot_write", &message)
 }
