@@ -21,7 +21,6 @@ use Rattle.bson_run.specs.declared.task.DiagnosticFormat.{DiagnosticFormat}
 use Rattle.bson_run.specs.declared.task.DiagnosticFormat.TheVariants as format
 use Rattle.bson_convert.specs.Messages.{error_message}
 use Rattle.bson_convert.specs.declared.error.Error as conversion
-use Rattle.bson_convert.specs.declared.error.Error.TheVariants as conversion_error
 use Rattle.bson_program.specs.declared.invocation.Input as invocation
 use Rattle.bson_program.specs.declared.invocation.Input.TheVariants.{Documents}
 use Rattle.bson_program.specs.declared.run.RunFailure.{RunFailure}
@@ -145,7 +144,12 @@ IsFileFailureObject code verb file_name stream error line =
     (cause : List ℕ) × IsCauseSuffix error cause
     × (line ≡ failure_object file_name code (codes "cannot " ++ verb ++ shown_name file_name stream ++ cause))
 
--- the object for what stopped the run, on a line; a text has its own, unless memory was lacking
+-- a text has its own object; it is empty if memory was lacking
+abbrev pub report_object : (file_name report : List ℕ) → List ℕ
+report_object file_name [] = failure_object file_name (codes "out_of_memory") (codes "out of memory")
+report_object file_name (first_byte ∷ other_bytes) = with_json_file file_name (first_byte ∷ other_bytes)
+
+-- the object for what stopped the run, on a line
 abbrev pub IsFailureObject : RunFailure → (line : List ℕ) → Type 0
 IsFailureObject (failure.Input file_name error) line =
     IsFileFailureObject (codes "cannot_read") (codes "read ") file_name.now (codes "input") error line
@@ -157,10 +161,8 @@ IsFailureObject (failure.NotArray file_name) line =
     line ≡ failure_object file_name.now (codes "not_an_array") (codes "not a JSON array, which --array reads")
 IsFailureObject failure.OutputIsTerminal line = line ≡ failure_object (codes "-") (codes "output_is_terminal")
     (codes "BSON bytes are not written to a terminal; give -o FILE, or a pipe")
-IsFailureObject (failure.Text file_name line_number conversion_error.OutOfMemory report) line =
-    line ≡ failure_object file_name.now (codes "out_of_memory") (codes "out of memory")
 IsFailureObject (failure.Text file_name line_number fault report) line =
-    line ≡ with_json_file file_name.now (string_bytes report)
+    line ≡ report_object file_name.now (string_bytes report)
 IsFailureObject (failure.Document file_name run_end) line = line ≡ failure_object file_name.now (codes "malformed")
     (trim_end (document_error_message run_end.number run_end.start run_end.fault))
 

@@ -1,12 +1,11 @@
 //! What stopped a run, as a JSON object on one line, and the names of files in these objects.
 ghost use Rattle.std.specs.Prelude.{◌≡◌, ◌++◌, IfOk, OnOk, codes};
-ghost use Rattle.bson_program.specs.Messages.{IsFailureObject, IsFileFailureObject, failure_object, file_member};
+ghost use Rattle.bson_program.specs.Messages.{IsFailureObject, IsFileFailureObject, failure_object, file_member, report_object};
 ghost use Rattle.bson_program.specs.Messages.{file_tokens, with_json_file};
 
 use crate::invocation::STDIO;
 use crate::messages::{cause_suffix, document_error_message, show_name};
 use crate::run::RunFailure;
-use bson_convert::error;
 use bson_run::diagnostic::write_message;
 use json::Writer;
 use std::alloc::{AllocError, Global};
@@ -34,9 +33,6 @@ pub fn failure_json(alloc: Global, failure: RunFailure<'_>) -> Result<Vec<u8>, A
         }
         RunFailure::OutputIsTerminal => {
             failure_object(alloc, STDIO, "output_is_terminal", TERMINAL_MESSAGE)
-        }
-        RunFailure::Text(file_name, _, error::Error::OutOfMemory, _) => {
-            failure_object(alloc, file_name, "out_of_memory", "out of memory")
         }
         RunFailure::Text(file_name, _, _, report) => named_report(
             alloc,
@@ -107,10 +103,13 @@ fn write_file(writer: &mut Writer, file_name: &str) -> Result<(), AllocError>
     writer.string(file_name)
 }
 
-// Returns the object of a rejected text with its file.
+// Returns the object of a rejected text with its file. A report is empty if memory was lacking.
 fn named_report(alloc: Global, file_name: &str, report: &[u8]) -> Result<Vec<u8>, AllocError>
-    ensures { IfOk result (λ line. line.items ≡ with_json_file file_name.now report.now) }
+    ensures { IfOk result (λ line. line.items ≡ report_object file_name.now report.now) }
 {
+    if report.is_empty() {
+        return failure_object(alloc, file_name, "out_of_memory", "out of memory");
+    }
     let mut line = Vec::new(alloc);
     push_named_json(alloc, &mut line, file_name, report)?;
     Ok(line)

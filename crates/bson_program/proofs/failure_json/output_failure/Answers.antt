@@ -7,7 +7,7 @@ pub returns : goal.returns
 returns c =
     let cause = string_bytes c.in_ok-cause.cause in
     let message = c.deref.ensures ∙ c.in_ok-message.ensures.ok
-        ∙ ap (λ name. codes "cannot write " ++ name ++ cause) c.in_ok-shown_name.ensures in
+    ∙ ap (λ name. codes "cannot write " ++ name ++ cause) c.in_ok-shown_name.ensures in
     IfOk-weaker c.failure_object.result _ _ (λ line is. (
       cause,
       c.in_ok-cause.ensures,
