@@ -19,11 +19,11 @@ returns c =
     let start = c.args.input_text.start in
     let text = c.args.input_text.text.now in
     let explanation = c.in_ok-explanation.explanation in
-    subst (λ format. IsErrorReport format fault (string_bytes c.in_ok-json.json) c.error_line-line_number.result content start text)
+    subst (λ format. IsErrorReport format fault (string_bytes c.in_ok-json-in-Json.json) c.error_line-line_number.result content start text)
     (sym c.in-Json.is) (
       explanation,
       c.in_ok-explanation.ensures,
-      c.in_ok-json.ensures
+      c.in_ok-json-in-Json.ensures
           ∙ ap (λ message. error_json fault content start text explanation message) (c.deref.ensures ∙ c.in_ok-position_message.ensures),
       c.error_line-line_number.ensures,
     )
