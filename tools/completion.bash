@@ -5,12 +5,12 @@ _bson() {
     for it in "${COMP_WORDS[@]:1:COMP_CWORD-1}"; do
         case $it in
             lines) options=${options/--array --indent/--keep-going --jobs} ;;
-            decode) own='--sort-keys --strict ' options='--sort-keys --strict --no-double-keys --keep-going --jobs --diagnostics --output --help --version' ;;
+            decode) own='--sort-keys --strict ' options='--sort-keys --strict --no-double-keys --keep-going --jobs --output --help --version' ;;
             encode) modes='' mode=$it options='--sort-keys --strict --v1 --no-double-keys --array --keep-going --jobs --diagnostics --output --help --version' ;;
             show) mode=$it options=${options/ --indent/} options=${options#"$own"} ;;
             check) mode=$it options=${options#"$own"} options=${options/--sort-keys /} options=${options/ --indent/} options=${options/ --output/} options=${options/ --v1 --no-double-keys/ --v1 --no-double-keys --canonical} ;;
             hash) mode=$it options=${options/--sort-keys /} options=${options/ --indent/} ;;
-            same) mode=$it options=${options/--sort-keys /} options=${options/ --indent/} options=${options/ --keep-going --jobs/} options=${options/ --output/ --unordered} ;;
+            same) mode=$it options=${options/--sort-keys /} options=${options/ --indent/} options=${options/ --keep-going --jobs/} options=${options/ --diagnostics --output/ --output} options=${options/ --output/ --unordered} ;;
             canonical | relaxed) mode=$it ;;
         esac
     done
