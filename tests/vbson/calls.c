@@ -230,7 +230,7 @@ static void errors(void) {
     CHECK(finds(0, "{\"\xc3\xa9\":{\"\\u001b\":1.5}}", VBSON_NOT_EXTENDED_JSON, "/\xc3\xa9/\x1b"));
     CHECK(finds(0, "{\"f\":{\"$code\":\"\",\"$scope\":{\"x\":[0,1,2,3,4,5,6,7,8,9,10,1.5]}}}", VBSON_NOT_EXTENDED_JSON, "/f/$scope/x/11"));
     CHECK(finds(DISTINCT, "{\"a\":[{\"b\":1,\"b\":2}]}", VBSON_NOT_EXTENDED_JSON, "/a/0/b"));
-    CHECK(finds(V1, "{\"a\":{\"$binary\":\"AQI=\",\"$type\":\"0\"}}", VBSON_NOT_EXTENDED_JSON, "/a/$binary"));
+    CHECK(finds(V1, "{\"a\":{\"$binary\":\"AQI=\",\"$type\":\"000\"}}", VBSON_NOT_EXTENDED_JSON, "/a/$binary"));
     memset(nested, '[', 127), strcpy(nested + 127, "1.5"), memset(nested + 130, ']', 127), nested[257] = '\0';
     for (int i = 0; i < 127; i++) strcat(path, "/0");
     CHECK(finds(0, nested, VBSON_NOT_EXTENDED_JSON, path));
@@ -275,8 +275,8 @@ static void explain(void) {
     CHECK(explains(V1, "{\"$binary\":\"AQI=\",\"$type\":\"00\"}", ""));
     CHECK(explains(0, "{\"$binary\":\"AQI=\",\"$type\":\"00\"}",
         "not Extended JSON (`$binary` must be the only key of its object; found {\"$binary\":\"AQI=\",\"$type\":\"00\"})"));
-    CHECK(explains(V1, "{\"a\":{\"$binary\":\"AQI=\",\"$type\":\"0\"}}",
-        "not Extended JSON at a.$binary (`subType` must be two hexadecimal digits; found {\"base64\":\"AQI=\",\"subType\":\"0\"})"));
+    CHECK(explains(V1, "{\"a\":{\"$binary\":\"AQI=\",\"$type\":\"000\"}}",
+        "not Extended JSON at a.$binary (`subType` must be two hexadecimal digits; found {\"base64\":\"AQI=\",\"subType\":\"000\"})"));
     CHECK(vbson_explain(with(UINT32_MAX), TEXT("!"), &out) == VBSON_INVALID_ARGUMENT && memcmp(&out, &was, sizeof out) == 0);
 }
 

@@ -37,7 +37,7 @@ static const char *const texts[] = {
     "\"i\":{\"$dbPointer\":{\"$ref\":\"n\",\"$id\":{\"$oid\":\"53e37d08776f724e42000000\"}}},\"j\":{\"$minKey\":1},"
     "\"k\":{\"$uuid\":\"c8edabc3-f738-4ca3-b68d-ab92a91478a3\"},\"l\":{\"$numberDouble\":\"-Infinity\"}}",
     "[1,{\"$oid\":\"53e3\"}]", "[{\"a\":[1.5]}]", "{\"a\":[\"b\"", "[]", "\"a\\u0000b\"",
-    "{\"a\":{\"b\":1,\"b\":{\"$binary\":\"AQI=\",\"$type\":\"0\"}}}"};
+    "{\"a\":{\"b\":1,\"b\":{\"$binary\":\"AQI=\",\"$type\":\"000\"}}}"};
 enum { TEXTS = sizeof texts / sizeof *texts, KINDS = 44 };
 
 /* What a call of each kind answers, and all that it can write. */
