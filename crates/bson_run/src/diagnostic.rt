@@ -28,7 +28,7 @@ use std::alloc::{AllocError, Global};
 ///     message: "not JSON at column 1 (expected a value)",
 /// };
 /// rt.print(&diagnostic.to_json(alloc)?)?;
-/// // {"line":1,"column":1,"offset":0,"path":null,"pointer":null,"code":"not_json","message":"not JSON at ..
+/// // {"line":1,"column":1,"offset":0,"path":null,"pointer":null,"code":"not_json","message":"not JSON at column 1 (expected a value)"}
 /// ```
 #[derive(Clone, Copy)]
 pub struct Diagnostic<'path, 'message> {
