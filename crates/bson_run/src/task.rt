@@ -41,7 +41,7 @@ pub struct Task {
 /// let mut run = LineRun::new(alloc, task, OnRefusal::KeepGoing);
 /// drop(run.run(alloc, &mut lines, &mut output, &mut diagnostics));
 /// rt.print(str::from_utf8(&diagnostics)?)?;
-/// // {"line":1,"column":1,"offset":0,"path":null,"pointer":null,"code":"not_json","message":"not JSON at column 1 (expected a value)"}
+/// // {"line":1,"column":1,"offset":0,"path":null,"pointer":null,"code":"not_json","message":"not JSON at column 1 (unexpected end of input)"}
 /// ```
 #[derive(Clone, Copy, PartialEq, Eq, Debug)]
 pub enum DiagnosticFormat {
