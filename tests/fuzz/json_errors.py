@@ -1,8 +1,7 @@
 """Where bytes stop to be a JSON text (RFC 8259), and which rule they break there, as docs/PROGRAMS.md says it.
 
 A token is a bracket, a comma, a colon, a string, or a word: other characters up to a blank, a bracket, a comma or a
-colon. An error is at the first token that is not a token of JSON, or not allowed there: for a comma or a colon it is at
-itself, any other token at what follows it, where a comma after a value and a colon after a key belong to these.
+colon. An error is at the first token that is not a token of JSON, or not allowed there.
 """
 from json_text import DEEPEST, NUMBER, NotJson, string
 
@@ -119,26 +118,9 @@ class Reader:
 
     def whole(self):
         """Reads the text's value, after which nothing may follow."""
-        at, has_comma = self.comma(self.value(self.start(0), DEEPEST, ''))
-        if has_comma or self.mark(at):
-            raise Broken(self.more(at, has_comma), 'TrailingData')
-
-    def more(self, at, has_comma):
-        """The place that is reported for what follows the text's value."""
-        if not has_comma:
-            return self.behind(at) if self.mark(at) in CLOSING else at
-        if self.mark(at) in OPENING:
-            return self.start(at + 1)
-        try:
-            end = self.scalar_end(at, False)
-        except Broken:
-            return at
-        colon = self.key_end(at) if self.mark(at) == '"' else None
-        return self.comma(end)[0] if colon is None else self.start(colon + 1)
-
-    def behind(self, at):
-        """The place after a bracket and the comma that follows it."""
-        return self.comma(at + 1)[0]
+        end = self.start(self.value(self.start(0), DEEPEST, ''))
+        if self.mark(end):
+            raise Broken(end, 'TrailingData')
 
     def value(self, at, levels, before):
         """The place after a value that begins here, in an array, in an object after its key, or at the top."""
@@ -147,18 +129,18 @@ class Reader:
             self.closing(at, before)
         if first in OPENING:
             if levels == 0:
-                raise Broken(self.start(at + 1), 'Depth')
+                raise Broken(at, 'Depth')
             return self.members(at, levels - 1) if first == '{' else self.items(at, levels - 1)
         end = self.scalar_end(at, False)
         if first == '"' and self.key_end(at) is not None:
-            raise Broken(self.start(self.key_end(at) + 1), 'Separator')
+            raise Broken(self.key_end(at), 'Separator')
         return end
 
     def closing(self, at, before):
         """The error of a closing bracket where a value may begin."""
         if self.text[:at].rstrip(BLANKS)[-1:] == ',':
             raise Broken(at, 'ExpectedElement')
-        raise Broken(self.behind(at), 'ExpectedColonAndValue' if before == ':' else 'Separator')
+        raise Broken(at, 'ExpectedColonAndValue' if before == ':' else 'Separator')
 
     def items(self, at, levels):
         """The place after the array whose bracket is here."""
@@ -188,13 +170,9 @@ class Reader:
     def key(self, at):
         """The place of the value of the key that is here."""
         first = self.mark(at)
-        if first in OPENING:
-            raise Broken(self.start(at + 1), 'Quotes')
-        end = self.scalar_end(at, True)
-        colon = self.key_end(at) if first == '"' else None
-        if colon is not None:
-            return self.start(colon + 1)
-        next_place, has_comma = self.comma(end)
+        end = self.start(at if first in OPENING else self.scalar_end(at, True))
         if first != '"':
-            raise Broken(next_place, 'Quotes')
-        raise Broken(next_place, 'ExpectedColonAndValue' if has_comma or self.mark(next_place) else 'UnexpectedEnd')
+            raise Broken(at, 'Quotes')
+        if self.mark(end) != ':':
+            raise Broken(end, 'ExpectedColonAndValue' if self.mark(end) else 'UnexpectedEnd')
+        return self.start(end + 1)

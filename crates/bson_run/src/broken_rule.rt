@@ -11,10 +11,14 @@ use bson_tokens::MAX_DEPTH;
 use json::{Reader, Scratch, Token};
 use std::alloc::AllocError;
 
-/// Returns the first rule that the value of a text breaks, if the text has no value.
-pub(crate) fn find_broken_rule(text: &str, scratch: &mut Scratch) -> Result<Rule, AllocError>
+/// Returns the first rule that the value of a text breaks, if the text has no value, and the offset of the
+/// token that breaks it.
+pub(crate) fn find_broken_rule(
+    text: &str,
+    scratch: &mut Scratch,
+) -> Result<(usize, Rule), AllocError>
     requires { skip_value max_depth (tokens text.now) ≡ None }
-    ensures { IfOk result (λ rule. BreaksRule text.now rule) }
+    ensures { IfOk result (λ offset_and_rule. BreaksRule text.now offset_and_rule.1) }
 {
     let mut reader = Reader::new(text, scratch)?;
     let mut open_brackets = OpenBrackets {
@@ -23,22 +27,51 @@ pub(crate) fn find_broken_rule(text: &str, scratch: &mut Scratch) -> Result<Rule
         expects_value: false,
         expects_colon: false,
     };
+    let mut token_offset = reader.offset();
     while let Some(token) = reader.next() {
         if let Token::Bad = token
             && !open_brackets.expects_colon
         {
-            let invalid_offset = reader.offset();
-            return Ok(rule_at_invalid_token(
-                text.as_bytes(),
-                invalid_offset,
-                open_brackets.expects_key(),
-            ));
+            let expects_key = open_brackets.expects_key();
+            let rule = rule_at_invalid_token(text.as_bytes(), token_offset, expects_key);
+            return Ok((token_offset, rule));
         }
         if let Some(rule) = open_brackets.pass_token(token) {
-            return Ok(rule);
+            let next_offset = reader.offset();
+            let offset = error_offset(text.as_bytes(), rule, token, token_offset, next_offset);
+            return Ok((offset, rule));
         }
+        token_offset = reader.offset();
     }
-    Ok(Rule::UnexpectedEnd)
+    Ok((token_offset, Rule::UnexpectedEnd))
+}
+
+// Returns the offset of an error at a token: that of the comma or colon with the token that is not
+// allowed there, or else that of the token.
+fn error_offset(
+    bytes: &[u8],
+    rule: Rule,
+    token: Token<'_>,
+    token_offset: usize,
+    next_offset: usize,
+) -> usize {
+    match rule {
+        Rule::ExpectedColonAndValue => separator_before(bytes, token_offset, b','),
+        Rule::Separator if matches!(token, Token::Key(_)) => {
+            separator_before(bytes, next_offset, b':')
+        }
+        _ => token_offset,
+    }
+}
+
+/// Returns the offset of a separator if only blanks are between it and the offset, or else the offset.
+/// (The reader passes a comma or a colon with the token before it.)
+pub(crate) fn separator_before(bytes: &[u8], offset: usize, separator: u8) -> usize {
+    let preceding_bytes = bytes[..offset.min(bytes.len())].trim_ascii_end();
+    match preceding_bytes.split_last() {
+        Some((last_byte, bytes_before)) if *last_byte == separator => bytes_before.len(),
+        _ => offset,
+    }
 }
 
 // The open brackets between two tokens.

@@ -3,7 +3,7 @@ ghost use Rattle.std.specs.Prelude.{◌≡◌, ◌↔◌, IfOk, IsTrue, false, s
 ghost use Rattle.bson.specs.TextMeaning.{IsNotJsonText};
 ghost use Rattle.bson_run.specs.ErrorMessages.{BreaksRule, IsWellFormedJson, IsTextOfTree, column_and_rule, column_at, line_at};
 
-use crate::broken_rule::find_broken_rule;
+use crate::broken_rule::{find_broken_rule, separator_before};
 use crate::position::{column_at, line_at};
 use crate::rule::Rule;
 use bson_model::options::KeyOrder;
@@ -33,10 +33,9 @@ pub struct SyntaxError {
 impl SyntaxError {
     /// Finds the place at which a text stops to be JSON, and the rule that it breaks there.
     ///
-    /// It is the first byte that is not UTF-8. If all are, it is the first token that its place does
-    /// not allow, or the token after a bracket that nests deeper than 127. If the bytes have the
-    /// grammar of JSON, it is the first number whose nearest double is not finite. No tree is made,
-    /// and memory is that of the bytes.
+    /// It is the first byte that is not UTF-8. If all are, it is the first token, comma or colon that is not
+    /// allowed there, or the bracket that nests deeper than 127. If the bytes have the grammar of JSON, it is
+    /// the first number whose nearest double is not finite. No tree is made, and memory is that of the bytes.
     ///
     /// If the bytes are JSON, it is their first byte. Their rule is `RewrittenDepth`, since they are
     /// rejected as not JSON only if a rewritten text is read instead, and nests too deep.
@@ -97,16 +96,17 @@ fn find_syntax_error(alloc: Global, text: &str) -> Result<SyntaxError, AllocErro
     let mut scratch = Scratch::new(alloc);
     let mut reader = Reader::new(text, &mut scratch)?;
     if reader.skip_value(MAX_DEPTH).is_err() {
-        let offset = reader.offset();
+        let (offset, rule) = find_broken_rule(text, &mut scratch)?;
         return Ok(SyntaxError {
             offset,
             is_number: false,
-            rule: find_broken_rule(text, &mut scratch)?,
+            rule,
         });
     }
+    let end_offset = reader.offset();
     if let Some(_) = reader.next() {
         return Ok(SyntaxError {
-            offset: reader.offset(),
+            offset: separator_before(text.as_bytes(), end_offset, b','),
             is_number: false,
             rule: Rule::TrailingData,
         });

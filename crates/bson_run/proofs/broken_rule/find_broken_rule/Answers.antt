@@ -11,7 +11,7 @@ returns-in-Some c =
     let i = c.loop-token.invariant in
     let rest = c.next.new.self in
     let next : c.loop-token.reader ≡ bad ∷ rest = search rules in
-    at_bad c.args.text.now c.utf8.text c.requires c.rule_at_invalid_token.result i.0 rest (i.1 ∙ ap (λ ts. i.0 ++ ts) next) c.rule_at_invalid_token.ensures
+    at_bad c.args.text.now c.utf8.text c.requires c.rule_at_invalid_token-rule.result i.0 rest (i.1 ∙ ap (λ ts. i.0 ++ ts) next) c.rule_at_invalid_token-rule.ensures
 
 pub returns-in-Some-pass_token : goal.returns-in-Some-pass_token
 returns-in-Some-pass_token c =
