@@ -2,11 +2,11 @@
 use Rattle.std.proofs.Common.{◌≡◌, ◌≢◌, ◌⊎◌, inl, inr, ℕ, ◌+◌, ◌≤◌, List, [], ◌∷◌, ◌++◌, length, Option, None, Some, refl}
 use Rattle.std.proofs.Common.{ap, false, sym, subst, ◌∙◌, arith}
 use Rattle.std.specs.Prelude.{◌==◌}
-use Rattle.std.specs.Io.KnownBytes.{Appends, Consumes, IsAtEnd, Keeps}
+use Rattle.std.specs.Io.KnownBytes.{Appends, Consumes, Keeps}
 use Rattle.std.proofs.KnownBytes.{Appends-nil, Appends-trans, Consumes-nil, Consumes-trans}
-use Rattle.std.proofs.lemmas.List.{append-nil, length-append}
+use Rattle.std.proofs.lemmas.List.{length-append}
 use Rattle.bson_codec.specs.DumpRuns.{Dump, none, written, skipped_document}
-use Rattle.bson_codec.specs.DumpRuns.{CompletedRun, IsEndReason, EndsAt, IsRejectedWithFault, IsLineOrSkip, IsConversionFault, IsLineOfDocument, IsFaultOfDocument}
+use Rattle.bson_codec.specs.DumpRuns.{IsEndReason, EndsAt, IsRejectedWithFault, IsLineOrSkip, IsConversionFault, IsLineOfDocument, IsFaultOfDocument}
 use Rattle.bson_codec.specs.DumpRuns.{IsSkipped, IsRunEnd, IsReportFailure, DumpProgress, ConsumesPrefix}
 use Rattle.bson_codec.specs.Streams.{WritesPrefix, declared_prefix}
 use Rattle.bson_codec.specs.Diagnostics.{diagnostic_of}
@@ -110,21 +110,6 @@ pub one_at_most : (n : ℕ) (run : Run) (number start : ℕ) (bytes : List ℕ) 
     → IsLineOrSkip n run number start bytes output_before output_after diagnostics_before diagnostics_after → n ≤ 1
 one_at_most n run number start bytes output_before output_after diagnostics_before diagnostics_after (inl g) = omega (arith, g.0)
 one_at_most n run number start bytes output_before output_after diagnostics_before diagnostics_after (inr g) = omega (arith, g.0)
-
-pub run_is_done : (run : Run) (before mid after output_before output_after diagnostics_before diagnostics_after : Option (List ℕ)) (number refused start : ℕ)
-    (bytes : List ℕ) → DumpProgress run before mid output_before output_after diagnostics_before diagnostics_after number refused start → Consumes mid after bytes
-    → bytes ≡ [] → IsAtEnd after → CompletedRun run before after output_before output_after diagnostics_before diagnostics_after number refused
-run_is_done run before mid after output_before output_after diagnostics_before diagnostics_after number refused start bytes r bytes_read nothing end = record {
-  bytes = r.converted_bytes;
-  output = r.output;
-  diagnostic_lines = r.diagnostic_lines;
-  consumed_bytes = subst (Consumes before after) (append-nil r.converted_bytes)
-      (Consumes-trans before mid after r.converted_bytes [] r.consumed_bytes (subst (Consumes mid after) nothing bytes_read));
-  at_end = end;
-  documents = r.documents;
-  written = r.written;
-  reports_appended = r.reports_appended;
-}
 
 pub run_ends : (run : Run) (before mid after output_before output_after after_holds diagnostics_before diagnostics_after after_tells : Option (List ℕ))
     (count refused start number : ℕ) (fault : RunFault) (bytes_read : List ℕ)

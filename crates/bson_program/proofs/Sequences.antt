@@ -1,5 +1,5 @@
 -- The texts of a sequence, one after the other, and where a run over them stops.
-use Rattle.std.proofs.Common.{◌≡◌, ◌≢◌, inl, inr, ◌+◌, ◌-◌, ℕ, Bool, true, false, List, [], ◌∷◌, ◌++◌, Option, Result, Ok, Err, OnOk, IfErr}
+use Rattle.std.proofs.Common.{◌≡◌, inl, inr, ◌+◌, ◌-◌, ℕ, Bool, true, false, List, [], ◌∷◌, ◌++◌, Option, Result, Ok, Err, OnOk, IfErr}
 use Rattle.std.proofs.Common.{length, drop, take, refl, ap, sym, subst, ◌∙◌, append_assoc, append-nil, length-append, arith}
 use Rattle.std.proofs.KnownBytes.{Appends-nil, Appends-trans}
 use Rattle.std.proofs.lemmas.Str.{IsUtf8-append, IsUtf8-nil}
@@ -16,11 +16,10 @@ use Rattle.bson_run.specs.Accepted.{HasOutput, IsUtf8Accepted}
 use Rattle.bson_run.specs.declared.accepted.Accepted.{Accepted}
 use Rattle.bson_run.specs.Lines.{WritesText}
 use Rattle.bson_program.specs.Texts.{content_of, is_sequence, AreTextOutputs, CannotWriteAccepted, ConvertsTexts, FailsAtText, FailsOnInput}
-use Rattle.bson_program.specs.Texts.{HasOutputOfTexts, IsNotJson, IsSequence, IsTextAmong, IsTextFailure, IsTextOfInput}
+use Rattle.bson_program.specs.Texts.{HasOutputOfTexts, IsNotJson, IsSequence, IsTextAmong, IsTextOfInput}
 use Rattle.bson_program.specs.Texts.{IsWithin, StopsAt, StopsOn, WritesAcceptedText, WritesAllTexts, WritesElements, WritesTextOutput}
 use Rattle.bson_program.specs.Texts.AreTextOutputs.{no_texts, one_more_text}
 use Rattle.bson_program.specs.SingleText.{IsOutputOfText, IsTextRejected}
-use Rattle.bson_program.specs.TextErrors.{IsErrorReport}
 use Rattle.bson_program.specs.declared.invocation.Invocation.{Invocation}
 use Rattle.bson_program.specs.declared.run.RunFailure.{RunFailure}
 use Rattle.bson_program.specs.declared.run.RunFailure.TheVariants as stops
@@ -169,18 +168,6 @@ stops_in k invocation stop name content bytes rest text next end start has_more 
       written_before = r.kept;
       fails_at_text = fails;
     }
-
--- the text is rejected for the error, with the words for it
-pub text_fails : (invocation : Invocation) (fault : Error) (place content text : List ℕ) (start number : ℕ)
-    → IsTextRejected invocation.options invocation.task fault text → IsErrorReport invocation.task.diagnostics fault place number content start text
-    → fault ≢ OutOfMemory → IsTextFailure invocation fault place number content start text
-text_fails invocation OutOfMemory place content text start number is report out = absurd (out refl)
-text_fails invocation CannotRead place content text start number is report out = (is, report)
-text_fails invocation CannotWrite place content text start number is report out = (is, report)
-text_fails invocation NotJson place content text start number is report out = (is, report)
-text_fails invocation (NotExtendedJson at) place content text start number is report out = (is, report)
-text_fails invocation (NoBytes why) place content text start number is report out = (is, report)
-text_fails invocation (NotCanonical column) place content text start number is report out = (is, report)
 
 -- all bytes are the text at which a run stops
 pub stops_whole : (invocation : Invocation) (stop : RunFailure) (name content : List ℕ) (output_before output_after : Option (List ℕ))

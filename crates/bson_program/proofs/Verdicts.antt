@@ -1,6 +1,6 @@
 -- Diagnostics, one line after another.
 use Rattle.std.proofs.Common.{◌≡◌, ◌<◌, ◌≤◌, ◌+◌, ◌==◌, ◌++◌, ℕ, suc, List, [], ◌∷◌, Bool, true, false, cond, length, take, drop, refl, sym, ap}
-use Rattle.std.proofs.Common.{◌∙◌, arith, append_assoc, append-nil, codes, not, nat_lt, nat_eq, Option, Some, None, Result, Ok, Err, OnOk}
+use Rattle.std.proofs.Common.{◌∙◌, arith, append_assoc, codes, not, nat_lt, nat_eq, Option, Some, None, Result, Ok, Err, OnOk}
 use Rattle.std.specs.Prelude.{position, encode_utf8, encode_utf8_all}
 use Rattle.std.specs.Char.Iter.{escape_rest, escape_steps}
 use Rattle.std.specs.Result.{is_ok}
@@ -90,13 +90,6 @@ escape_goes_on s t (Some y) x old new whole steps is e n =
     ap (λ l. l ++ encode_utf8_all (escape_rest t)) (n ∙ ap (λ z. old ++ encode_utf8 z) same)
     ∙ append_assoc old (encode_utf8 y) (encode_utf8_all (escape_rest t))
     ∙ ap (λ l. old ++ encode_utf8_all l) (sym steps.1.0) ∙ e
-
-pub escape_ends : (s t : _) (r : Option ℕ) (old whole : List ℕ) → escape_steps s r t → r ≡ None
-    → old ++ encode_utf8_all (escape_rest s) ≡ whole → old ≡ whole
-escape_ends s t (Some y) old whole steps is e = absurd cc
-escape_ends s t None old whole steps is e =
-    let none : escape_rest s ≡ [] = ap (λ n. take n (drop s.from s.chars)) steps.1.0 in
-    sym (append-nil old) ∙ ap (λ l. old ++ encode_utf8_all l) (sym none) ∙ e
 
 -- ---- bounds of the first line
 

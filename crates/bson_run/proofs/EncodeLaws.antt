@@ -16,7 +16,7 @@ use Rattle.bson_model.specs.OrderedTrees.{read_in_order}
 use Rattle.bson_model.specs.OrderedMeans.{MeansInOrder}
 use Rattle.bson_codec.specs.PackedText.{IsPackedText}
 use Rattle.bson_convert.specs.Convert.{IsRejectedIn}
-use Rattle.bson_run.specs.Encode.{Encodes, IsWriteErrorOf, IsUnencodableFor, IsBytesOf, IsEncodeErrorBy, IsEncodeErrorFor}
+use Rattle.bson_run.specs.Encode.{Encodes, IsUnencodableFor, IsBytesOf, IsEncodeErrorBy, IsEncodeErrorFor}
 use Rattle.bson_run.specs.LinesSteps.{Options, Error, CannotRead, NotJson, NotExtendedJson, NoBytes, OutOfMemory}
 use Rattle.bson_run.specs.LinesSteps.{CannotWrite, NotCanonical}
 use Rattle.bson_convert.specs.declared.encode_error.NoBytes.TheVariants.{NoDocument, ZeroInKey, ZeroInRegex, TooLong}
@@ -29,20 +29,6 @@ document_seen d = search (rules, the_lemmas)
 
 pub same_pairs : {ps qs : Pairs} → document ps ≡ document qs → ps ≡ qs
 same_pairs h = cc
-
--- why a document that fails has no bytes
-pub fails_for : (fault : Error) (value : Value) (ps : Pairs) → value ≡ document ps → IsWriteErrorOf fault ps
-    → IsEncodeErrorFor (λ v. v ≡ value) fault
-fails_for CannotRead value ps is h = h
-fails_for NotJson value ps is h = h
-fails_for (NotExtendedJson place) value ps is h = h
-fails_for (NoBytes NoDocument) value ps is h = absurd h
-fails_for (NoBytes ZeroInKey) value ps is h = record { pairs = ps; meaning = sym is; fails = h }
-fails_for (NoBytes ZeroInRegex) value ps is h = record { pairs = ps; meaning = sym is; fails = h }
-fails_for (NoBytes TooLong) value ps is h = record { pairs = ps; meaning = sym is; fails = h }
-fails_for (NotCanonical column) value ps is h = absurd h
-fails_for OutOfMemory value ps is h = tt
-fails_for CannotWrite value ps is h = h
 
 -- ---- by a meaning
 

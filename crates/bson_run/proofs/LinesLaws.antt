@@ -174,10 +174,6 @@ module _ {o : Options} {task : Task} {on_refusal : OnRefusal} where
 
   -- ---- taking bytes
 
-  pub take_nothing : (s : LineRunState) → ReadsBytes o task on_refusal [] s s
-  take_nothing s before output diagnostics_before p =
-      subst (λ l. LineProgress o task on_refusal l output diagnostics_before s) (sym (append-nil before)) p
-
   pub take_more : (xs ys : List ℕ) (s t u : LineRunState) → ReadsBytes o task on_refusal xs s t → ReadsBytes o task on_refusal ys t u
       → ReadsBytes o task on_refusal (xs ++ ys) s u
   take_more xs ys s t u f g before output diagnostics_before p =
@@ -331,8 +327,3 @@ module _ {o : Options} {task : Task} {on_refusal : OnRefusal} where
       → StopsInBytes o task on_refusal bytes fault s u
   whole_stops bytes taken rest fault s t u e f g =
       subst (λ l. StopsInBytes o task on_refusal l fault s u) (sym e) (stops_after taken rest fault s t u f g)
-
-  pub whole_taken : (bytes taken rest : List ℕ) (s t u : LineRunState) → bytes ≡ taken ++ rest
-      → ReadsBytes o task on_refusal taken s t → ReadsBytes o task on_refusal rest t u → ReadsBytes o task on_refusal bytes s u
-  whole_taken bytes taken rest s t u e f g =
-      subst (λ l. ReadsBytes o task on_refusal l s u) (sym e) (take_more taken rest s t u f g)
