@@ -178,6 +178,7 @@ class Jobs:
         self.runs = Runs([program, *words])
         self.written = self.refused = self.total = 0
         self.hints, self.files, self.part = [], [], ""
+        self.block = memoryview(bytearray(BLOCK))
 
     def cannot(self, what, name, error):
         self.tell(b"bson: cannot %s %s: %s\n" % (what.encode(), os.fsencode(name), os.strerror(error.errno).encode()))
@@ -304,7 +305,8 @@ class Jobs:
         try:
             while at < end:
                 # (sendfile would have a pipe refer to memory that the next run writes)
-                at += os.write(1, os.pread(output, min(BLOCK, end - at), at))
+                block = self.block[:min(BLOCK, end - at)]
+                at += os.write(1, block[:os.preadv(output, [block], at)])
         except BrokenPipeError:
             raise End(NO_READER) from None
         except OSError as error:
