@@ -1,11 +1,12 @@
 -- The layout of tokens, a token at a time, and that it has the tokens that it was made of.
-use Rattle.std.proofs.Common.{◌≡◌, ◌+◌, ◌-◌, ℕ, zero, suc, List, [], ◌∷◌, ◌++◌, map, replicate, Bool, true, false, Some, inl, inr, refl, sym, ap, ◌∙◌, subst, append_assoc, append-nil}
+use Rattle.std.proofs.Common.{◌≡◌, ◌+◌, ◌-◌, ℕ, zero, suc, max, List, [], ◌∷◌, ◌++◌, length, map, take, replicate, Bool, true, false, Some, inl, inr, refl, sym, ap, ◌∙◌, subst, arith, append_assoc, append-nil}
 use Rattle.std.proofs.Common.{◌&&◌, cond, IsUtf8}
 use Rattle.std.proofs.lemmas.Str.{IsUtf8-append, IsUtf8-nil}
+use Rattle.std.proofs.lemmas.List.{replicate-append-replicate, take-replicate, length-replicate}
 use Rattle.json.specs.Json.{Json, value as json_value}
 use Rattle.json.specs.Layout.{Last, nothing, bracket, name, value, is_value, after}
 use Rattle.json.specs.Lex.{tokens}
-use Rattle.json.specs.Print.{token_text, separator, begins, ends, ArePrintable}
+use Rattle.json.specs.Print.{token_text, separator, begins, ends, print, print_from, ArePrintable}
 use Rattle.json.specs.Spaced.{IsGap, AreGaps, print_spaced}
 use Rattle.json.specs.Token.{Token, begin_object, end_object, begin_array, end_array, key, string, number, boolean, null, bad}
 use Rattle.json.specs.Tree.{json_tokens}
@@ -17,7 +18,20 @@ use Rattle.json.proofs.Unique.Spelling.{value-json_tokens_back}
 use Rattle.bson_run.specs.Indent.{line, white_space, indent_of_token, indent_after, with_white_space, indented, HasSameTokens, kind_of_previous_token, IsTokenWritten, IsWholeLayout}
 use Rattle.bson_run.specs.declared.indent.Layout.{Layout}
 
+pub print_one : (t : Token) → print (t ∷ []) ≡ token_text t
+unfolding print_from
+print_one t = append-nil (token_text t)
+
 -- ---- the beginning of a line
+
+pub stepped_out : (spaces indent : ℕ) → take (max (length (line indent) - spaces) 1) (line indent) ≡ line (indent - spaces)
+stepped_out spaces indent =
+    let stays : max (length (line indent) - spaces) 1 ≡ suc (indent - spaces) =
+    ap (λ k. max (suc k - spaces) 1) (length-replicate indent 32) ∙ omega arith in
+    ap (λ k. take k (line indent)) stays ∙ ap (λ l. 10 ∷ l) (take-replicate (indent - spaces) indent 32 (omega arith))
+
+pub stepped_in : (n indent : ℕ) → line indent ++ replicate n 32 ≡ line (indent + n)
+stepped_in n indent = ap (λ l. 10 ∷ l) (replicate-append-replicate indent n 32)
 
 -- ---- a token more
 
