@@ -7,7 +7,8 @@ MOST, MOST_OF_VALUE = 300, 60
 NUMBERS = ('1.5', '-0', '1e5', '0.0', '-2.25e-7', '9223372036854775808', '18446744073709551616')
 WRAPPERS = ('$minKey', '$maxKey', '$undefined', '$symbol', '$numberInt', '$numberLong', '$numberDecimal', '$oid')
 KEYS = ('a', 'A', 'b', 'name', 'Name', '', ' ', 'a b', '0', '256', '\u00e9', 'k' * 90, '\u2028', '\x1b[31m', 'q"q', 'b\\s')
-GOOD = ('0', '7', '-12', 'null', 'true', '"x"', '"1.5"', '[]', '{}', '{"a":{"A":0}}', '[[1],2]', '{"$numberInt":"5"}')
+NESTED = '{"a":[[[{"a":0}]]]}'
+GOOD = ('0', '7', '-12', 'null', 'true', '"x"', '"1.5"', '[]', '{}', '{"a":{"A":0}}', '[[1],2]', '{"$numberInt":"5"}', NESTED)
 # It is before the wrong value while a text is made.
 MARK = '\ue000'
 LETTERS = {'"': '\\"', '\\': '\\\\'}
@@ -22,6 +23,7 @@ class Fault:
     offset: int
     widest: int
     replaced: bool
+    is_beside_nested: bool
 
     def told(self):
         """A pattern of what is reported."""
@@ -31,8 +33,8 @@ class Fault:
         head = re.escape(f'not Extended JSON{at} ('.encode())
         return head + rb'(?:(?!; found ).)+' + re.escape(f'; found {shown(value)})'.encode())
 
-    def kinds(self, deep, wide, replaced, cut):
-        found = [deep] * (len(self.path) >= 4) + [wide] * (self.widest > 256)
+    def kinds(self, deep, wide, replaced, cut, beside):
+        found = [deep] * (len(self.path) >= 4) + [wide] * (self.widest > 256) + [beside] * self.is_beside_nested
         return found + [replaced] * self.replaced + [cut] * (len(self.value) > MOST_OF_VALUE)
 
 
@@ -50,7 +52,7 @@ def fault_of(generator, newline):
 class Maker:
     def __init__(self, generator, newline):
         self.generator, self.newline = generator, newline
-        self.widest, self.replaced = 0, False
+        self.widest, self.replaced, self.is_beside_nested = 0, False, False
 
     def fault(self):
         text, path, value = self.wrong()
@@ -58,7 +60,8 @@ class Maker:
             text, word = self.list_of(text) if self.generator.random() < 0.5 else self.object_of(text)
             path.insert(0, word)
         offset = len(text[:text.index(MARK)].encode())
-        return Fault(text.replace(MARK, '').encode(), path, value, offset, self.widest, self.replaced)
+        found = self.widest, self.replaced, self.is_beside_nested
+        return Fault(text.replace(MARK, '').encode(), path, value, offset, *found)
 
     def blank(self):
         return self.generator.choice(('', '\t', '\n') if self.newline else ('', '', '', '', ' ', '\t', '  '))
@@ -89,6 +92,7 @@ class Maker:
         at = self.generator.randrange(count)
         self.widest = max(self.widest, count)
         members = [text if it == at else self.good() for it in range(count)]
+        self.is_beside_nested |= NESTED in members
         return '[' + ','.join(f'{self.blank()}{it}{self.blank()}' for it in members) + ']', at
 
     def object_of(self, text):
@@ -96,6 +100,7 @@ class Maker:
         keys = self.generator.sample(KEYS, self.generator.randrange(1, 5))
         key = self.generator.choice(keys)
         members = [(it, text if it == key else self.good()) for it in keys]
+        self.is_beside_nested |= NESTED in dict(members).values()
         if self.generator.random() < 0.2:
             self.replaced = True
             other = self.generator.choice((self.good(), self.wrong()[0].replace(MARK, '')))
