@@ -1,5 +1,5 @@
 //! A writer of values that appends BSON elements.
-ghost use Rattle.std.specs.Prelude.{◌≡◌, true, ⊤};
+ghost use Rattle.std.specs.Prelude.{◌≡◌, ◌↔◌, true, ⊤};
 ghost use Rattle.std.specs.Str.{is_utf8};
 ghost use Rattle.bson_bytes.specs.PutSteps.{has_no_nul};
 ghost use Rattle.bson_text.specs.TraversalErrors.{IsWriterError};
@@ -123,7 +123,8 @@ impl ValueWriter for ElementWriter {
 
 // Returns the reason to stop if a part has no bytes.
 fn to_traversal_error(error: Error) -> TraversalError
-    ensures { IsWriterError (λ doubles. ⊤) result }
+    ensures writer_error { IsWriterError (λ doubles. ⊤) result }
+    ensures memory { (result ≡ TraversalError.OutOfMemory) ↔ (error ≡ Error.OutOfMemory) }
 {
     match error {
         Error::OutOfMemory => TraversalError::OutOfMemory,
