@@ -5,7 +5,7 @@ _bson() {
     for it in "${COMP_WORDS[@]:1:COMP_CWORD-1}"; do
         case $it in
             lines) options=${options/--array --indent/--keep-going --jobs} ;;
-            decode) own='--sort-keys --strict ' options='--sort-keys --strict --no-double-keys --keep-going --jobs --output --help --version' ;;
+            decode) own='--sort-keys --strict ' options='--sort-keys --strict --no-double-keys --keep-going --jobs --diagnostics --output --help --version' ;;
             encode) modes='' mode=$it options='--sort-keys --strict --v1 --no-double-keys --array --keep-going --jobs --diagnostics --output --help --version' ;;
             show) mode=$it options=${options/ --indent/} options=${options#"$own"} ;;
             check) mode=$it options=${options#"$own"} options=${options/--sort-keys /} options=${options/ --indent/} options=${options/ --output/} options=${options/ --v1 --no-double-keys/ --v1 --no-double-keys --canonical} ;;

@@ -1,3 +1,4 @@
+pub mod Added
 pub mod Seen
 pub mod Listed
 pub mod Distinct

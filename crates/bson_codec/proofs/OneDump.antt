@@ -90,7 +90,7 @@ abbrev Step : Run → (number start : ℕ) → (bytes line partial_report : List
 Step run number start bytes line partial_report over =
     (IsLineOfDocument run bytes line × (partial_report ≡ []) × (over ≡ 0))
     ⊎ ((fault : RunFault) × IsRejectedWithFault fault run bytes × IsSkipped run bytes × (line ≡ [])
-    × (partial_report ≡ diagnostic_of number start fault) × (over ≡ 1))
+    × (partial_report ≡ diagnostic_of run.diagnostics number start fault) × (over ≡ 1))
 
 record Last (run : Run) (bytes output diagnostics_before : List ℕ) (number refused : ℕ) : Type 0 where
   before : List ℕ
@@ -137,11 +137,11 @@ last_of {run = run} n (skipped_document {earlier_bytes = before} {output = outpu
       out = output;
       line = [];
       diagnostics_after = diagnostics_before;
-      partial_report = diagnostic_of (number + 1) (length before) fault;
+      partial_report = diagnostic_of run.diagnostics (number + 1) (length before) fault;
       left = refused;
       over = 1;
       dump = subst (λ (k : ℕ). Dump run before output diagnostics_before k refused) count d;
-      step = inr (fault, bad, over, refl, ap (λ (k : ℕ). diagnostic_of (k + 1) (length before) fault) count, refl);
+      step = inr (fault, bad, over, refl, ap (λ (k : ℕ). diagnostic_of run.diagnostics (k + 1) (length before) fault) count, refl);
       bytes_are = refl;
       output_is = sym (append-nil output);
       told_is = refl;
@@ -168,7 +168,7 @@ one_step run number start bytes a b partial_report diagnostics_after n m (inl s)
 one_step run number start bytes a b partial_report diagnostics_after n m (inr s) (inl t) = absurd (either_line run bytes b s.0 t.0 s.1)
 one_step run number start bytes a b partial_report diagnostics_after n m (inr (f, h, o, l, w, c)) (inr (g, k, p, q, v, d)) =
     let same : f ≡ g = one_fault run bytes f g h k in
-    (l ∙ sym q, w ∙ ap (diagnostic_of number start) same ∙ sym v, c ∙ sym d)
+    (l ∙ sym q, w ∙ ap (diagnostic_of run.diagnostics number start) same ∙ sym v, c ∙ sym d)
 
 -- ---- dumps of as many documents
 

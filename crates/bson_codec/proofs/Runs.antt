@@ -55,7 +55,7 @@ run_goes_on run before mid after output_before output_after after_holds diagnost
 run_goes_on run before mid after output_before output_after after_holds diagnostics_before diagnostics_after after_tells number refused start n following bytes r bytes_read (inr g) place =
     let fault = g.1.1.0.0 in
     let one : refused + n ≡ refused + 1 = omega (arith, g.0) in
-    let partial_report = diagnostic_of (number + 1) (length r.converted_bytes) fault in
+    let partial_report = diagnostic_of run.diagnostics (number + 1) (length r.converted_bytes) fault in
     record {
       converted_bytes = r.converted_bytes ++ bytes;
       output = r.output;
@@ -66,7 +66,7 @@ run_goes_on run before mid after output_before output_after after_holds diagnost
       offset_is_length = omega (arith, place, r.offset_is_length, length-append r.converted_bytes bytes);
       written = appends_kept output_before output_after after_holds r.output r.written g.1.1.1;
       reports_appended = Appends-trans diagnostics_before diagnostics_after after_tells r.diagnostic_lines partial_report r.reports_appended
-          (subst (λ (s : ℕ). Appends diagnostics_after after_tells (diagnostic_of (number + 1) s fault)) r.offset_is_length g.1.1.0.2);
+          (subst (λ (s : ℕ). Appends diagnostics_after after_tells (diagnostic_of run.diagnostics (number + 1) s fault)) r.offset_is_length g.1.1.0.2);
     }
 
 -- ---- a document without a line
@@ -79,7 +79,7 @@ cut_line run number start bytes line output_before output_after diagnostics_afte
 
 pub untold : (e : RunFault) (run : Run) (number start : ℕ) (bytes : List ℕ) (fault : RunFault)
     (output_before diagnostics_before diagnostics_after : Option (List ℕ)) → IsRejectedWithFault fault run bytes → IsSkipped run bytes
-    → IsReportFailure e number start fault diagnostics_before diagnostics_after → IsRunEnd e run number start bytes output_before output_before diagnostics_before diagnostics_after
+    → IsReportFailure e run.diagnostics number start fault diagnostics_before diagnostics_after → IsRunEnd e run number start bytes output_before output_before diagnostics_before diagnostics_after
 untold e run number start bytes fault output_before diagnostics_before diagnostics_after bad over (inl p) =
     subst (λ (it : RunFault). IsRunEnd it run number start bytes output_before output_before diagnostics_before diagnostics_after) (sym p.0)
     ([], [], (refl, refl), (Appends-nil output_before, appends_kept diagnostics_before diagnostics_before diagnostics_after [] (Appends-nil diagnostics_before) p.1))

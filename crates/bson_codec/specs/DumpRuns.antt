@@ -16,6 +16,7 @@ use Rattle.bson_codec.specs.Streams.{declared_prefix}
 use Rattle.bson_codec.specs.Diagnostics.{line_feed, diagnostic_of}
 use Rattle.bson_codec.specs.declared.de.Error.{Error}
 use Rattle.bson_codec.specs.declared.de.Error.TheVariants as errors
+use Rattle.bson_codec.specs.declared.diagnostic.DiagnosticFormat.{DiagnosticFormat}
 use Rattle.bson_codec.specs.declared.documents.Line.{Line}
 use Rattle.bson_codec.specs.declared.documents.Line.TheVariants.{Text, Shown, Nothing}
 use Rattle.bson_codec.specs.declared.documents.Run.{Run}
@@ -84,7 +85,7 @@ pub data Dump (run : Run) : (bytes output diagnostic_lines : List ℕ) → (docu
       → Dump run earlier_bytes output diagnostics document_count refused → IsSkipped run bytes
       → IsRejectedWithFault fault run bytes
       → Dump run (earlier_bytes ++ bytes) output
-      (diagnostics ++ diagnostic_of (document_count + 1) (length earlier_bytes) fault) (document_count + 1)
+      (diagnostics ++ diagnostic_of run.diagnostics (document_count + 1) (length earlier_bytes) fault) (document_count + 1)
       (refused + 1)
 
 -- ---- a run
@@ -113,7 +114,7 @@ IsPartialWrite run document_number document_offset bytes_read partial_line parti
     (((line : List ℕ) × IsLineOfDocument run bytes_read line × StartsWith line partial_line)
     × (partial_diagnostic ≡ []))
     ⊎ (((fault : RunFault) × IsRejectedWithFault fault run bytes_read × IsSkipped run bytes_read
-    × StartsWith (diagnostic_of document_number document_offset fault) partial_diagnostic) × (partial_line ≡ []))
+    × StartsWith (diagnostic_of run.diagnostics document_number document_offset fault) partial_diagnostic) × (partial_line ≡ []))
 
 -- why a run ends at the document with this number and offset, of which these bytes were read; and which parts of its
 -- line and diagnostic were written
@@ -214,7 +215,7 @@ IsLineOrSkip skipped_count run document_number document_offset bytes output_befo
     × Appends output_before output_after line) × Keeps diagnostics_before diagnostics_after))
     ⊎ ((skipped_count ≡ 1) × (IsSkipped run bytes
     × (((fault : RunFault) × IsRejectedWithFault fault run bytes
-    × Appends diagnostics_before diagnostics_after (diagnostic_of document_number document_offset fault))
+    × Appends diagnostics_before diagnostics_after (diagnostic_of run.diagnostics document_number document_offset fault))
     × Keeps output_before output_after)))
 
 -- the run ends for the fault, and these parts of the line and the diagnostic were written
@@ -226,12 +227,12 @@ IsRunEnd end_fault run document_number document_offset bytes output_before outpu
     × Appends diagnostics_before diagnostics_after partial_diagnostic)
 
 -- the diagnostic was not written completely
-abbrev pub IsReportFailure : (end_fault : RunFault) → (document_number document_offset : ℕ) → (skip_fault : RunFault)
-    → (diagnostics_before diagnostics_after : Option (List ℕ)) → Type 0
-IsReportFailure end_fault document_number document_offset skip_fault diagnostics_before diagnostics_after =
+abbrev pub IsReportFailure : (end_fault : RunFault) → DiagnosticFormat → (document_number document_offset : ℕ)
+    → (skip_fault : RunFault) → (diagnostics_before diagnostics_after : Option (List ℕ)) → Type 0
+IsReportFailure end_fault format document_number document_offset skip_fault diagnostics_before diagnostics_after =
     ((end_fault ≡ OutOfMemory) × Keeps diagnostics_before diagnostics_after)
     ⊎ ((end_fault ≡ CannotWrite) × ((partial_diagnostic : List ℕ)
-    × StartsWith (diagnostic_of document_number document_offset skip_fault) partial_diagnostic
+    × StartsWith (diagnostic_of format document_number document_offset skip_fault) partial_diagnostic
     × Appends diagnostics_before diagnostics_after partial_diagnostic))
 
 -- the progress of a run

@@ -12,6 +12,7 @@ ghost use Rattle.bson_codec.specs.declared.documents.Run.{Run};
 ghost use Rattle.bson_codec.specs.declared.run_end.RunFault.TheVariants.{CannotRead, OutOfMemory};
 
 use crate::de::{DEPTH, DuplicateKeys};
+use crate::diagnostic::DiagnosticFormat;
 use crate::document_line::line_of;
 use crate::run_end::{RunEnd, RunFault, diagnostic_line};
 use crate::stream::{ReaderError, read_document_bytes, write_whole};
@@ -69,9 +70,12 @@ pub struct Run {
     pub line: Line,
     /// Whether the run reports and skips a rejected document, and goes on.
     pub keep_going: bool,
+    /// The format of the diagnostic for a document that is skipped.
+    pub diagnostics: DiagnosticFormat,
 }
 
-/// Canonical lines of documents that nest at most [`DEPTH`] deep, up to the first that is rejected.
+/// Canonical lines of documents that nest at most [`DEPTH`] deep, up to the first that is rejected, and
+/// diagnostics as messages.
 impl Default for Run {
     fn default() -> Run
         ensures depth { result.depth ≡ DEPTH }
@@ -79,6 +83,7 @@ impl Default for Run {
         ensures options { result.options ≡ default_options }
         ensures line { result.line ≡ Text Canonical }
         ensures keep_going { result.keep_going ≡ false }
+        ensures diagnostics { result.diagnostics ≡ DiagnosticFormat.Text }
     {
         Run {
             depth: DEPTH,
@@ -86,6 +91,7 @@ impl Default for Run {
             options: Options::default(),
             line: Line::Text(Form::Canonical),
             keep_going: false,
+            diagnostics: DiagnosticFormat::Text,
         }
     }
 }
@@ -224,6 +230,7 @@ fn write_or_skip<W: Write, T: Write>(
             if run.keep_going && may_skip(fault, bytes) {
                 return match report_skipped(
                     alloc,
+                    run.diagnostics,
                     document_number,
                     document_offset,
                     fault,
@@ -241,15 +248,17 @@ fn write_or_skip<W: Write, T: Write>(
 // Reports a document that is skipped.
 fn report_skipped<T: Write>(
     alloc: Global,
+    format: DiagnosticFormat,
     document_number: u64,
     document_offset: u64,
     fault: RunFault,
     report: &mut T,
 ) -> Result<(), RunFault>
-    ensures ok { OnOk result (Appends (T.contents report.old) (T.contents report.new) (diagnostic_of document_number document_offset fault)) }
-    ensures fault { IfErr result (λ run_end_fault. IsReportFailure run_end_fault document_number document_offset fault (T.contents report.old) (T.contents report.new)) }
+    ensures ok { OnOk result (Appends (T.contents report.old) (T.contents report.new) (diagnostic_of format document_number document_offset fault)) }
+    ensures fault { IfErr result (λ run_end_fault. IsReportFailure run_end_fault format document_number document_offset fault (T.contents report.old) (T.contents report.new)) }
 {
-    let Ok(diagnostic) = diagnostic_line(alloc, document_number, document_offset, fault) else {
+    let Ok(diagnostic) = diagnostic_line(alloc, format, document_number, document_offset, fault)
+    else {
         return Err(RunFault::OutOfMemory);
     };
     match write_whole(report, diagnostic.as_bytes()) {

@@ -4,6 +4,7 @@
 #![tactic(auto)]
 
 pub mod de;
+pub mod diagnostic;
 mod document_line;
 pub mod documents;
 mod element_writer;

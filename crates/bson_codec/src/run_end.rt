@@ -1,8 +1,13 @@
 //! Why a run over documents ends or skips a document, and its diagnostic.
 ghost use Rattle.std.specs.Prelude.{◌≡◌, IfOk, string_bytes};
-ghost use Rattle.bson_codec.specs.Diagnostics.{offset_suffix, diagnostic_of, diagnostic_with_offset, fault_kind_message, run_fault_message};
+ghost use Rattle.bson_codec.specs.Diagnostics.{diagnostic_of, error_offset_of, fault_kind_message, full_message};
+ghost use Rattle.bson_codec.specs.Diagnostics.{run_fault_code, run_fault_message};
 
+use crate::diagnostic::{
+    DiagnosticFormat, begin_with_number, into_line, write_message, write_number,
+};
 use bson_bytes::fault::FaultKind;
+use json::Writer;
 use std::alloc::{AllocError, Global};
 
 /// Why a run over documents ended.
@@ -41,7 +46,8 @@ pub enum RunFault {
 /// let (mut output, mut reported) = (Vec::new(alloc), Vec::new(alloc));
 /// let run = Run::default();
 /// if let Err(end) = run_documents(alloc, run, &mut input, &mut output, &mut reported) {
-///     rt.print(&end.to_line(alloc)?)?; // document 2 at byte 5: ends too early at its byte 0
+///     let line = end.to_line(alloc, DiagnosticFormat::Text)?;
+///     rt.print(&line)?; // document 2 at byte 5: ends too early at its byte 0
 /// }
 /// ```
 #[derive(Clone, Copy, PartialEq, Eq, Debug)]
@@ -57,55 +63,67 @@ pub struct RunEnd {
 }
 
 impl RunEnd {
-    /// Writes the document and its fault in words, and a newline.
+    /// Writes the document and its fault in the format, and a newline.
     ///
     /// # Errors
     ///
     /// Returns `AllocError` if a request for memory is refused.
-    pub fn to_line(&self, alloc: Global) -> Result<String, AllocError>
+    pub fn to_line(&self, alloc: Global, format: DiagnosticFormat) -> Result<String, AllocError>
         ensures { IfOk result
-            (λ diagnostic. string_bytes diagnostic ≡ diagnostic_of self.now.number self.now.start self.now.fault) }
+            (λ diagnostic. string_bytes diagnostic ≡ diagnostic_of format self.now.number self.now.start self.now.fault) }
     {
-        diagnostic_line(alloc, self.number, self.start, self.fault)
+        diagnostic_line(alloc, format, self.number, self.start, self.fault)
     }
 }
 
 /// Returns the diagnostic of a document and its fault, and a newline.
 pub(crate) fn diagnostic_line(
     alloc: Global,
+    format: DiagnosticFormat,
     document_number: u64,
     document_offset: u64,
     fault: RunFault,
 ) -> Result<String, AllocError>
     ensures { IfOk result
-        (λ diagnostic. string_bytes diagnostic ≡ diagnostic_of document_number document_offset fault) }
+        (λ diagnostic. string_bytes diagnostic ≡ diagnostic_of format document_number document_offset fault) }
 {
-    let suffix = fault.offset_suffix(alloc)?;
-    diagnostic_with_suffix(
-        alloc,
-        document_number,
-        document_offset,
-        fault,
-        suffix.as_str(),
-    )
+    match format {
+        DiagnosticFormat::Text => text_line(alloc, document_number, document_offset, fault),
+        DiagnosticFormat::Json => json_object(alloc, document_number, document_offset, fault),
+    }
 }
 
-// Returns the diagnostic with the document, the message of the fault, and its offset.
-fn diagnostic_with_suffix(
+// Returns the diagnostic as a message.
+fn text_line(
     alloc: Global,
     document_number: u64,
     document_offset: u64,
     fault: RunFault,
-    suffix: &str,
 ) -> Result<String, AllocError>
     ensures { IfOk result
-        (λ diagnostic. string_bytes diagnostic
-        ≡ diagnostic_with_offset document_number document_offset fault suffix.now) }
+        (λ diagnostic. string_bytes diagnostic ≡ diagnostic_of DiagnosticFormat.Text document_number document_offset fault) }
 {
-    let message_text = fault.message();
-    format!(in alloc;
-        "document {document_number} at byte {document_offset}: {message_text}{suffix}\n"
-    )
+    let message = fault.full_message(alloc)?;
+    format!(in alloc; "document {document_number} at byte {document_offset}: {message}\n")
+}
+
+// Returns the diagnostic as a JSON object.
+fn json_object(
+    alloc: Global,
+    document_number: u64,
+    document_offset: u64,
+    fault: RunFault,
+) -> Result<String, AllocError>
+    ensures { IfOk result
+        (λ diagnostic. string_bytes diagnostic ≡ diagnostic_of DiagnosticFormat.Json document_number document_offset fault) }
+{
+    let message = fault.full_message(alloc)?;
+    let mut writer = Writer::new(Vec::new(alloc));
+    begin_with_number(&mut writer, "document", document_number)?;
+    write_number(&mut writer, "start", Some(document_offset as usize))?;
+    write_number(&mut writer, "offset", fault.offset())?;
+    write_message(&mut writer, fault.code(), &message)?;
+    into_line(writer)
 }
 
 impl RunFault {
@@ -122,16 +140,40 @@ impl RunFault {
         }
     }
 
-    // Returns the offset in the document as text.
-    fn offset_suffix(self, alloc: Global) -> Result<String, AllocError>
-        ensures { IfOk result (λ suffix. string_bytes suffix ≡ offset_suffix self) }
+    /// Returns the code of the fault: one word that programs compare.
+    pub fn code(self) -> &'static str
+        ensures { result.now ≡ run_fault_code self }
     {
         match self {
-            RunFault::Malformed { offset, .. } => format!(in alloc; " at its byte {offset}"),
+            RunFault::Malformed { .. } => "malformed",
+            RunFault::FiniteDouble => "finite_double",
+            RunFault::CannotRead => "cannot_read",
+            RunFault::CannotWrite => "cannot_write",
+            RunFault::OutOfMemory => "out_of_memory",
+        }
+    }
+
+    // Returns the offset of the error in the document.
+    fn offset(self) -> Option<usize>
+        ensures { result ≡ error_offset_of self }
+    {
+        match self {
+            RunFault::Malformed { offset, .. } => Some(offset),
             RunFault::FiniteDouble
             | RunFault::CannotRead
             | RunFault::CannotWrite
-            | RunFault::OutOfMemory => Ok(String::new(alloc)),
+            | RunFault::OutOfMemory => None,
+        }
+    }
+
+    // Returns the message, and where in the document the error is.
+    fn full_message(self, alloc: Global) -> Result<String, AllocError>
+        ensures { IfOk result (λ message. string_bytes message ≡ full_message self) }
+    {
+        let message = self.message();
+        match self.offset() {
+            Some(offset) => format!(in alloc; "{message} at its byte {offset}"),
+            None => String::from_str(alloc, message),
         }
     }
 }

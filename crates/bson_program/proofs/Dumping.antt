@@ -36,7 +36,7 @@ pub cut_dump : (run : Run) (before after output_before mid output_after diagnost
     (fault : RunFault) (number refused_before document_offset documents refused : ℕ)
     → EndsAt run before after (append_known output_before first) mid diagnostics_before diagnostics_between fault number refused_before document_offset → first ≡ [] → last ≡ []
     → Keeps mid (append_known output_after last) → run.keep_going ≡ true → IsFaultOfDocument fault
-    → Appends diagnostics_between diagnostics_after (diagnostic_of number document_offset fault) → documents ≡ number → refused ≡ refused_before + 1
+    → Appends diagnostics_between diagnostics_after (diagnostic_of run.diagnostics number document_offset fault) → documents ≡ number → refused ≡ refused_before + 1
     → IsDoneDump run before after output_before output_after diagnostics_before diagnostics_after documents refused
 cut_dump run before after output_before mid output_after diagnostics_before diagnostics_between diagnostics_after first last fault number refused_before document_offset documents refused h e f k going is reports_appended same counted =
     let ended : EndsAt run before after output_before output_after diagnostics_before diagnostics_between fault number refused_before document_offset = record {

@@ -7,8 +7,8 @@ use Rattle.std.specs.Result.{is_ok}
 use Rattle.std.proofs.lemmas.Bool.Decides.{nat_tests}
 use Rattle.std.specs.List.{flat_map, position_or_len, starts_with}
 use Rattle.bson_run.specs.Lines.{prepend_to_first_line}
-use Rattle.bson_run.specs.declared.task.DiagnosticFormat.{DiagnosticFormat}
-use Rattle.bson_run.specs.declared.task.DiagnosticFormat.TheVariants.{Text}
+use Rattle.bson_codec.specs.declared.diagnostic.DiagnosticFormat.{DiagnosticFormat}
+use Rattle.bson_codec.specs.declared.diagnostic.DiagnosticFormat.TheVariants.{Text}
 use Rattle.bson_program.specs.Messages.{with_file_names, line_prefix, line_len, split_lines, with_file_name}
 
 is_newline : (x : ℕ) → (x == 10) ≡ true → x ≡ 10

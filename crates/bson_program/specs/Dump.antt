@@ -19,7 +19,7 @@ pub record EndsAtRejectedDocument (run : Run)
   pub keeps_going : run.keep_going ≡ true
   pub is_document_fault : IsFaultOfDocument fault
   pub ends_at : EndsAt run before after output_before output_after diagnostics_before diagnostics_between fault documents refused_before document_offset
-  pub reports_appended : Appends diagnostics_between diagnostics_after (diagnostic_of documents document_offset fault)
+  pub reports_appended : Appends diagnostics_between diagnostics_after (diagnostic_of run.diagnostics documents document_offset fault)
   pub counts_this_document : refused ≡ refused_before + 1
 
 -- all documents were done; or a run that keeps going ended at one

@@ -66,7 +66,6 @@ command_allows Output input output = has_output output
 command_allows Unordered input output = true
 command_allows Array Text output = reads_texts Text output
 command_allows Array input output = false
-command_allows Diagnostics Documents output = false
 command_allows Diagnostics input output = true
 
 -- modes with this purpose have the option

@@ -5,8 +5,8 @@ use Rattle.std.specs.Fmt.{decimal}
 use Rattle.std.specs.Option.{option_map_or}
 use Rattle.bson_convert.specs.declared.mode.Mode.TheVariants as modes
 use Rattle.bson_run.specs.TaskNames.{output_name}
-use Rattle.bson_run.specs.declared.task.DiagnosticFormat.{DiagnosticFormat}
-use Rattle.bson_run.specs.declared.task.DiagnosticFormat.TheVariants as format
+use Rattle.bson_codec.specs.declared.diagnostic.DiagnosticFormat.{DiagnosticFormat}
+use Rattle.bson_codec.specs.declared.diagnostic.DiagnosticFormat.TheVariants as format
 use Rattle.bson_run.specs.declared.task.Output.{Output}
 use Rattle.bson_run.specs.declared.task.Output.TheVariants.{Bytes}
 use Rattle.bson_run.specs.declared.task.Output.TheVariants as output

@@ -10,15 +10,14 @@ use Rattle.std.specs.declared.io.Error.{Error}
 use Rattle.json.specs.Print.{print}
 use Rattle.json.specs.Token as token
 use Rattle.json.specs.Token.{Token}
-use Rattle.bson_codec.specs.Diagnostics.{diagnostic_of}
+use Rattle.bson_codec.specs.Diagnostics.{diagnostic_of, json_line, message_tokens}
 use Rattle.bson_codec.specs.Diagnostics as documents
 use Rattle.bson_codec.specs.declared.run_end.RunEnd.{RunEnd}
 use Rattle.bson_codec.specs.declared.run_end.RunFault.{RunFault}
 use Rattle.bson_codec.specs.declared.run_end.RunFault.TheVariants as run_fault
-use Rattle.bson_run.specs.Diagnostic.{json_line, message_tokens}
 use Rattle.bson_run.specs.Lines.{prepend_to_first_line}
-use Rattle.bson_run.specs.declared.task.DiagnosticFormat.{DiagnosticFormat}
-use Rattle.bson_run.specs.declared.task.DiagnosticFormat.TheVariants as format
+use Rattle.bson_codec.specs.declared.diagnostic.DiagnosticFormat.{DiagnosticFormat}
+use Rattle.bson_codec.specs.declared.diagnostic.DiagnosticFormat.TheVariants as format
 use Rattle.bson_convert.specs.Messages.{error_message}
 use Rattle.bson_convert.specs.declared.error.Error as conversion
 use Rattle.bson_program.specs.declared.invocation.Input as invocation
@@ -92,7 +91,7 @@ text_message file_name line_number fault position_message =
 abbrev pub document_error_message : (document_number offset : ℕ) → RunFault → List ℕ
 document_error_message document_number offset run_fault.CannotRead = documents.run_fault_message run_fault.CannotRead
 document_error_message document_number offset run_fault.CannotWrite = documents.run_fault_message run_fault.CannotWrite
-document_error_message document_number offset fault = diagnostic_of document_number offset fault
+document_error_message document_number offset fault = diagnostic_of format.Text document_number offset fault
 
 abbrev pub document_message : (file_name : List ℕ) → RunEnd → List ℕ
 document_message file_name run_end =
@@ -163,8 +162,8 @@ IsFailureObject failure.OutputIsTerminal line = line ≡ failure_object (codes "
     (codes "BSON bytes are not written to a terminal; give -o FILE, or a pipe")
 IsFailureObject (failure.Text file_name line_number fault report) line =
     line ≡ report_object file_name.now (string_bytes report)
-IsFailureObject (failure.Document file_name run_end) line = line ≡ failure_object file_name.now (codes "malformed")
-    (trim_end (document_error_message run_end.number run_end.start run_end.fault))
+IsFailureObject (failure.Document file_name run_end) line =
+    line ≡ with_json_file file_name.now (diagnostic_of format.Json run_end.number run_end.start run_end.fault)
 
 -- ---- diagnostics
 

@@ -12,8 +12,8 @@ use Rattle.bson_run.specs.Diagnostic.{IsDiagnostic}
 use Rattle.bson_run.specs.ErrorMessages.{IsPositionMessage}
 use Rattle.bson_run.specs.Lines.{buffered_text, line_number_of}
 use Rattle.bson_run.specs.declared.lines.LineRun.{LineRun}
-use Rattle.bson_run.specs.declared.task.DiagnosticFormat.{DiagnosticFormat}
-use Rattle.bson_run.specs.declared.task.DiagnosticFormat.TheVariants.{Text, Json}
+use Rattle.bson_codec.specs.declared.diagnostic.DiagnosticFormat.{DiagnosticFormat}
+use Rattle.bson_codec.specs.declared.diagnostic.DiagnosticFormat.TheVariants.{Text, Json}
 use Rattle.bson_run.specs.declared.task.Output as task
 use Rattle.bson_run.specs.declared.task.Output.TheVariants as output
 use Rattle.bson_program.specs.Messages.{with_file_names, message_prefix, is_standard_stream}

@@ -3,14 +3,15 @@ use Rattle.std.specs.Prelude.{◌≡◌, ◌==◌, ◌+◌, ◌-◌, ◌^◌, �
 use Rattle.std.specs.Prelude.{count_by, length, min, nat_lt, take, if◌then◌else◌}
 use Rattle.bson_convert.specs.Messages.{error_message}
 use Rattle.bson_convert.specs.declared.error.Error.{Error}
-use Rattle.bson_run.specs.Diagnostic.{diagnostic_tokens, error_code, json_line, position_at}
+use Rattle.bson_codec.specs.Diagnostics.{json_line}
+use Rattle.bson_run.specs.Diagnostic.{diagnostic_tokens, error_code, position_at}
 use Rattle.bson_run.specs.ErrorMessages.{IsExplanation, column_and_rule, column_at, explanation_message, explanation_offset}
 use Rattle.bson_run.specs.ErrorMessages.{explanation_path, line_at}
 use Rattle.bson_run.specs.declared.explain.Explanation.{Explanation}
 use Rattle.bson_run.specs.declared.explain.Explanation.TheVariants.{Syntax, Value, Difference, Other}
 use Rattle.bson_run.specs.declared.position.Position.{Position}
-use Rattle.bson_run.specs.declared.task.DiagnosticFormat.{DiagnosticFormat}
-use Rattle.bson_run.specs.declared.task.DiagnosticFormat.TheVariants.{Text, Json}
+use Rattle.bson_codec.specs.declared.diagnostic.DiagnosticFormat.{DiagnosticFormat}
+use Rattle.bson_codec.specs.declared.diagnostic.DiagnosticFormat.TheVariants.{Text, Json}
 
 -- the line on which a text of a sequence begins, and none for a text that is all bytes
 abbrev pub text_start_line : (content : List ℕ) → (start : ℕ) → (text : List ℕ) → ℕ

@@ -139,8 +139,7 @@ fn command_allows(flag: Flag, input: Input, output: Output) -> bool
         Flag::Indent => input == Input::Text && writes_form(output),
         Flag::KeepGoing | Flag::Jobs => input != Input::Text,
         Flag::Array => input == Input::Text && reads_texts(input, output),
-        Flag::Diagnostics => input != Input::Documents,
-        Flag::Unordered => true,
+        Flag::Unordered | Flag::Diagnostics => true,
     }
 }
 

@@ -9,8 +9,9 @@ ghost use Rattle.bson_run.specs.TaskNames.{output_name};
 use crate::invocation::{Command, Flag, Input, Purpose, STDIO, UsageError};
 use crate::option_effects::set_flag;
 use crate::option_values::{output_file_in, parse_count, parse_format, starts_as_option};
+use bson_codec::diagnostic::DiagnosticFormat;
 use bson_convert::mode::Mode;
-use bson_run::task::{DiagnosticFormat, Output};
+use bson_run::task::Output;
 use std::alloc::{AllocError, Global};
 
 /// The greatest number of spaces.

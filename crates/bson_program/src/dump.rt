@@ -13,6 +13,7 @@ use crate::run::{RunFailure, writer_failure};
 use crate::streams::{InputReader, OutputWriter};
 use bson::extjson::Form;
 use bson_codec::de::DEPTH;
+use bson_codec::diagnostic::DiagnosticFormat;
 use bson_codec::documents::{DocumentCounts, Line, Run, run_documents};
 use bson_codec::run_end::{RunEnd, RunFault};
 use bson_convert::mode::Mode;
@@ -61,6 +62,7 @@ fn run_settings(invocation: &Invocation) -> Run
     ensures options { result.options ≡ invocation.now.options }
     ensures line { result.line ≡ document_line invocation.now.task.output }
     ensures keeps_going { IsTrue result.keep_going ↔ (invocation.now.on_refusal ≡ OnRefusal.KeepGoing) }
+    ensures diagnostics { result.diagnostics ≡ invocation.now.task.diagnostics }
 {
     Run {
         depth: DEPTH,
@@ -68,6 +70,7 @@ fn run_settings(invocation: &Invocation) -> Run
         options: invocation.options,
         line: document_line(invocation.task.output),
         keep_going: invocation.on_refusal == OnRefusal::KeepGoing,
+        diagnostics: invocation.task.diagnostics,
     }
 }
 
@@ -138,7 +141,9 @@ fn run_and_flush<R: Read, W: Write + Drop, T: Write>(
     };
     match run_result {
         Ok(counts) => Ok(counts),
-        Err(run_end) if run.keep_going => report_end(alloc, run_end, diagnostics_writer),
+        Err(run_end) if run.keep_going => {
+            report_end(alloc, run.diagnostics, run_end, diagnostics_writer)
+        }
         Err(run_end) => Err(run_end),
     }
 }
@@ -146,12 +151,13 @@ fn run_and_flush<R: Read, W: Write + Drop, T: Write>(
 // Reports the document at which a run that keeps going ended, as those that it passed over.
 fn report_end<T: Write>(
     alloc: Global,
+    format: DiagnosticFormat,
     run_end: RunEnd,
     diagnostics_writer: &mut T,
 ) -> Result<DocumentCounts, RunEnd>
     ensures reports_appended { IfOk result (λ counts. IsFaultOfDocument run_end.fault
         × Appends (T.contents diagnostics_writer.old) (T.contents diagnostics_writer.new)
-        (diagnostic_of run_end.number run_end.start run_end.fault)
+        (diagnostic_of format run_end.number run_end.start run_end.fault)
         × (counts.documents ≡ run_end.number) × (counts.refused ≡ run_end.refused + 1)) }
     ensures fails { IfErr result (λ error. IsFaultOfDocument error.fault → ⊥) }
 {
@@ -159,8 +165,10 @@ fn report_end<T: Write>(
         RunFault::Malformed { .. } | RunFault::FiniteDouble => {}
         RunFault::CannotRead | RunFault::CannotWrite | RunFault::OutOfMemory => return Err(run_end),
     }
-    let (Some(refused), Ok(diagnostic)) = (run_end.refused.checked_add(1), run_end.to_line(alloc))
-    else {
+    let (Some(refused), Ok(diagnostic)) = (
+        run_end.refused.checked_add(1),
+        run_end.to_line(alloc, format),
+    ) else {
         return Err(end_before_first_document(RunFault::OutOfMemory));
     };
     match diagnostics_writer.write_all(diagnostic.as_bytes()) {

@@ -4,9 +4,9 @@ ghost use Rattle.bson_program.specs.Messages.{IsFailureObject, IsFileFailureObje
 ghost use Rattle.bson_program.specs.Messages.{file_tokens, with_json_file};
 
 use crate::invocation::STDIO;
-use crate::messages::{cause_suffix, document_error_message, show_name};
+use crate::messages::{cause_suffix, show_name};
 use crate::run::RunFailure;
-use bson_run::diagnostic::write_message;
+use bson_codec::diagnostic::{DiagnosticFormat, write_message};
 use json::Writer;
 use std::alloc::{AllocError, Global};
 use std::io::Error;
@@ -15,14 +15,18 @@ const TERMINAL_MESSAGE: &str = "BSON bytes are not written to a terminal; give -
 
 const NOT_ARRAY_MESSAGE: &str = "not a JSON array, which --array reads";
 
-/// Returns the JSON object for what stopped the run: the file, the code and the message. A rejected text has
-/// its own object, to which the file is added.
+/// Returns the JSON object for what stopped the run: the file, the code and the message. A rejected text or
+/// document has its own object, to which the file is added.
 pub fn failure_json(alloc: Global, failure: RunFailure<'_>) -> Result<Vec<u8>, AllocError>
     ensures { IfOk result (λ line. IsFailureObject failure.entry line.items) }
 {
     match failure {
-        RunFailure::Input(file_name, error) => input_failure(alloc, file_name, error),
-        RunFailure::Output(file_name, error) => output_failure(alloc, file_name, error),
+        RunFailure::Input(file_name, error) => {
+            file_failure(alloc, "cannot_read", "read ", file_name, "input", error)
+        }
+        RunFailure::Output(file_name, error) => {
+            file_failure(alloc, "cannot_write", "write ", file_name, "output", error)
+        }
         RunFailure::InputIsOutput(file_name) => {
             let shown_name = show_name(alloc, file_name, "input")?;
             let message = format!(in alloc; "{shown_name} is both an input and the output")?;
@@ -40,40 +44,27 @@ pub fn failure_json(alloc: Global, failure: RunFailure<'_>) -> Result<Vec<u8>, A
             report.as_bytes(),
         ),
         RunFailure::Document(file_name, run_end) => {
-            let message = document_error_message(alloc, run_end)?;
-            failure_object(alloc, file_name, "malformed", message.trim_end())
+            let report = run_end.to_line(alloc, DiagnosticFormat::Json)?;
+            with_json_file(alloc, file_name, report.as_bytes())
         }
     }
 }
 
-// Returns the object for an input that can't be read.
-fn input_failure(
+// Returns the object for a file that can't be read or written.
+fn file_failure(
     alloc: Global,
+    code: &str,
+    verb: &str,
     file_name: &str,
+    stream: &str,
     error: Option<Error>,
 ) -> Result<Vec<u8>, AllocError>
-    ensures { IfOk result (λ line. IsFileFailureObject (codes "cannot_read") (codes "read ") file_name.now
-        (codes "input") error line.items) }
+    ensures { IfOk result (λ line. IsFileFailureObject code.now verb.now file_name.now stream.now error line.items) }
 {
-    let shown_name = show_name(alloc, file_name, "input")?;
+    let shown_name = show_name(alloc, file_name, stream)?;
     let cause = cause_suffix(alloc, error)?;
-    let message = format!(in alloc; "cannot read {shown_name}{cause}")?;
-    failure_object(alloc, file_name, "cannot_read", &message)
-}
-
-// Returns the object for an output that can't be written.
-fn output_failure(
-    alloc: Global,
-    file_name: &str,
-    error: Option<Error>,
-) -> Result<Vec<u8>, AllocError>
-    ensures { IfOk result (λ line. IsFileFailureObject (codes "cannot_write") (codes "write ") file_name.now
-        (codes "output") error line.items) }
-{
-    let shown_name = show_name(alloc, file_name, "output")?;
-    let cause = cause_suffix(alloc, error)?;
-    let message = format!(in alloc; "cannot write {shown_name}{cause}")?;
-    failure_object(alloc, file_name, "cannot_write", &message)
+    let message = format!(in alloc; "cannot {verb}{shown_name}{cause}")?;
+    failure_object(alloc, file_name, code, &message)
 }
 
 // Returns the object of a file, a code and a message.
@@ -110,8 +101,15 @@ fn named_report(alloc: Global, file_name: &str, report: &[u8]) -> Result<Vec<u8>
     if report.is_empty() {
         return failure_object(alloc, file_name, "out_of_memory", "out of memory");
     }
+    with_json_file(alloc, file_name, report)
+}
+
+// Returns the object with the name of its file as the first member.
+fn with_json_file(alloc: Global, file_name: &str, json: &[u8]) -> Result<Vec<u8>, AllocError>
+    ensures { IfOk result (λ line. line.items ≡ with_json_file file_name.now json.now) }
+{
     let mut line = Vec::new(alloc);
-    push_named_json(alloc, &mut line, file_name, report)?;
+    push_named_json(alloc, &mut line, file_name, json)?;
     Ok(line)
 }
 

@@ -109,6 +109,7 @@ reported with its number, its offset in the file, and the offset of the error in
   --keep-going            (not same) skips a rejected document and reports it, if all the bytes of its length are present
   --jobs N                (not same) converts N parts of named files at a time
   --unordered             (same) ignores the order of documents
+  --diagnostics FORMAT    (not same) writes errors as text, the default, or as JSON objects with their positions: json
   -o FILE, --output FILE  (not check, same) writes the output to FILE, as a whole at the end
 
 `bson --help` says more of each option, and lists the statuses.";
@@ -191,8 +192,7 @@ a regular expression has a 0 byte. Each part must have fewer than 2^31 bytes. By
                           documents, and converts N parts at a time. Output, messages and status are those of one job.
                           Many small files are one job
   --unordered             (same) ignores the order of values: each value must occur as often in both files
-  --diagnostics FORMAT    (not decode, same) writes errors as text, the default, or as JSON objects with their
-                          positions: json
+  --diagnostics FORMAT    (not same) writes errors as text, the default, or as JSON objects with their positions: json
   -o FILE, --output FILE  (not check, same) writes the output to FILE, as a whole at the end; if a run ends early, FILE
                           stays as it was
   -h, --help; -v, --version  after a command, `--help` writes the help of that command alone

@@ -43,9 +43,9 @@ use crate::invocation::{
 use crate::messages::{counts_summary, failure_message};
 use crate::run::{RunFailure, run};
 use crate::usage_error::usage_error_line;
+use bson_codec::diagnostic::DiagnosticFormat;
 use bson_convert::fault::Fault;
 use bson_convert::program::{command_line_arguments, report_failure};
-use bson_run::task::DiagnosticFormat;
 use std::alloc::AllocError;
 use std::io::{ErrorKind, Write};
 use std::process::ExitCode;

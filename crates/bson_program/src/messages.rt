@@ -7,10 +7,10 @@ ghost use Rattle.bson_program.specs.Messages.{text_location, text_message, docum
 use crate::failure_json::push_named_json;
 use crate::invocation::{Input, STDIO};
 use crate::run::RunFailure;
+use bson_codec::diagnostic::DiagnosticFormat;
 use bson_codec::run_end::{RunEnd, RunFault};
 use bson_convert::error;
 use bson_run::lines::Counts;
-use bson_run::task::DiagnosticFormat;
 use std::alloc::{AllocError, Global};
 use std::io::Error;
 
@@ -97,8 +97,8 @@ fn document_failure_line(
     format!(in alloc; "{prefix}: {message}")
 }
 
-/// Why it stopped there; of a stream alone without the document.
-pub fn document_error_message(alloc: Global, run_end: RunEnd) -> Result<String, AllocError>
+// Why it stopped there; of a stream alone without the document.
+fn document_error_message(alloc: Global, run_end: RunEnd) -> Result<String, AllocError>
     ensures { IfOk result
         (λ message. string_bytes message ≡ document_error_message run_end.number run_end.start run_end.fault) }
 {
@@ -107,7 +107,7 @@ pub fn document_error_message(alloc: Global, run_end: RunEnd) -> Result<String, 
             alloc,
             run_end.fault.message(),
         ),
-        _ => run_end.to_line(alloc),
+        _ => run_end.to_line(alloc, DiagnosticFormat::Text),
     }
 }
 

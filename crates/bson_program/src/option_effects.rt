@@ -8,8 +8,9 @@ ghost use Rattle.bson_program.specs.Requests.{requested_diagnostics, requested_k
 use crate::arguments::{ExpectedArg, ParsedArg};
 use crate::invocation::{Flag, Input, Purpose, UsageError};
 use bson::extjson::{Doubles, KeyOrder};
+use bson_codec::diagnostic::DiagnosticFormat;
 use bson_model::options::DuplicateKeys;
-use bson_run::task::{Criterion, DiagnosticFormat, Output, Preprocessing};
+use bson_run::task::{Criterion, Output, Preprocessing};
 use bson_scalar::form::Layout;
 
 /// Sets what an option sets, unless it occurs twice.

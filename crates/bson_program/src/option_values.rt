@@ -5,7 +5,7 @@ ghost use Rattle.bson_program.specs.Invocation.{format_name, IsInvalidCount, IsI
 ghost use Rattle.bson_program.specs.Requests.{or_standard_input};
 
 use crate::invocation::STDIO;
-use bson_run::task::DiagnosticFormat;
+use bson_codec::diagnostic::DiagnosticFormat;
 use std::alloc::{AllocError, Global};
 
 /// Returns the files that are read: standard input if none is named.

@@ -4,7 +4,7 @@ ghost use Rattle.std.specs.Io.KnownBytes.{Appends};
 ghost use Rattle.bson_program.specs.RunFailures.{diagnostics_of_file};
 
 use crate::messages::add_file_name;
-use bson_run::task::DiagnosticFormat;
+use bson_codec::diagnostic::DiagnosticFormat;
 use std::alloc::Global;
 use std::cell::Cell;
 use std::io::{Read, Write};

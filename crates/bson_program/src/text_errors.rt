@@ -3,12 +3,13 @@ ghost use Rattle.std.specs.Prelude.{◌≡◌, IfOk, string_bytes};
 ghost use Rattle.bson_program.specs.TextErrors.{IsErrorReport, error_json, error_line, offset_in_input, position_in_input};
 ghost use Rattle.bson_program.specs.TextErrors.{position_message, text_start_line, value_line};
 
+use bson_codec::diagnostic::DiagnosticFormat;
 use bson_convert::error::Error;
 use bson_run::diagnostic::explained_json;
 use bson_run::explain::{Explanation, explanation_under};
 use bson_run::position::{Position, line_at};
 use bson_run::syntax_error::SyntaxError;
-use bson_run::task::{DiagnosticFormat, Task};
+use bson_run::task::Task;
 use std::alloc::{AllocError, Global};
 
 /// A text of an input.

@@ -10,7 +10,6 @@ use Rattle.std.specs.Str.{chars}
 use Rattle.std.proofs.lemmas.Bool.{le-ltb, lt-ltb}
 use Rattle.std.proofs.lemmas.Fmt.{hex_byte}
 use Rattle.std.proofs.lemmas.Option.{slice_get_cases, slice_get_within}
-use Rattle.json.specs.Token.{Token}
 use Rattle.bson_tree.specs.Place.{path_text, path_of}
 use Rattle.bson_tree.specs.declared.place.Place.{Place}
 use Rattle.bson_convert.specs.declared.error.Error.{Error}
@@ -99,12 +98,3 @@ pub cut_there : (max_chars : ℕ) (add_diagnostic : ℕ → List ℕ) (full_mess
 cut_there max_chars add_diagnostic full_message said more next e at is =
     is ∙ ap (λ s. s ++ cond (is_some next) (codes "..") []) e
     ∙ ap (λ b. flat_map add_diagnostic (take max_chars (chars full_message)) ++ cond b (codes "..") []) (are_more next (chars full_message) max_chars at)
-
--- ---- tokens, a part after another
-
-pub two_added : (old x y one two : List Token) → one ≡ old ++ x → two ≡ one ++ y → two ≡ old ++ (x ++ y)
-two_added old x y one two e f = f ∙ ap (λ l. l ++ y) e ∙ append_assoc old x y
-
-pub three_added : (old x y z one two three : List Token) → one ≡ old ++ x → two ≡ one ++ y → three ≡ two ++ z
-    → three ≡ old ++ (x ++ y ++ z)
-three_added old x y z one two three e f g = two_added old (x ++ y) z two three (two_added old x y one two e f) g

@@ -3,12 +3,14 @@ use Rattle.std.specs.Prelude.{◌≡◌, ◌==◌, ℕ, List, [], ◌∷◌, ◌
 use Rattle.std.specs.Fmt.{decimal}
 use Rattle.std.specs.List.{flat_map}
 use Rattle.std.specs.Str.{chars}
-use Rattle.json.specs.Print.{print}
 use Rattle.json.specs.Token as token
 use Rattle.json.specs.Token.{Token}
 use Rattle.bson_tree.specs.Place.{PathSegment, key, element}
 use Rattle.bson_tree.specs.declared.place.Reason.{Reason}
 use Rattle.bson_tree.specs.declared.place.Reason.TheVariants.{BadObjectId, WrongShape}
+use Rattle.bson_codec.specs.Diagnostics.{first_number_tokens, json_line, message_tokens, number_tokens}
+use Rattle.bson_codec.specs.declared.diagnostic.DiagnosticFormat.{DiagnosticFormat}
+use Rattle.bson_codec.specs.declared.diagnostic.DiagnosticFormat.TheVariants.{Text, Json}
 use Rattle.bson_convert.specs.Convert.{newline}
 use Rattle.bson_convert.specs.Messages.{error_message}
 use Rattle.bson_convert.specs.declared.error.Error.{Error}
@@ -16,8 +18,6 @@ use Rattle.bson_convert.specs.declared.error.Error.TheVariants as error
 use Rattle.bson_run.specs.ErrorMessages.{IsExplanation, column_at, explanation_message, explanation_offset, explanation_path}
 use Rattle.bson_run.specs.declared.position.Position.{Position}
 use Rattle.bson_run.specs.declared.explain.Explanation.{Explanation}
-use Rattle.bson_run.specs.declared.task.DiagnosticFormat.{DiagnosticFormat}
-use Rattle.bson_run.specs.declared.task.DiagnosticFormat.TheVariants.{Text, Json}
 
 -- ---- the code of an error
 
@@ -59,23 +59,8 @@ json_pointer (segment ∷ outer_segments) = json_pointer outer_segments ++ codes
 
 -- ---- the JSON object
 
--- a number, or null
-abbrev pub number_or_null : Option ℕ → Token
-number_or_null None = token.null
-number_or_null (Some number) = token.number (decimal number)
-
-abbrev pub number_tokens : (name : List ℕ) → Option ℕ → List Token
-number_tokens name number = token.key name ∷ number_or_null number ∷ []
-
-abbrev pub text_tokens : (name text : List ℕ) → List Token
-text_tokens name text = token.key name ∷ token.string text ∷ []
-
--- the beginning of the object
-abbrev pub line_tokens : (line_number : ℕ) → List Token
-line_tokens line_number = token.begin_object ∷ token.key (codes "line") ∷ token.number (decimal line_number) ∷ []
-
 abbrev pub position_tokens : Position → List Token
-position_tokens position = line_tokens position.line ++ number_tokens (codes "column") position.column
+position_tokens position = first_number_tokens (codes "line") position.line ++ number_tokens (codes "column") position.column
     ++ number_tokens (codes "offset") position.offset
 
 abbrev pub path_tokens : Option (List PathSegment) → List Token
@@ -83,16 +68,8 @@ path_tokens None = number_tokens (codes "path") None ++ number_tokens (codes "po
 path_tokens (Some path) = (token.key (codes "path") ∷ token.begin_array ∷ []) ++ segment_tokens path
     ++ token.end_array ∷ token.key (codes "pointer") ∷ token.string (json_pointer path) ∷ []
 
-abbrev pub message_tokens : (code message : List ℕ) → List Token
-message_tokens code message =
-    text_tokens (codes "code") code ++ text_tokens (codes "message") message ++ token.end_object ∷ []
-
 abbrev pub diagnostic_tokens : Position → Option (List PathSegment) → (code message : List ℕ) → List Token
 diagnostic_tokens position path code message = position_tokens position ++ path_tokens path ++ message_tokens code message
-
--- the compact text of the object, on a line
-abbrev pub json_line : List Token → List ℕ
-json_line token_list = print token_list ++ newline
 
 -- ---- the diagnostic on a line
 

@@ -10,7 +10,7 @@ pub use Rattle.bson_convert.specs.declared.error.Error.{Error}
 pub use Rattle.bson_convert.specs.declared.error.Error.TheVariants.{CannotRead, NotJson, NotExtendedJson, NoBytes, OutOfMemory}
 pub use Rattle.bson_convert.specs.declared.error.Error.TheVariants.{CannotWrite, NotCanonical}
 pub use Rattle.bson_run.specs.declared.line_run_state.LineRunState.{LineRunState}
-pub use Rattle.bson_run.specs.declared.task.DiagnosticFormat.{DiagnosticFormat}
+pub use Rattle.bson_codec.specs.declared.diagnostic.DiagnosticFormat.{DiagnosticFormat}
 pub use Rattle.bson_run.specs.declared.task.OnRefusal.{OnRefusal}
 pub use Rattle.bson_run.specs.declared.task.Output.{Output}
 pub use Rattle.bson_run.specs.declared.task.Task.{Task}

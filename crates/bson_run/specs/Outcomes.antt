@@ -6,7 +6,7 @@ use Rattle.bson_convert.specs.declared.error.Error.{Error}
 use Rattle.bson_convert.specs.declared.error.Error.TheVariants.{NotJson, NotExtendedJson, NoBytes, NotCanonical}
 use Rattle.bson_run.specs.Lines.{line_text, IsRejectedLineIn, LineOutcomes}
 use Rattle.bson_run.specs.Diagnostic.{IsDiagnostic}
-use Rattle.bson_run.specs.declared.task.DiagnosticFormat.{DiagnosticFormat}
+use Rattle.bson_codec.specs.declared.diagnostic.DiagnosticFormat.{DiagnosticFormat}
 use Rattle.bson_run.specs.declared.task.OnRefusal.{OnRefusal}
 use Rattle.bson_run.specs.declared.task.OnRefusal.TheVariants.{Stop}
 use Rattle.bson_run.specs.declared.task.Task.{Task}

@@ -5,14 +5,18 @@ ghost use Rattle.std.specs.List.{flat_map};
 ghost use Rattle.std.specs.Str.{chars};
 ghost use Rattle.bson_tree.specs.Place.{segment_of};
 ghost use Rattle.bson_convert.specs.Convert.{newline};
-ghost use Rattle.bson_run.specs.Diagnostic.{IsDiagnostic, diagnostic_tokens, error_code, json_line, message_tokens};
-ghost use Rattle.bson_run.specs.Diagnostic.{explained_message, json_pointer, line_tokens, number_tokens, path_tokens, pointer_char};
-ghost use Rattle.bson_run.specs.Diagnostic.{position_tokens, reference_token, segment_tokens, text_tokens};
+ghost use Rattle.bson_codec.specs.Diagnostics.{json_line};
+ghost use Rattle.bson_run.specs.Diagnostic.{IsDiagnostic, diagnostic_tokens, error_code};
+ghost use Rattle.bson_run.specs.Diagnostic.{explained_message, json_pointer, path_tokens, pointer_char};
+ghost use Rattle.bson_run.specs.Diagnostic.{position_tokens, reference_token, segment_tokens};
 ghost use Rattle.bson_run.specs.ErrorMessages.{explanation_path};
 
 use crate::explain::{Explanation, explanation_under};
 use crate::position::Position;
-use crate::task::{DiagnosticFormat, Task};
+use crate::task::Task;
+use bson_codec::diagnostic::{
+    DiagnosticFormat, begin_with_number, into_line, write_message, write_number,
+};
 use bson_convert::error::Error;
 use bson_tree::place::{Reason, Segment};
 use json::Writer;
@@ -62,48 +66,14 @@ impl Diagnostic<'_, '_> {
     }
 }
 
-// Returns the text that was written, and a newline.
-fn into_line(writer: Writer) -> Result<String, AllocError>
-    requires { writer.before ≡ [] }
-    ensures { IfOk result (λ line. string_bytes line ≡ json_line writer.tokens) }
-{
-    let Ok(mut line) = String::from_utf8(writer.into_inner()) else {
-        unreachable!();
-    };
-    line.push_str("\n")?;
-    Ok(line)
-}
-
 // Begins the object, and writes the members of a position.
 fn write_position(writer: &mut Writer, position: Position) -> Result<(), AllocError>
     ensures added { OnOk result (writer.new.tokens ≡ writer.old.tokens ++ position_tokens position) }
     ensures before { writer.new.before ≡ writer.old.before }
 {
-    write_line(writer, position.line)?;
+    begin_with_number(writer, "line", position.line)?;
     write_number(writer, "column", position.column)?;
     write_number(writer, "offset", position.offset)
-}
-
-// Begins the object, and writes the number of the line.
-fn write_line(writer: &mut Writer, line: u64) -> Result<(), AllocError>
-    ensures added { OnOk result (writer.new.tokens ≡ writer.old.tokens ++ line_tokens line) }
-    ensures before { writer.new.before ≡ writer.old.before }
-{
-    writer.begin_object()?;
-    writer.key("line")?;
-    writer.u64(line)
-}
-
-// Writes a member with a number, or null.
-fn write_number(writer: &mut Writer, name: &str, number: Option<usize>) -> Result<(), AllocError>
-    ensures added { OnOk result (writer.new.tokens ≡ writer.old.tokens ++ number_tokens name.now number) }
-    ensures before { writer.new.before ≡ writer.old.before }
-{
-    writer.key(name)?;
-    match number {
-        Some(number) => writer.u64(number as u64),
-        None => writer.null(),
-    }
 }
 
 // Writes the members of a path.
@@ -209,29 +179,6 @@ fn push_pointer_char(pointer: &mut String, character: char) -> Result<(), AllocE
         return pointer.push_str("~1");
     }
     pointer.push(character)
-}
-
-/// Writes the members `code` and `message` to an object that has begun, and ends the object.
-///
-/// # Errors
-///
-/// `AllocError` if an allocation fails.
-pub fn write_message(writer: &mut Writer, code: &str, message: &str) -> Result<(), AllocError>
-    ensures added { OnOk result (writer.new.tokens ≡ writer.old.tokens ++ message_tokens code.now message.now) }
-    ensures before { writer.new.before ≡ writer.old.before }
-{
-    write_text(writer, "code", code)?;
-    write_text(writer, "message", message)?;
-    writer.end_object()
-}
-
-// Writes a member with a string.
-fn write_text(writer: &mut Writer, name: &str, text: &str) -> Result<(), AllocError>
-    ensures added { OnOk result (writer.new.tokens ≡ writer.old.tokens ++ text_tokens name.now text.now) }
-    ensures before { writer.new.before ≡ writer.old.before }
-{
-    writer.key(name)?;
-    writer.string(text)
 }
 
 /// Returns the code of an error: one word that programs compare.

@@ -4,6 +4,7 @@ ghost use Rattle.bson_run.specs.Preprocessed.{default_preprocessing};
 ghost use Rattle.bson_run.specs.TaskNames.{output_name};
 ghost use Rattle.bson_run.specs.declared.task.Output.{Output};
 
+use bson_codec::diagnostic::DiagnosticFormat;
 use bson_convert::mode::Mode;
 use bson_model::options::DuplicateKeys;
 
@@ -27,28 +28,6 @@ pub struct Task {
     pub output: Output,
     /// The format of the diagnostic for a line that is rejected.
     pub diagnostics: DiagnosticFormat,
-}
-
-/// The format of diagnostics.
-///
-/// ```
-/// let mut lines: &[u8] = b"[";
-/// let (mut output, mut diagnostics) = (Vec::new(alloc), Vec::new(alloc));
-/// let task = Task {
-///     diagnostics: DiagnosticFormat::Json,
-///     ..Task::new(Output::Nothing(Criterion::Valid))
-/// };
-/// let mut run = LineRun::new(alloc, task, OnRefusal::KeepGoing);
-/// drop(run.run(alloc, &mut lines, &mut output, &mut diagnostics));
-/// rt.print(str::from_utf8(&diagnostics)?)?;
-/// // {"line":1,"column":1,"offset":0,"path":null,"pointer":null,"code":"not_json","message":"not JSON at column 1 (unexpected end of input)"}
-/// ```
-#[derive(Clone, Copy, PartialEq, Eq, Debug)]
-pub enum DiagnosticFormat {
-    /// A message for people, on one line.
-    Text,
-    /// A JSON object, on one line.
-    Json,
 }
 
 /// What is checked or rewritten before a text is read. The default is nothing.

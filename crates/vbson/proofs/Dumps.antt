@@ -6,6 +6,7 @@ use Rattle.std.proofs.lemmas.Str.{IsUtf8-append}
 use Rattle.bson_codec.proofs.Offered.{dump_utf8, ends_inside, diagnostic_utf8}
 use Rattle.bson_codec.specs.DumpRuns.{EndsAt, EndsInside, IsFaultOfDocument}
 use Rattle.bson_codec.specs.Diagnostics.{diagnostic_of}
+use Rattle.bson_codec.specs.declared.diagnostic.DiagnosticFormat.TheVariants as format
 use Rattle.bson_codec.specs.declared.documents.Run.{Run}
 use Rattle.bson_codec.specs.declared.run_end.RunFault.{RunFault}
 use Rattle.bson_convert.specs.Convert.{newline}
@@ -21,7 +22,7 @@ wrote output_before output_after output is none = sym (is ∙ ap (λ x. x ++ out
 pub cut_block : (run : Run) (block output_before output held diagnostics all : List ℕ) (after : Option (List ℕ)) (fault : RunFault)
     (number refused start : ℕ)
     → EndsAt run (Some block) after (Some output_before) (Some output) (Some held) (Some diagnostics) fault number refused start
-    → output_before ≡ [] → held ≡ [] → IsFaultOfDocument fault → all ≡ diagnostics ++ diagnostic_of number start fault
+    → output_before ≡ [] → held ≡ [] → IsFaultOfDocument fault → all ≡ diagnostics ++ diagnostic_of format.Text number start fault
     → IsOutputOfDocuments run block output all number start
 cut_block run block output_before output held diagnostics all after fault number refused start h none also is last_diagnostic =
     let (out, diagnostics_after, inside, written, reports_appended) =
@@ -41,7 +42,7 @@ pub gives_utf8 : (run : Run) (block output all_diagnostics : List ℕ) (count co
 gives_utf8 run block output all_diagnostics count consumed (inl all) = dump_utf8 all.documents
 gives_utf8 run block output all_diagnostics count consumed (inr it) =
     let before = dump_utf8 it.is_truncated.documents in
-    let diagnostics_before = diagnostic_utf8 count consumed it.fault in
+    let diagnostics_before = diagnostic_utf8 format.Text count consumed it.fault in
     (before.0, subst IsUtf8 (sym it.last_diagnostic) (IsUtf8-append it.diagnostics _ before.1 diagnostics_before))
 
 -- the text of a line

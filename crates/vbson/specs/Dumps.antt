@@ -4,6 +4,7 @@ use Rattle.bson_model.specs.declared.options.DuplicateKeys.{DuplicateKeys}
 use Rattle.bson_model.specs.declared.options.Options.{Options}
 use Rattle.bson_codec.specs.DumpRuns.{Dump, EndsInside, IsFaultOfDocument}
 use Rattle.bson_codec.specs.Diagnostics.{diagnostic_of}
+use Rattle.bson_codec.specs.declared.diagnostic.DiagnosticFormat.TheVariants as format
 use Rattle.bson_codec.specs.declared.documents.Line.{Line}
 use Rattle.bson_codec.specs.declared.documents.Line.TheVariants.{Text, Shown}
 use Rattle.bson_codec.specs.declared.documents.Run.{Run}
@@ -26,8 +27,14 @@ dump_line_format Show = Shown
 
 -- a rejected document adds a diagnostic, and the run continues
 abbrev pub dump_run_of_mode : DuplicateKeys → Options → Mode → Run
-dump_run_of_mode keys options mode =
-    record { depth = depth; duplicate_keys = keys; options = options; line = dump_line_format mode; keep_going = true }
+dump_run_of_mode keys options mode = record {
+  depth = depth;
+  duplicate_keys = keys;
+  options = options;
+  line = dump_line_format mode;
+  keep_going = true;
+  diagnostics = format.Text;
+}
 
 -- the whole block consists of so many documents, with this output and these diagnostics
 pub record IsWholeDump (run : Run) (block output all_diagnostics : List ℕ)
@@ -44,7 +51,7 @@ pub record IsTruncatedDump (run : Run) (block output all_diagnostics : List ℕ)
   pub refused : ℕ
   pub fault : RunFault
   pub is_truncated : EndsInside run block output diagnostics fault document_count refused consumed_bytes
-  pub last_diagnostic : all_diagnostics ≡ diagnostics ++ diagnostic_of document_count consumed_bytes fault
+  pub last_diagnostic : all_diagnostics ≡ diagnostics ++ diagnostic_of format.Text document_count consumed_bytes fault
 
 abbrev pub IsOutputOfDocuments : Run → (block output all_diagnostics : List ℕ) → (document_count consumed_bytes : ℕ)
     → Type 0
@@ -72,4 +79,4 @@ pub record DocumentsAreDecoded (options : CallOptions) (mode_number : ℕ) (bloc
 -- the diagnostics, followed by that of the last document
 abbrev pub AddsLastDiagnostic : RunEnd → (diagnostics all_diagnostics : List ℕ) → Type 0
 AddsLastDiagnostic run_end diagnostics all_diagnostics = IsFaultOfDocument run_end.fault
-    × (all_diagnostics ≡ diagnostics ++ diagnostic_of run_end.number run_end.start run_end.fault)
+    × (all_diagnostics ≡ diagnostics ++ diagnostic_of format.Text run_end.number run_end.start run_end.fault)

@@ -5,7 +5,7 @@ use Rattle.bson_convert.specs.declared.error.Error.{Error}
 use Rattle.bson_convert.specs.declared.error.Error.TheVariants.{CannotRead, CannotWrite, OutOfMemory}
 use Rattle.bson_run.specs.Lines.{HaveLineOutcomes, IsRejectedLineIn, lines as lines_of, line_text}
 use Rattle.bson_convert.specs.declared.mode.Mode.{Mode}
-use Rattle.bson_run.specs.declared.task.DiagnosticFormat.TheVariants as format
+use Rattle.bson_codec.specs.declared.diagnostic.DiagnosticFormat.TheVariants as format
 use Rattle.bson_run.specs.declared.task.OnRefusal.TheVariants.{KeepGoing, Stop}
 use Rattle.bson_run.specs.declared.task.Task.{Task}
 use Rattle.bson_run.specs.declared.task.Output.{Output}

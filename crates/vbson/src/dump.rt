@@ -12,6 +12,7 @@ use crate::status;
 use crate::text::{Text, append_newline, text_of_line};
 use bson::extjson::{Form, Options};
 use bson_codec::de::{DEPTH, DuplicateKeys};
+use bson_codec::diagnostic::DiagnosticFormat;
 use bson_codec::documents::{Line, Run, run_documents};
 use bson_codec::run_end::{RunEnd, RunFault};
 use bson_convert::mode::Mode;
@@ -77,6 +78,7 @@ fn dump_run_of_mode(keys: DuplicateKeys, options: Options, mode: Mode) -> Run
         options,
         line: line_kind_of_mode(mode),
         keep_going: true,
+        diagnostics: DiagnosticFormat::Text,
     }
 }
 
@@ -148,7 +150,7 @@ fn add_last_diagnostic(alloc: Global, run_end: RunEnd, mut diagnostics: Vec<u8>)
 {
     match run_end.fault {
         RunFault::Malformed { .. } | RunFault::FiniteDouble => {
-            let Ok(last_diagnostic) = run_end.to_line(alloc) else {
+            let Ok(last_diagnostic) = run_end.to_line(alloc, DiagnosticFormat::Text) else {
                 return None;
             };
             let Ok(()) = diagnostics.extend_from_slice(last_diagnostic.as_bytes()) else {

@@ -1,7 +1,8 @@
 use Rattle.std.proofs.Common.{◌≡◌, ◌++◌, ◌∙◌, ap, string_bytes}
 use Rattle.std.proofs.lemmas.Result.{IfOk-weaker}
 use Rattle.bson_convert.specs.Messages.{error_message}
-use Rattle.bson_run.specs.Diagnostic.{diagnostic_tokens, error_code, json_line}
+use Rattle.bson_codec.specs.Diagnostics.{json_line}
+use Rattle.bson_run.specs.Diagnostic.{diagnostic_tokens, error_code}
 use Rattle.bson_run.specs.ErrorMessages.{explanation_path}
 use Rattle.bson_program.specs.TextErrors.{position_in_input}
 use Rattle.bson_program.proofs.text_errors.error_json.Goals as goal

@@ -1,6 +1,7 @@
 use Rattle.std.proofs.Common.{◌∙◌, ap}
 use Rattle.bson_run.proofs.LinesLaws.{oks_with}
-use Rattle.bson_run.specs.Diagnostic.{diagnostic_tokens, json_line}
+use Rattle.bson_codec.specs.Diagnostics.{json_line}
+use Rattle.bson_run.specs.Diagnostic.{diagnostic_tokens}
 use Rattle.bson_run.specs.ErrorMessages.{explanation_path}
 use Rattle.bson_run.proofs.diagnostic.explained_json.Goals as goal
 

@@ -2,7 +2,8 @@ use Rattle.std.proofs.Common.{◌≡◌, ◌++◌, ◌∙◌, ap, codes, string_
 use Rattle.std.specs.Fmt.{decimal}
 use Rattle.bson_convert.specs.Convert.{newline}
 use Rattle.bson_run.proofs.LinesLaws.{oks_with}
-use Rattle.bson_run.specs.Diagnostic.{IsDiagnostic, diagnostic_tokens, error_code, explained_message, json_line, position_at}
+use Rattle.bson_codec.specs.Diagnostics.{json_line}
+use Rattle.bson_run.specs.Diagnostic.{IsDiagnostic, diagnostic_tokens, error_code, explained_message, position_at}
 use Rattle.bson_run.specs.ErrorMessages.{explanation_offset, explanation_path}
 use Rattle.bson_run.proofs.diagnostic.line_diagnostic.Goals as goal
 

@@ -1,7 +1,7 @@
 use Rattle.std.proofs.Common.{None, codes}
 use Rattle.std.proofs.lemmas.Result.{on_ok_weaker}
-use Rattle.bson_run.proofs.Explaining.{two_added}
-use Rattle.bson_run.specs.Diagnostic.{number_tokens}
+use Rattle.bson_codec.proofs.Offered.{two_added}
+use Rattle.bson_codec.specs.Diagnostics.{number_tokens}
 use Rattle.bson_run.proofs.diagnostic.write_no_path.Goals as goal
 
 pub returns-clause-added : goal.returns-clause-added

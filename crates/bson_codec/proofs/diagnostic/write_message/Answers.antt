@@ -1,9 +1,9 @@
 use Rattle.std.proofs.Common.{[], ◌∷◌, codes}
 use Rattle.std.proofs.lemmas.Result.{on_ok_weaker}
 use Rattle.json.specs.Token.{end_object}
-use Rattle.bson_run.proofs.Explaining.{three_added}
-use Rattle.bson_run.specs.Diagnostic.{text_tokens}
-use Rattle.bson_run.proofs.diagnostic.write_message.Goals as goal
+use Rattle.bson_codec.proofs.Added.{three_added}
+use Rattle.bson_codec.specs.Diagnostics.{text_tokens}
+use Rattle.bson_codec.proofs.diagnostic.write_message.Goals as goal
 
 pub returns-clause-added : goal.returns-clause-added
 returns-clause-added c =
