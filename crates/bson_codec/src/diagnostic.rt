@@ -1,6 +1,6 @@
 //! The format of diagnostics, and the members of their JSON objects.
-ghost use Rattle.std.specs.Prelude.{◌≡◌, ◌++◌, [], IfOk, OnOk, string_bytes};
-ghost use Rattle.bson_codec.specs.Diagnostics.{first_number_tokens, json_line, message_tokens, number_tokens, text_tokens};
+ghost use Rattle.std.specs.Prelude.{◌≡◌, ◌++◌, IfOk, OnOk};
+ghost use Rattle.bson_codec.specs.Diagnostics.{first_number_tokens, message_tokens, number_tokens, text_tokens};
 
 use json::Writer;
 use std::alloc::{AllocError, Global};
@@ -80,24 +80,4 @@ fn write_text(writer: &mut Writer, name: &str, text: &str) -> Result<(), AllocEr
 {
     writer.key(name)?;
     writer.string(text)
-}
-
-/// Returns the text that was written, and a newline.
-///
-/// # Errors
-///
-/// `AllocError` if an allocation fails.
-///
-/// # Requires
-///
-/// The writer began with no bytes.
-pub fn into_line(writer: Writer) -> Result<String, AllocError>
-    requires { writer.before ≡ [] }
-    ensures { IfOk result (λ line. string_bytes line ≡ json_line writer.tokens) }
-{
-    let Ok(mut line) = String::from_utf8(writer.into_inner()) else {
-        unreachable!();
-    };
-    line.push_str("\n")?;
-    Ok(line)
 }

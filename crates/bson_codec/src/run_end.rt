@@ -3,9 +3,7 @@ ghost use Rattle.std.specs.Prelude.{◌≡◌, IfOk, string_bytes};
 ghost use Rattle.bson_codec.specs.Diagnostics.{diagnostic_of, error_offset_of, fault_kind_message, full_message};
 ghost use Rattle.bson_codec.specs.Diagnostics.{run_fault_code, run_fault_message};
 
-use crate::diagnostic::{
-    DiagnosticFormat, begin_with_number, into_line, write_message, write_number,
-};
+use crate::diagnostic::{DiagnosticFormat, begin_with_number, write_message, write_number};
 use bson_bytes::fault::FaultKind;
 use json::Writer;
 use std::alloc::{AllocError, Global};
@@ -123,7 +121,11 @@ fn json_object(
     write_number(&mut writer, "start", Some(document_offset as usize))?;
     write_number(&mut writer, "offset", fault.offset())?;
     write_message(&mut writer, fault.code(), &message)?;
-    into_line(writer)
+    let Ok(mut line) = String::from_utf8(writer.into_inner()) else {
+        unreachable!();
+    };
+    line.push_str("\n")?;
+    Ok(line)
 }
 
 impl RunFault {

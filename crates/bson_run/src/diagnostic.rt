@@ -14,9 +14,7 @@ ghost use Rattle.bson_run.specs.ErrorMessages.{explanation_path};
 use crate::explain::{Explanation, explanation_under};
 use crate::position::Position;
 use crate::task::Task;
-use bson_codec::diagnostic::{
-    DiagnosticFormat, begin_with_number, into_line, write_message, write_number,
-};
+use bson_codec::diagnostic::{DiagnosticFormat, begin_with_number, write_message, write_number};
 use bson_convert::error::Error;
 use bson_tree::place::{Reason, Segment};
 use json::Writer;
@@ -62,7 +60,11 @@ impl Diagnostic<'_, '_> {
         write_position(&mut writer, self.position)?;
         write_path(alloc, &mut writer, self.path)?;
         write_message(&mut writer, self.code, self.message)?;
-        into_line(writer)
+        let Ok(mut line) = String::from_utf8(writer.into_inner()) else {
+            unreachable!();
+        };
+        line.push_str("\n")?;
+        Ok(line)
     }
 }
 
