@@ -172,7 +172,7 @@ stops_in k invocation stop name content bytes rest text next end start has_more 
 
 -- the text is rejected for the error, with the words for it
 pub text_fails : (invocation : Invocation) (fault : Error) (place content text : List ℕ) (start number : ℕ)
-    → IsTextRejected invocation.options invocation.task fault text → IsErrorReport invocation.task.diagnostics fault place number content start text
+    → IsTextRejected invocation.options invocation.task fault text → IsErrorReport invocation.task fault place number content start text
     → fault ≢ OutOfMemory → IsTextFailure invocation fault place number content start text
 text_fails invocation OutOfMemory place content text start number is report out = absurd (out refl)
 text_fails invocation CannotRead place content text start number is report out = (is, report)

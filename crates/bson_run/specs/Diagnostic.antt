@@ -18,6 +18,7 @@ use Rattle.bson_run.specs.declared.position.Position.{Position}
 use Rattle.bson_run.specs.declared.explain.Explanation.{Explanation}
 use Rattle.bson_run.specs.declared.task.DiagnosticFormat.{DiagnosticFormat}
 use Rattle.bson_run.specs.declared.task.DiagnosticFormat.TheVariants.{Text, Json}
+use Rattle.bson_run.specs.declared.task.Task.{Task}
 
 -- ---- the code of an error
 
@@ -112,6 +113,7 @@ diagnostic_line Json line_number fault text explanation =
     json_line (diagnostic_tokens (position_at line_number (explanation_offset text explanation) text)
     (explanation_path explanation) (error_code fault) (explained_message fault text explanation))
 
-abbrev pub IsDiagnostic : DiagnosticFormat → (line_number : ℕ) → Error → (text diagnostic : List ℕ) → Type 0
-IsDiagnostic format line_number fault text diagnostic = (explanation : Explanation)
-    × IsExplanation text fault explanation × (diagnostic ≡ diagnostic_line format line_number fault text explanation)
+abbrev pub IsDiagnostic : Task → (line_number : ℕ) → Error → (text diagnostic : List ℕ) → Type 0
+IsDiagnostic task line_number fault text diagnostic = (explanation : Explanation)
+    × IsExplanation task.preprocessing.v1 text fault explanation
+    × (diagnostic ≡ diagnostic_line task.diagnostics line_number fault text explanation)
