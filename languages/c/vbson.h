@@ -202,8 +202,8 @@ uint32_t vbson_convert_nonnull(uint32_t mode, const vbson_options *options, cons
  * denote the same values. The layout changes nothing in VBSON_SHOW.
  * VBSON_DUPLICATE_KEYS_REJECT: the input is VBSON_NOT_EXTENDED_JSON if one of its objects has a duplicate key, at any depth.
  * VBSON_V1_ACCEPT: the objects {"$binary": .., "$type": ..} and {"$regex": .., "$options": ..}, a $date without seconds or
- * with an offset such as +0100, and a $uuid without hyphens have their value of Extended JSON v1. The output is Extended
- * JSON v2.
+ * with an offset such as +0100, and a $uuid without hyphens have their value of Extended JSON v1. The words NaN, Infinity
+ * and -Infinity are doubles. The output is Extended JSON v2.
  * The output can denote another value in two cases: a NaN of Decimal128 loses its sign and its payload, and in the relaxed
  * form an Int64 that fits is read again as an Int32. *out is overwritten: its old block is not freed.
  * VBSON_INVALID_ARGUMENT, VBSON_NOT_JSON, VBSON_BAD_OBJECT_ID, VBSON_NOT_EXTENDED_JSON, VBSON_OUT_OF_MEMORY. */

@@ -105,6 +105,8 @@ static void convert_preprocessed(void) {
             CHECK(converts_with(VBSON_RELAXED, fields, v1, (fields & AS_GIVEN) != 0 ? given : sorted));
             CHECK(refuses_with(VBSON_RELAXED, fields & ~(uint32_t)V1, v1, VBSON_NOT_EXTENDED_JSON));
             CHECK(converts_with(VBSON_SHOW, fields, "{\"$regex\":\"a\",\"$options\":\"i\"}", "/a/i"));
+            CHECK(converts_with(VBSON_RELAXED, fields, "[-Infinity]", "[{\"$numberDouble\":\"-Infinity\"}]"));
+            CHECK(refuses_with(VBSON_RELAXED, fields & ~(uint32_t)V1, "[-Infinity]", VBSON_NOT_JSON));
         }
         if ((fields & DISTINCT) != 0) {
             CHECK(refuses_with(VBSON_RELAXED, fields, twice, VBSON_NOT_EXTENDED_JSON) && refuses_with(VBSON_SHOW, fields, within, VBSON_NOT_EXTENDED_JSON));

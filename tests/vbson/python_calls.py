@@ -210,6 +210,8 @@ def try_reading():
     want("v1", (vbson.same(v1, v2, v1=True), vbson.hash_of(v1, v1=True) == vbson.hash_of(v2)), (True, True))
     raises("v1 without its option", vbson.NotExtendedJson, vbson.same, v2, v1)
     want("v1 explained", (vbson.explain(v1, v1=True), vbson.explain(v1) != ""), ("", True))
+    wanted = "not JSON at column 9 (expected a comma or a closing bracket)", "not JSON at column 2 (expected a value)"
+    want("an error after a word", (vbson.explain("[NaN, 1 2]", v1=True), vbson.explain("[NaN, 1 2]")), wanted)
     for call in (vbson.hash_of, vbson.explain, lambda it, **options: vbson.same(it, it, **options)):
         for name in ("doubles", "reject_duplicate_keys", "v1"):
             raises(f"{name} that is no bool", TypeError, lambda it: call("1", **{it: 1}), name)

@@ -134,6 +134,7 @@ def try_options():
     for call in (vbson.convert, vbson.encode, vbson.loads, vbson.hash_of, vbson.convert_lines, vbson.encode_lines, vbson.loads_lines):
         want(f"{call.__name__} of v1", call(older, v1=True), call(newer))
         want(f"{call.__name__} of v1 and no duplicate key", call(older, v1=True, reject_duplicate_keys=True), call(newer))
+        want(f"{call.__name__} of a word", call('{"a":-Infinity}', v1=True), call('{"a":{"$numberDouble":"-Infinity"}}'))
     for call in (vbson.convert, vbson.encode, vbson.loads, vbson.hash_of):
         raises(f"{call.__name__} of v1 without its option", vbson.NotExtendedJson, call, older)
     for call in (vbson.decode, vbson.decode_documents):

@@ -3,7 +3,7 @@ use Rattle.std.proofs.Common.{◌≡◌, ◌⊎◌, inl, inr, ◌<◌, ◌-◌, 
 use Rattle.std.proofs.Common.{refl, ap, sym, ◌∙◌, append_assoc, append-nil, take-append-drop, length-drop, arith}
 use Rattle.std.proofs.lemmas.List.{take_rest}
 use Rattle.std.specs.Option.{IfSome}
-use Rattle.bson_run.specs.ErrorMessages.{BreaksRule, IsSubslice}
+use Rattle.bson_run.specs.ErrorMessages.{BreaksRule, IsSubslice, located_text}
 use Rattle.bson_run.specs.declared.rule.Rule.{Rule}
 use Rattle.bson_program.specs.Hints.{IsAdvice, IsSyntaxAdvice, IsSplit, advice_for_rule}
 use Rattle.bson_program.specs.Messages.{line_len}
@@ -64,7 +64,7 @@ after_shorter bytes next is some =
 -- ---- what helps
 
 pub at_stop : (invocation : Invocation) (text : List ℕ) (rule : Rule) (offset : ℕ) (result : Option Advice)
-    → BreaksRule text rule
+    → BreaksRule (located_text invocation.task.preprocessing.v1 text) rule
     → result ≡ advice_for_rule invocation.input invocation.options.doubles rule (take (length text - offset) (drop offset text))
     → IfSome result (IsSyntaxAdvice invocation text)
 at_stop invocation text rule offset None breaks is = tt

@@ -16,7 +16,7 @@ use Rattle.bson_convert.specs.declared.encode_error.NoBytes.TheVariants.{NoDocum
 use Rattle.bson_convert.specs.declared.error.Error.{Error}
 use Rattle.bson_convert.specs.declared.error.Error.TheVariants as error
 use Rattle.bson_run.specs.declared.lines.Counts.{Counts}
-use Rattle.bson_run.specs.ErrorMessages.{BreaksRule, IsSubslice}
+use Rattle.bson_run.specs.ErrorMessages.{BreaksRule, IsSubslice, located_text}
 use Rattle.bson_run.specs.Preprocessed.{IsPreprocessedAs}
 use Rattle.bson_run.specs.declared.task.Criterion.TheVariants as criterion
 use Rattle.bson_run.specs.declared.task.Preprocessing.{Preprocessing}
@@ -200,7 +200,8 @@ advice_for_rule input doubles rule remaining_bytes = advice_for_bytes remaining_
 
 -- the text breaks a rule of JSON, and the bytes from some place on show the mistake
 abbrev pub IsSyntaxAdvice : Invocation → (text : List ℕ) → Advice → Type 0
-IsSyntaxAdvice invocation text given_advice = (rule : Rule) × (offset : ℕ) × BreaksRule text rule
+IsSyntaxAdvice invocation text given_advice = (rule : Rule) × (offset : ℕ)
+    × BreaksRule (located_text invocation.task.preprocessing.v1 text) rule
     × (advice_for_rule invocation.input invocation.options.doubles rule (drop offset text) ≡ Some given_advice)
 
 -- a text has to be canonical

@@ -58,9 +58,10 @@ diagnostics_of_file format (Some file_name) diagnostics = with_file_names format
 
 -- where the error of the line is at which a run stopped, or the JSON object for it
 abbrev pub IsReportIn : DiagnosticFormat → LineRun → conversion.Error → (report : List ℕ) → Type 0
-IsReportIn Text line_run fault report = IsPositionMessage (buffered_text line_run.state) fault report
+IsReportIn Text line_run fault report =
+    IsPositionMessage line_run.task.preprocessing.v1 (buffered_text line_run.state) fault report
 IsReportIn Json line_run fault report =
-    IsDiagnostic line_run.task.diagnostics (line_number_of line_run) fault (buffered_text line_run.state) report
+    IsDiagnostic line_run.task (line_number_of line_run) fault (buffered_text line_run.state) report
 
 abbrev pub IsLineReport : LineRun → conversion.Error → (report : List ℕ) → Type 0
 IsLineReport line_run fault report = IsReportIn line_run.task.diagnostics line_run fault report

@@ -12,6 +12,7 @@ use Rattle.bson_run.specs.declared.explain.Explanation.TheVariants.{Syntax, Valu
 use Rattle.bson_run.specs.declared.position.Position.{Position}
 use Rattle.bson_codec.specs.declared.diagnostic.DiagnosticFormat.{DiagnosticFormat}
 use Rattle.bson_codec.specs.declared.diagnostic.DiagnosticFormat.TheVariants.{Text, Json}
+use Rattle.bson_run.specs.declared.task.Task.{Task}
 
 -- the line on which a text of a sequence begins, and none for a text that is all bytes
 abbrev pub text_start_line : (content : List ℕ) → (start : ℕ) → (text : List ℕ) → ℕ
@@ -64,9 +65,9 @@ report_of Text fault content start text explanation = position_message content s
 report_of Json fault content start text explanation =
     error_json fault content start text explanation (position_message content start text explanation)
 
-abbrev pub IsErrorReport : DiagnosticFormat → Error → (report : List ℕ) → (line_number : ℕ) → (content : List ℕ)
+abbrev pub IsErrorReport : Task → Error → (report : List ℕ) → (line_number : ℕ) → (content : List ℕ)
     → (start : ℕ) → (text : List ℕ) → Type 0
-IsErrorReport format fault report line_number content start text =
-    (explanation : Explanation) × IsExplanation text fault explanation
-    × (report ≡ report_of format fault content start text explanation)
+IsErrorReport task fault report line_number content start text =
+    (explanation : Explanation) × IsExplanation task.preprocessing.v1 text fault explanation
+    × (report ≡ report_of task.diagnostics fault content start text explanation)
     × (line_number ≡ error_line content start text explanation)

@@ -115,7 +115,7 @@ abbrev pub IsTextFailure : Invocation → Error → (report : List ℕ) → (lin
 IsTextFailure invocation OutOfMemory report line_number content start text = (line_number ≡ 0) × (report ≡ [])
 IsTextFailure invocation fault report line_number content start text =
     IsTextRejected invocation.options invocation.task fault text
-    × IsErrorReport invocation.task.diagnostics fault report line_number content start text
+    × IsErrorReport invocation.task fault report line_number content start text
 
 -- what each failure at a text says of it
 abbrev pub FailsAtText : Invocation → RunFailure → (file_name content : List ℕ) → (start : ℕ) → (text : List ℕ)

@@ -177,7 +177,8 @@ a regular expression has a 0 byte. Each part must have fewer than 2^31 bytes. By
                           `encode` reads it
   --v1                    (not decode) also reads objects of Extended JSON v1, as those of v2: $binary with
                           $type, and $regex with $options. A $date may have no seconds, or no colon in its offset, and
-                          a $uuid no hyphens. The keys of a scope stay as they are
+                          a $uuid no hyphens. The keys of a scope stay as they are. The words NaN, Infinity and
+                          -Infinity outside of strings are doubles
   --no-double-keys        rejects input in which an object has a duplicate key, at any depth, and reports the path to the
                           first one, or with `decode` its offset; keys are compared after their escapes are decoded
   --canonical             (check, lines check) accepts only canonical JSON with keys in ascending order, byte for byte as

@@ -41,7 +41,7 @@ pub enum RunFailure<'a> {
     OutputIsTerminal,
     /// The file is not an array, which the run reads.
     NotArray(&'a str),
-    /// At a text of the file that is refused: at the line of this number, or at no line (0), why,
+    /// At a text of the file that is rejected: at the line of this number, or at no line (0), why,
     /// and where in the text, as a message; or the JSON object for the error.
     Text(&'a str, u64, error::Error, String),
     /// At a document of the file.
@@ -219,7 +219,7 @@ fn error_report_in(alloc: Global, line_run: &LineRun, fault: &error::Error) -> S
 }
 
 fn position_message_in(alloc: Global, line_run: &LineRun, fault: &error::Error) -> String
-    ensures { IsPositionMessage (buffered_text line_run.now.state) fault.now (string_bytes result)
+    ensures { IsPositionMessage line_run.now.task.preprocessing.v1 (buffered_text line_run.now.state) fault.now (string_bytes result)
         ⊎ (string_bytes result ≡ []) }
 {
     match line_run.place(alloc, fault) {
@@ -229,7 +229,7 @@ fn position_message_in(alloc: Global, line_run: &LineRun, fault: &error::Error) 
 }
 
 fn error_json_in(alloc: Global, line_run: &LineRun, fault: &error::Error) -> String
-    ensures { IsDiagnostic line_run.now.task.diagnostics (line_number_of line_run.now) fault.now
+    ensures { IsDiagnostic line_run.now.task (line_number_of line_run.now) fault.now
         (buffered_text line_run.now.state) (string_bytes result) ⊎ (string_bytes result ≡ []) }
 {
     match line_run.diagnostic(alloc, fault) {
@@ -323,7 +323,7 @@ fn prefix_in_format(
     }
 }
 
-/// A file to read opens, and is none of those that are written. (Only a regular file is opened here, since the
+/// Checks that a file to read opens, and is not one that is written. (Only a regular file is opened here, since the
 /// content of a pipe is lost with its first reader.)
 pub fn check_input_file<'a>(
     rt: &HostRuntime,

@@ -1,4 +1,4 @@
-//! Where the error of a text is in its input.
+//! The position of the error of a text in its input.
 ghost use Rattle.std.specs.Prelude.{◌≡◌, IfOk, string_bytes};
 ghost use Rattle.bson_program.specs.TextErrors.{IsErrorReport, error_json, error_line, offset_in_input, position_in_input};
 ghost use Rattle.bson_program.specs.TextErrors.{position_message, text_start_line, value_line};
@@ -45,7 +45,7 @@ pub fn error_report(
     input_text: InputText<'_>,
 ) -> Result<(u64, String), AllocError>
     ensures { IfOk result
-        (λ report. IsErrorReport task.diagnostics fault.now (string_bytes report.1) report.0 input_text.entry.content.now input_text.entry.start input_text.entry.text.now) }
+        (λ report. IsErrorReport task fault.now (string_bytes report.1) report.0 input_text.entry.content.now input_text.entry.start input_text.entry.text.now) }
 {
     let explanation = explanation_under(alloc, task, fault, input_text.text)?;
     let line_number = error_line(input_text, &explanation);
@@ -59,7 +59,7 @@ pub fn error_report(
     }
 }
 
-// Returns the line of a message. There is none (0) for the value of a text that is all bytes, on one line.
+// Returns the line of a message, or 0 for the value of a text that is all bytes, on one line.
 fn error_line(input_text: InputText<'_>, explanation: &Explanation<'_>) -> u64
     ensures { result ≡ error_line input_text.entry.content.now input_text.entry.start input_text.entry.text.now explanation.now }
 {

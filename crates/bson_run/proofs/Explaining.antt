@@ -1,5 +1,5 @@
 -- The place of a refused text's fault.
-use Rattle.std.proofs.Common.{◌≡◌, ◌<◌, ◌==◌, ◌^◌, ◌-◌, ◌++◌, ℕ, List, [], ◌∷◌, true, false, cond, length, codes, refl, sym, ap, subst}
+use Rattle.std.proofs.Common.{◌≡◌, ◌<◌, ◌==◌, ◌^◌, ◌-◌, ◌++◌, ℕ, List, [], ◌∷◌, Bool, true, false, cond, length, codes, refl, sym, ap, subst}
 use Rattle.std.proofs.Common.{◌∙◌, inl, inr, append_assoc, arith, Option, Some, None, Result, Ok, Err, OnOk, take, nat_lt}
 use Rattle.std.specs.Char.{is_control}
 use Rattle.std.specs.Fmt.{digits, digits_output, format_spec, padded_integral, radix_digits, styled_digits_output, ◌++?◌}
@@ -41,29 +41,30 @@ placed_at place path reason full_message e some is =
 
 -- ---- an explanation
 
-other_where : (text : List ℕ) (fault : Error) → HasNoPosition fault → IsPositionMessage text fault []
-other_where text errors.CannotRead h = refl
-other_where text errors.NotJson h = absurd h
-other_where text (errors.NotExtendedJson place) h = absurd h
-other_where text (errors.NoBytes why) h = refl
-other_where text (errors.NotCanonical column) h = absurd h
-other_where text errors.OutOfMemory h = refl
-other_where text errors.CannotWrite h = refl
+other_where : (v1 : Bool) (text : List ℕ) (fault : Error) → HasNoPosition fault → IsPositionMessage v1 text fault []
+other_where v1 text errors.CannotRead h = refl
+other_where v1 text errors.NotJson h = absurd h
+other_where v1 text (errors.NotExtendedJson place) h = absurd h
+other_where v1 text (errors.NoBytes why) h = refl
+other_where v1 text (errors.NotCanonical column) h = absurd h
+other_where v1 text errors.OutOfMemory h = refl
+other_where v1 text errors.CannotWrite h = refl
 
 -- the message of an explanation says where the error is
-pub where_from : (text : List ℕ) (fault : Error) (e : Explanation) → IsExplanation text fault e → IsPositionMessage text fault (explanation_message text e)
-where_from text fault (explained.Syntax stop) h =
-    subst (λ (f : Error). IsPositionMessage text f (explanation_message text (explained.Syntax stop))) (sym h.0) (column_at stop.offset text, stop.rule, h.1, refl)
-where_from text fault (explained.Value place reason offset) h =
-    subst (λ (f : Error). IsPositionMessage text f (explanation_message text (explained.Value place reason offset))) (sym h.0) (
+pub where_from : (v1 : Bool) (text : List ℕ) (fault : Error) (e : Explanation) → IsExplanation v1 text fault e
+    → IsPositionMessage v1 text fault (explanation_message text e)
+where_from v1 text fault (explained.Syntax stop) h =
+    subst (λ (f : Error). IsPositionMessage v1 text f (explanation_message text (explained.Syntax stop))) (sym h.0) (column_at stop.offset text, stop.rule, h.1, refl)
+where_from v1 text fault (explained.Value place reason offset) h =
+    subst (λ (f : Error). IsPositionMessage v1 text f (explanation_message text (explained.Value place reason offset))) (sym h.0) (
       offset,
       h.1.0,
       h.1.1,
       ap (λ t. path_message (escaped_message (path_text (path_of place.now))) ++ codes " (" ++ t ++ codes ")") h.1.2,
     )
-where_from text fault (explained.Difference column) h =
-    subst (λ (f : Error). IsPositionMessage text f (column_message column)) (sym h) refl
-where_from text fault explained.Other h = other_where text fault h
+where_from v1 text fault (explained.Difference column) h =
+    subst (λ (f : Error). IsPositionMessage v1 text f (column_message column)) (sym h) refl
+where_from v1 text fault explained.Other h = other_where v1 text fault h
 
 -- ---- cut and escaped messages
 

@@ -157,7 +157,7 @@ module _ {o : Options} {task : Task} {on_refusal : OnRefusal} where
   pub told_taken : (s t : LineRunState) (fault : Error) → t.line.items ≡ [] → t.lines ≡ s.lines + 1
       → t.output.items ≡ s.output.items → t.refused ≡ s.refused + 1 → on_refusal ≢ Stop
       → IsRejectedLineIn o task fault (line_text s.lines s.line.items)
-      → IsDiagnosticAppended task.diagnostics (s.lines + 1) fault (line_text s.lines s.line.items) s.diagnostics.items t.diagnostics.items
+      → IsDiagnosticAppended task (s.lines + 1) fault (line_text s.lines s.line.items) s.diagnostics.items t.diagnostics.items
       → EndsLine o task on_refusal s t
   told_taken s t fault line number output refused goes h diagnostics_before = record {
     line = line;
@@ -166,7 +166,7 @@ module _ {o : Options} {task : Task} {on_refusal : OnRefusal} where
         rw (output, diagnostics_before.2, refused, ← append_assoc diagnostics s.diagnostics.items diagnostics_before.0) (record {
           outcomes = skipped s.line.items fault diagnostics_before.0 p.outcomes goes
               (subst (λ n. IsRejectedLineIn o task fault (line_text n s.line.items)) e h)
-              (subst (λ n. IsDiagnostic task.diagnostics (n + 1) fault (line_text n s.line.items) diagnostics_before.0) e diagnostics_before.1);
+              (subst (λ n. IsDiagnostic task (n + 1) fault (line_text n s.line.items) diagnostics_before.0) e diagnostics_before.1);
           utf8 = p.utf8;
           diagnostic_utf8 = IsUtf8-append (diagnostics ++ s.diagnostics.items) diagnostics_before.0 p.diagnostic_utf8 diagnostics_before.3;
         });

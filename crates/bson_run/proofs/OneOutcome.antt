@@ -62,7 +62,7 @@ module _ (o : Options) (task : Task) (on_refusal : OnRefusal) (only : Decided o 
       (IsBlank (line_text n line) × (more ≡ []) × (said ≡ []) × (over ≡ 0))
       ⊎ ((WritesOutputForTask o task (line_text n line) more × (said ≡ []) × (over ≡ 0))
       ⊎ ((fault : Error) × (on_refusal ≢ Stop) × IsRejectedLineIn o task fault (line_text n line)
-      × IsDiagnostic task.diagnostics (n + 1) fault (line_text n line) said × (more ≡ []) × (over ≡ 1)))
+      × IsDiagnostic task (n + 1) fault (line_text n line) said × (more ≡ []) × (over ≡ 1)))
 
   record Last (all : List (List ℕ)) (output diagnostics_before : List ℕ) (refused : ℕ) : Type 0 where
     before : List (List ℕ)
@@ -145,10 +145,10 @@ module _ (o : Options) (task : Task) (on_refusal : OnRefusal) (only : Decided o 
 
   record Same (output other diagnostics_before diagnostics_after : List ℕ) (refused left : ℕ) : Type 0 where
     outputs : output ≡ other
-    alike : AreSameDiagnostics task.diagnostics diagnostics_before diagnostics_after
+    alike : AreSameDiagnostics task diagnostics_before diagnostics_after
     counts : refused ≡ left
 
-  one_more : (n : ℕ) (line a b diagnostics_before diagnostics_after said says : List ℕ) (over count : ℕ) → AreSameDiagnostics task.diagnostics diagnostics_before diagnostics_after
+  one_more : (n : ℕ) (line a b diagnostics_before diagnostics_after said says : List ℕ) (over count : ℕ) → AreSameDiagnostics task diagnostics_before diagnostics_after
       → Step n line a said over → Step n line b says count → Same a b (diagnostics_before ++ said) (diagnostics_after ++ says) over count
   one_more n line a b diagnostics_before diagnostics_after said says over count alike (inl (is, m, s, c)) (inl (also_is, k, t, e)) = record {
     outputs = m ∙ sym k;
@@ -156,8 +156,8 @@ module _ (o : Options) (task : Task) (on_refusal : OnRefusal) (only : Decided o 
     counts = c ∙ sym e;
   }
     where
-      silently : (diagnostics_before diagnostics_after said says : List ℕ) → AreSameDiagnostics task.diagnostics diagnostics_before diagnostics_after → said ≡ [] → says ≡ []
-          → AreSameDiagnostics task.diagnostics (diagnostics_before ++ said) (diagnostics_after ++ says)
+      silently : (diagnostics_before diagnostics_after said says : List ℕ) → AreSameDiagnostics task diagnostics_before diagnostics_after → said ≡ [] → says ≡ []
+          → AreSameDiagnostics task (diagnostics_before ++ said) (diagnostics_after ++ says)
       silently diagnostics_before diagnostics_after said says alike s t = rw (s, t, append-nil diagnostics_before, append-nil diagnostics_after) alike
   one_more n line a b diagnostics_before diagnostics_after said says over count alike (inl (is, m, s, c)) (inr (inl (w, t, e))) =
       absurd (only.written_blank (line_text n line) b w is)
@@ -215,7 +215,7 @@ module _ (o : Options) (task : Task) (on_refusal : OnRefusal) (only : Decided o 
 
   pub one_outcome : (all : List (List ℕ)) (output other diagnostics_before diagnostics_after : List ℕ) (refused left : ℕ)
       → LineOutcomes o task on_refusal all output diagnostics_before refused → LineOutcomes o task on_refusal all other diagnostics_after left
-      → (output ≡ other) × AreSameDiagnostics task.diagnostics diagnostics_before diagnostics_after × (refused ≡ left)
+      → (output ≡ other) × AreSameDiagnostics task diagnostics_before diagnostics_after × (refused ≡ left)
   one_outcome all output other diagnostics_before diagnostics_after refused left d e =
       let s = same (length all) all all output other diagnostics_before diagnostics_after refused left refl refl d e in
       (s.outputs, s.alike, s.counts)
@@ -279,7 +279,7 @@ module _ (o : Options) (task : Task) (on_refusal : OnRefusal) (only : Decided o 
       → (h : StopsInsideInput o task on_refusal all output diagnostics_before fault number)
       → (k : StopsInsideInput o task on_refusal all other diagnostics_after cause count)
       → Parts h.done_lines k.done_lines h.line k.line h.later_lines k.later_lines
-      → (output ≡ other) × AreSameDiagnostics task.diagnostics diagnostics_before diagnostics_after × IsSameFault fault cause × (number ≡ count)
+      → (output ≡ other) × AreSameDiagnostics task diagnostics_before diagnostics_after × IsSameFault fault cause × (number ≡ count)
   one_of all output other diagnostics_before diagnostics_after number count fault cause h k (inl (done_lines, line)) =
       let s = same (length h.done_lines) h.done_lines k.done_lines output other diagnostics_before diagnostics_after h.refused k.refused refl done_lines h.outcomes
       k.outcomes in
@@ -301,7 +301,7 @@ module _ (o : Options) (task : Task) (on_refusal : OnRefusal) (only : Decided o 
   pub one_stop : (all : List (List ℕ)) (output other diagnostics_before diagnostics_after : List ℕ) (number count : ℕ) (fault cause : Error)
       → StopsInsideInput o task on_refusal all output diagnostics_before fault number
       → StopsInsideInput o task on_refusal all other diagnostics_after cause count
-      → (output ≡ other) × AreSameDiagnostics task.diagnostics diagnostics_before diagnostics_after × IsSameFault fault cause × (number ≡ count)
+      → (output ≡ other) × AreSameDiagnostics task diagnostics_before diagnostics_after × IsSameFault fault cause × (number ≡ count)
   one_stop all output other diagnostics_before diagnostics_after number count fault cause h k =
       one_of all output other diagnostics_before diagnostics_after number count fault cause h k
       (parts h.done_lines k.done_lines h.line k.line h.later_lines k.later_lines (sym h.parts ∙ k.parts))

@@ -16,13 +16,15 @@ use Rattle.bson_tokens.specs.DuplicateKeys.{DuplicateAt, json_of}
 use Rattle.bson_model.specs.declared.options.DuplicateKeys.{DuplicateKeys}
 use Rattle.bson_model.specs.declared.options.DuplicateKeys.TheVariants.{LastWins, Reject}
 use Rattle.bson_model.specs.declared.options.KeyOrder.TheVariants.{AsGiven}
+use Rattle.bson_v1.specs.BareWords.{with_words, with_words_from}
 use Rattle.bson_v1.specs.Upgraded.{upgraded}
 use Rattle.bson_v1.specs.Text.{IsUpgradedText}
+use Rattle.bson_v1.specs.declared.bare_words.WordForm.TheVariants.{Wrapper}
 use Rattle.bson_tree.specs.Place.{PathSegment, path_of}
 use Rattle.bson_tree.specs.declared.place.Place.{Place}
 use Rattle.bson_run.specs.Lines.{IsBlank}
 use Rattle.bson_run.specs.Preprocessed.{HasAllowedKeys, HasDuplicateKeyAt, HasRejectedKeyAt, LacksDuplicateKey, IsInvalidJson}
-use Rattle.bson_run.specs.Preprocessed.{IsPreprocessedAs, IsRejectedByPreprocessing, IsRewrittenAs, UpgradesTo}
+use Rattle.bson_run.specs.Preprocessed.{IsPreprocessedAs, IsRejectedByPreprocessing, IsRewrittenAs, UpgradesTo, worded_text}
 use Rattle.bson_run.specs.declared.task.Preprocessing.{Preprocessing}
 
 -- ---- a JSON text each of whose numbers is in range is read
@@ -76,14 +78,14 @@ not_json text a utf8 x none =
     let d = is_read text x.normalized_input x.text_is_normalized in
     none d.0 utf8 d.1
 
-one_newer : (text a b : List ℕ) → UpgradesTo text a → UpgradesTo text b → a ≡ b
-one_newer text a b (inl x) (inl y) = one_upgraded text a b x.1 y.1
-one_newer text a b (inl x) (inr y) = absurd (not_json text a x.0 x.1 y.0)
-one_newer text a b (inr x) (inl y) = absurd (not_json text b y.0 y.1 x.0)
-one_newer text a b (inr x) (inr y) = x.1 ∙ sym y.1
+one_newer : (text bytes a b : List ℕ) → UpgradesTo text bytes a → UpgradesTo text bytes b → a ≡ b
+one_newer text bytes a b (inl x) (inl y) = one_upgraded text a b x.1 y.1
+one_newer text bytes a b (inl x) (inr y) = absurd (not_json text a x.0 x.1 y.0)
+one_newer text bytes a b (inr x) (inl y) = absurd (not_json text b y.0 y.1 x.0)
+one_newer text bytes a b (inr x) (inr y) = x.1 ∙ sym y.1
 
 one_rewritten : (v1 : Bool) (text a b : List ℕ) → IsRewrittenAs v1 text a → IsRewrittenAs v1 text b → a ≡ b
-one_rewritten true text a b x y = one_newer text a b x y
+one_rewritten true text a b x y = one_newer (worded_text true text) text a b x y
 one_rewritten false text a b x y = x ∙ sym y
 
 pub one_taken : (preprocessing : Preprocessing) (text a b : List ℕ) → IsPreprocessedAs preprocessing text a → IsPreprocessedAs preprocessing text b → a ≡ b
@@ -118,15 +120,38 @@ blank_text text t h is =
     let some : read text ≡ Some t = is.tree_read in
     cc
 
-stays : (text a : List ℕ) → IsBlank text → UpgradesTo text a → a ≡ text
-stays text a h (inl x) =
+-- it has no words
+blank_byte : (x : ℕ) (xs : List ℕ) → (x ≡ 32) ⊎ ((x ≡ 9) ⊎ (x ≡ 13))
+    → with_words Wrapper (x ∷ xs) ≡ x ∷ with_words Wrapper xs
+unfolding with_words_from
+blank_byte x xs (inl e) = subst (λ y. with_words Wrapper (y ∷ xs) ≡ y ∷ with_words Wrapper xs) (sym e) refl
+blank_byte x xs (inr (inl e)) = subst (λ y. with_words Wrapper (y ∷ xs) ≡ y ∷ with_words Wrapper xs) (sym e) refl
+blank_byte x xs (inr (inr e)) = subst (λ y. with_words Wrapper (y ∷ xs) ≡ y ∷ with_words Wrapper xs) (sym e) refl
+
+no_bytes : with_words Wrapper [] ≡ []
+unfolding with_words_from
+no_bytes = refl
+
+no_word : (text : List ℕ) → IsBlank text → with_words Wrapper text ≡ text
+no_word [] h = no_bytes
+no_word (x ∷ xs) h =
+    blank_byte x xs (All-head (λ y. (y ≡ 32) ⊎ ((y ≡ 9) ⊎ (y ≡ 13))) x xs h)
+    ∙ ap (λ ys. x ∷ ys) (no_word xs (All-tail (λ y. (y ≡ 32) ⊎ ((y ≡ 9) ⊎ (y ≡ 13))) x xs h))
+
+blank_worded : (v1 : Bool) (text : List ℕ) → IsBlank text → worded_text v1 text ≡ text
+blank_worded true text h = no_word text h
+blank_worded false text h = refl
+
+stays : (text bytes a : List ℕ) → IsBlank text → UpgradesTo text bytes a → a ≡ bytes
+stays text bytes a h (inl x) =
     let none : json_of text ≡ None = blank_tree text h in
     let some : json_of text ≡ Some x.1.text_is_normalized.tree = x.1.text_is_normalized.is_tree in
     absurd cc
-stays text a h (inr x) = x.1
+stays text bytes a h (inr x) = x.1
 
 blank_rewritten : (v1 : Bool) (text a : List ℕ) → IsBlank text → IsRewrittenAs v1 text a → a ≡ text
-blank_rewritten true text a h x = stays text a h x
+blank_rewritten true text a h x =
+    stays text text a h (subst (λ ys. UpgradesTo ys text a) (no_word text h) x)
 blank_rewritten false text a h x = x
 
 -- it is read itself
@@ -145,7 +170,9 @@ blank_key Reject place text h x = blank_double place text h x
 
 -- and not turned away
 pub blank_turned : (preprocessing : Preprocessing) (place : Place) (text : List ℕ) → IsBlank text → IsRejectedByPreprocessing preprocessing place text → ⊥
-blank_turned preprocessing place text h x = blank_key preprocessing.duplicate_keys place text h x
+blank_turned preprocessing place text h x =
+    blank_key preprocessing.duplicate_keys place text h
+    (subst (HasRejectedKeyAt preprocessing.duplicate_keys place) (blank_worded preprocessing.v1 text h) x)
 
 -- ---- a text that is turned away
 
@@ -160,7 +187,8 @@ module _ (twice : (j : json.Json) (path : List PathSegment) → DuplicateAt j pa
 
   pub not_taken : (preprocessing : Preprocessing) (place : Place) (text a : List ℕ) → IsRejectedByPreprocessing preprocessing place text
       → IsPreprocessedAs preprocessing text a → ⊥
-  not_taken preprocessing place text a h is = not_allowed preprocessing.duplicate_keys place text h is.0
+  not_taken preprocessing place text a h is =
+      not_allowed preprocessing.duplicate_keys place (worded_text preprocessing.v1 text) h is.0
 
 module _ (one_path : (j : json.Json) (path other : List PathSegment) → DuplicateAt j path → DuplicateAt j other → path ≡ other) where
   one_duplicate_path : (place other : Place) (text : List ℕ) → HasDuplicateKeyAt place text → HasDuplicateKeyAt other text
@@ -178,4 +206,5 @@ module _ (one_path : (j : json.Json) (path other : List PathSegment) → Duplica
 
   pub one_turned : (preprocessing : Preprocessing) (place other : Place) (text : List ℕ) → IsRejectedByPreprocessing preprocessing place text
       → IsRejectedByPreprocessing preprocessing other text → path_of place ≡ path_of other
-  one_turned preprocessing place other text x y = one_key preprocessing.duplicate_keys place other text x y
+  one_turned preprocessing place other text x y =
+      one_key preprocessing.duplicate_keys place other (worded_text preprocessing.v1 text) x y

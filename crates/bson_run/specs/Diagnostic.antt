@@ -18,6 +18,7 @@ use Rattle.bson_convert.specs.declared.error.Error.TheVariants as error
 use Rattle.bson_run.specs.ErrorMessages.{IsExplanation, column_at, explanation_message, explanation_offset, explanation_path}
 use Rattle.bson_run.specs.declared.position.Position.{Position}
 use Rattle.bson_run.specs.declared.explain.Explanation.{Explanation}
+use Rattle.bson_run.specs.declared.task.Task.{Task}
 
 -- ---- the code of an error
 
@@ -89,6 +90,7 @@ diagnostic_line Json line_number fault text explanation =
     json_line (diagnostic_tokens (position_at line_number (explanation_offset text explanation) text)
     (explanation_path explanation) (error_code fault) (explained_message fault text explanation))
 
-abbrev pub IsDiagnostic : DiagnosticFormat → (line_number : ℕ) → Error → (text diagnostic : List ℕ) → Type 0
-IsDiagnostic format line_number fault text diagnostic = (explanation : Explanation)
-    × IsExplanation text fault explanation × (diagnostic ≡ diagnostic_line format line_number fault text explanation)
+abbrev pub IsDiagnostic : Task → (line_number : ℕ) → Error → (text diagnostic : List ℕ) → Type 0
+IsDiagnostic task line_number fault text diagnostic = (explanation : Explanation)
+    × IsExplanation task.preprocessing.v1 text fault explanation
+    × (diagnostic ≡ diagnostic_line task.diagnostics line_number fault text explanation)

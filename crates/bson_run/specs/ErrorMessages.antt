@@ -18,6 +18,8 @@ use Rattle.bson_tree.specs.declared.place.Reason.{Reason}
 use Rattle.bson_tree.specs.declared.place.Reason.TheVariants.{BadObjectId, WrongShape}
 use Rattle.bson_convert.specs.declared.error.Error.{Error}
 use Rattle.bson_convert.specs.declared.error.Error.TheVariants.{NotJson, NotExtendedJson, NotCanonical}
+use Rattle.bson_v1.specs.BareWords.{with_words}
+use Rattle.bson_v1.specs.declared.bare_words.WordForm.TheVariants.{Digits}
 use Rattle.bson_run.specs.declared.explain.Explanation.{Explanation}
 use Rattle.bson_run.specs.declared.explain.Explanation.TheVariants as explained
 use Rattle.bson_run.specs.declared.rule.Rule.{Rule}
@@ -167,6 +169,11 @@ column_and_rule column rule = codes " at column " ++ decimal column ++ codes " (
 abbrev pub column_message : (column : ℕ) → List ℕ
 column_message column = codes " at column " ++ decimal column
 
+-- the text in which a syntax error is located: with v1, bare words such as `NaN` are numbers of their length
+abbrev pub located_text : (v1 : Bool) → (text : List ℕ) → List ℕ
+located_text true text = with_words Digits text
+located_text false text = text
+
 -- the column at which bytes are not JSON, and the rule that they break
 abbrev pub IsSyntaxPosition : (bytes full_message : List ℕ) → Type 0
 IsSyntaxPosition bytes full_message = (column : ℕ) × (rule : Rule) × BreaksRule bytes rule
@@ -181,14 +188,15 @@ HasNoPosition other_error = Unit {0}
 
 -- why a text is rejected: the rule that it breaks, or the path of its error, the reason in a message and the offset of
 -- the value, or nothing
-abbrev pub IsExplanation : (text : List ℕ) → Error → Explanation → Type 0
-IsExplanation text fault (explained.Syntax syntax_error) = (fault ≡ NotJson) × BreaksRule text syntax_error.rule
-IsExplanation text fault (explained.Value place reason offset) =
+abbrev pub IsExplanation : (v1 : Bool) → (text : List ℕ) → Error → Explanation → Type 0
+IsExplanation v1 text fault (explained.Syntax syntax_error) =
+    (fault ≡ NotJson) × BreaksRule (located_text v1 text) syntax_error.rule
+IsExplanation v1 text fault (explained.Value place reason offset) =
     (fault ≡ NotExtendedJson place.now)
     × ((message : List ℕ) × IsReasonMessage text offset place.now.reason message
     × (string_bytes reason ≡ escaped_message message))
-IsExplanation text fault (explained.Difference column) = fault ≡ NotCanonical column
-IsExplanation text fault explained.Other = HasNoPosition fault
+IsExplanation v1 text fault (explained.Difference column) = fault ≡ NotCanonical column
+IsExplanation v1 text fault explained.Other = HasNoPosition fault
 
 -- the message of an explanation
 abbrev pub explanation_message : (text : List ℕ) → Explanation → List ℕ
@@ -212,11 +220,11 @@ explanation_path (explained.Value place reason offset) = Some (path_of place.now
 explanation_path explanation = None
 
 -- where the error of a text is; nothing for an error that is not one of a text
-abbrev pub IsPositionMessage : (text : List ℕ) → Error → (full_message : List ℕ) → Type 0
-IsPositionMessage text NotJson full_message = IsSyntaxPosition text full_message
-IsPositionMessage text (NotExtendedJson place) full_message = IsPathMessage text place full_message
-IsPositionMessage text (NotCanonical column) full_message = full_message ≡ column_message column
-IsPositionMessage text other_error full_message = full_message ≡ []
+abbrev pub IsPositionMessage : (v1 : Bool) → (text : List ℕ) → Error → (full_message : List ℕ) → Type 0
+IsPositionMessage v1 text NotJson full_message = IsSyntaxPosition (located_text v1 text) full_message
+IsPositionMessage v1 text (NotExtendedJson place) full_message = IsPathMessage text place full_message
+IsPositionMessage v1 text (NotCanonical column) full_message = full_message ≡ column_message column
+IsPositionMessage v1 text other_error full_message = full_message ≡ []
 
 -- ---- for private clauses
 

@@ -125,7 +125,7 @@ pub data LineOutcomes (options : Options) (task : Task) (on_refusal : OnRefusal)
       (diagnostic : List ℕ) → LineOutcomes options task on_refusal earlier_lines output diagnostics_before refused
       → on_refusal ≢ Stop
       → IsRejectedLineIn options task fault (line_text (length earlier_lines) line)
-      → IsDiagnostic task.diagnostics (length earlier_lines + 1) fault (line_text (length earlier_lines) line) diagnostic
+      → IsDiagnostic task (length earlier_lines + 1) fault (line_text (length earlier_lines) line) diagnostic
       → LineOutcomes options task on_refusal (earlier_lines ++ line ∷ []) output (diagnostics_before ++ diagnostic)
       (refused + 1)
 

@@ -10,7 +10,6 @@ pub use Rattle.bson_convert.specs.declared.error.Error.{Error}
 pub use Rattle.bson_convert.specs.declared.error.Error.TheVariants.{CannotRead, NotJson, NotExtendedJson, NoBytes, OutOfMemory}
 pub use Rattle.bson_convert.specs.declared.error.Error.TheVariants.{CannotWrite, NotCanonical}
 pub use Rattle.bson_run.specs.declared.line_run_state.LineRunState.{LineRunState}
-pub use Rattle.bson_codec.specs.declared.diagnostic.DiagnosticFormat.{DiagnosticFormat}
 pub use Rattle.bson_run.specs.declared.task.OnRefusal.{OnRefusal}
 pub use Rattle.bson_run.specs.declared.task.Output.{Output}
 pub use Rattle.bson_run.specs.declared.task.Task.{Task}
@@ -39,10 +38,10 @@ IsOutputFailure options OutOfMemory output text = Unit {0}
 IsOutputFailure options fault output text = HasNoOutputFor options fault output text
 
 -- the diagnostic on a text was appended to those before
-abbrev pub IsDiagnosticAppended : DiagnosticFormat → (line_number : ℕ) → Error
+abbrev pub IsDiagnosticAppended : Task → (line_number : ℕ) → Error
     → (text old_diagnostics new_diagnostics : List ℕ) → Type 0
-IsDiagnosticAppended format line_number fault text old_diagnostics new_diagnostics =
-    (diagnostic : List ℕ) × IsDiagnostic format line_number fault text diagnostic
+IsDiagnosticAppended task line_number fault text old_diagnostics new_diagnostics =
+    (diagnostic : List ℕ) × IsDiagnostic task line_number fault text diagnostic
     × (new_diagnostics ≡ old_diagnostics ++ diagnostic) × IsUtf8 diagnostic
 
 -- the run is before its first line

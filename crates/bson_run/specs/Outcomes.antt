@@ -6,7 +6,6 @@ use Rattle.bson_convert.specs.declared.error.Error.{Error}
 use Rattle.bson_convert.specs.declared.error.Error.TheVariants.{NotJson, NotExtendedJson, NoBytes, NotCanonical}
 use Rattle.bson_run.specs.Lines.{line_text, IsRejectedLineIn, LineOutcomes}
 use Rattle.bson_run.specs.Diagnostic.{IsDiagnostic}
-use Rattle.bson_codec.specs.declared.diagnostic.DiagnosticFormat.{DiagnosticFormat}
 use Rattle.bson_run.specs.declared.task.OnRefusal.{OnRefusal}
 use Rattle.bson_run.specs.declared.task.OnRefusal.TheVariants.{Stop}
 use Rattle.bson_run.specs.declared.task.Task.{Task}
@@ -29,13 +28,13 @@ IsSameFault fault other_error = ⊥
 
 -- diagnostics on the same texts for the same errors; they differ only in what `IsDiagnostic` leaves open: the column
 -- and the rule of a text that is not JSON, and after a path the message of what was expected and found
-pub data AreSameDiagnostics (format : DiagnosticFormat) : List ℕ → List ℕ → Type 0 where
-  silent : AreSameDiagnostics format [] []
+pub data AreSameDiagnostics (task : Task) : List ℕ → List ℕ → Type 0 where
+  silent : AreSameDiagnostics task [] []
   also : {diagnostics other_diagnostics : List ℕ} (line_number : ℕ) (fault cause : Error)
-      (text diagnostic other_diagnostic : List ℕ) → AreSameDiagnostics format diagnostics other_diagnostics
-      → IsSameFault fault cause → IsDiagnostic format line_number fault text diagnostic
-      → IsDiagnostic format line_number cause text other_diagnostic
-      → AreSameDiagnostics format (diagnostics ++ diagnostic) (other_diagnostics ++ other_diagnostic)
+      (text diagnostic other_diagnostic : List ℕ) → AreSameDiagnostics task diagnostics other_diagnostics
+      → IsSameFault fault cause → IsDiagnostic task line_number fault text diagnostic
+      → IsDiagnostic task line_number cause text other_diagnostic
+      → AreSameDiagnostics task (diagnostics ++ diagnostic) (other_diagnostics ++ other_diagnostic)
 
 -- a run over these lines does those before the one of this number, and stops at that one, which is refused for the fault
 pub record StopsInsideInput (options : Options) (task : Task) (on_refusal : OnRefusal) (all : List (List ℕ))

@@ -9,7 +9,9 @@ use Rattle.serde_json.specs.Read.{read}
 use Rattle.bson_model.specs.declared.options.DuplicateKeys.{DuplicateKeys}
 use Rattle.bson_model.specs.declared.options.DuplicateKeys.TheVariants.{LastWins, Reject}
 use Rattle.bson_tokens.specs.DuplicateKeys.{json_of, HasDuplicateKey}
+use Rattle.bson_v1.specs.BareWords.{with_words}
 use Rattle.bson_v1.specs.Text.{IsUpgradedText}
+use Rattle.bson_v1.specs.declared.bare_words.WordForm.TheVariants.{Wrapper}
 use Rattle.bson_tree.specs.Place.{path_of}
 use Rattle.bson_tree.specs.declared.place.Place.{Place}
 use Rattle.bson_convert.specs.declared.error.Error.{Error}
@@ -32,9 +34,15 @@ HasDuplicateKeyAt place bytes = IsUtf8 bytes × HasDuplicateKey bytes (path_of p
 abbrev pub IsInvalidJson : (bytes : List ℕ) → Type 0
 IsInvalidJson bytes = (tree : Data) → IsUtf8 bytes → read bytes ≡ Some tree → ⊥
 
--- a JSON text is rewritten as the text of the tree that its tree denotes; other bytes are kept
-abbrev pub UpgradesTo : (bytes upgraded : List ℕ) → Type 0
-UpgradesTo bytes upgraded = (IsUtf8 bytes × IsUpgradedText bytes upgraded) ⊎ (IsInvalidJson bytes × (upgraded ≡ bytes))
+-- with v1, bare words such as `NaN` are wrappers of doubles
+abbrev pub worded_text : (v1 : Bool) → (bytes : List ℕ) → List ℕ
+worded_text true bytes = with_words Wrapper bytes
+worded_text false bytes = bytes
+
+-- a JSON text is rewritten as the text of the tree that its tree denotes; if it is none, the bytes are kept
+abbrev pub UpgradesTo : (text bytes upgraded : List ℕ) → Type 0
+UpgradesTo text bytes upgraded =
+    (IsUtf8 text × IsUpgradedText text upgraded) ⊎ (IsInvalidJson text × (upgraded ≡ bytes))
 
 -- if duplicate keys are rejected, the bytes have none
 abbrev pub HasAllowedKeys : DuplicateKeys → (bytes : List ℕ) → Type 0
@@ -43,13 +51,14 @@ HasAllowedKeys Reject bytes = LacksDuplicateKey bytes
 
 -- if v1 is rewritten, the bytes are; if it is not, they are kept
 abbrev pub IsRewrittenAs : (v1 : Bool) → (bytes preprocessed : List ℕ) → Type 0
-IsRewrittenAs true bytes preprocessed = UpgradesTo bytes preprocessed
+IsRewrittenAs true bytes preprocessed = UpgradesTo (worded_text true bytes) bytes preprocessed
 IsRewrittenAs false bytes preprocessed = preprocessed ≡ bytes
 
 -- the bytes are accepted, and these are read in their place
 abbrev pub IsPreprocessedAs : Preprocessing → (bytes preprocessed : List ℕ) → Type 0
 IsPreprocessedAs preprocessing bytes preprocessed =
-    HasAllowedKeys preprocessing.duplicate_keys bytes × IsRewrittenAs preprocessing.v1 bytes preprocessed
+    HasAllowedKeys preprocessing.duplicate_keys (worded_text preprocessing.v1 bytes)
+    × IsRewrittenAs preprocessing.v1 bytes preprocessed
 
 -- duplicate keys are rejected, and the first one of the bytes is at the place
 abbrev pub HasRejectedKeyAt : DuplicateKeys → Place → (bytes : List ℕ) → Type 0
@@ -58,7 +67,8 @@ HasRejectedKeyAt Reject place bytes = HasDuplicateKeyAt place bytes
 
 -- the bytes are rejected before they are read
 abbrev pub IsRejectedByPreprocessing : Preprocessing → Place → (bytes : List ℕ) → Type 0
-IsRejectedByPreprocessing preprocessing place bytes = HasRejectedKeyAt preprocessing.duplicate_keys place bytes
+IsRejectedByPreprocessing preprocessing place bytes =
+    HasRejectedKeyAt preprocessing.duplicate_keys place (worded_text preprocessing.v1 bytes)
 
 -- what each error says about the bytes
 abbrev pub IsDuplicateKeyError : DuplicateKeys → Error → (bytes : List ℕ) → Type 0
@@ -67,7 +77,8 @@ IsDuplicateKeyError duplicate_keys OutOfMemory bytes = Unit {0}
 IsDuplicateKeyError duplicate_keys other_error bytes = ⊥
 
 abbrev pub IsPreprocessingError : Preprocessing → Error → (bytes : List ℕ) → Type 0
-IsPreprocessingError preprocessing fault bytes = IsDuplicateKeyError preprocessing.duplicate_keys fault bytes
+IsPreprocessingError preprocessing fault bytes =
+    IsDuplicateKeyError preprocessing.duplicate_keys fault (worded_text preprocessing.v1 bytes)
 
 -- the text, or the bytes if there is none
 abbrev pub preprocessed_of : (bytes : List ℕ) → Option (String Global) → List ℕ

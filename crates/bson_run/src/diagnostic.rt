@@ -214,7 +214,7 @@ pub(crate) fn line_diagnostic(
     text: &[u8],
 ) -> Result<String, AllocError>
     ensures { IfOk result
-        (λ diagnostic. IsDiagnostic task.diagnostics number fault.now text.now (string_bytes diagnostic)) }
+        (λ diagnostic. IsDiagnostic task number fault.now text.now (string_bytes diagnostic)) }
 {
     let explanation = explanation_under(alloc, task, fault, text)?;
     let full_message = explained_message(alloc, fault, &explanation, text)?;
@@ -237,7 +237,7 @@ pub(crate) fn line_diagnostic(
 /// ```
 /// let text: &[u8] = b"?";
 /// let error = Error::NotJson;
-/// let explanation = Explanation::of(alloc, &error, text)?;
+/// let explanation = Explanation::of(alloc, false, &error, text)?;
 /// let position = Position::at(1, explanation.offset(text), text);
 /// rt.print(&explained_json(alloc, position, &error, &explanation, "not JSON")?)?;
 /// // {"line":1,"column":1,"offset":0,"path":null,"pointer":null,"code":"not_json","message":"not JSON"}

@@ -1,9 +1,10 @@
 //! Why a text is rejected, and where: as data, and as a message.
-ghost use Rattle.std.specs.Prelude.{◌≡◌, ◌++◌, codes, ℕ, List, IfOk, map, option_map, string_bytes};
+ghost use Rattle.std.specs.Prelude.{◌≡◌, ◌++◌, codes, ℕ, List, IfOk, false, map, option_map, string_bytes};
 ghost use Rattle.bson_tree.specs.Place.{path_text, path_of, segment_of};
 ghost use Rattle.bson_run.specs.ErrorMessages.{IsExplanation, IsQuotedValue, IsQuotingMessage, IsPositionMessage, column_message, path_message, escaped_message};
 ghost use Rattle.bson_run.specs.ErrorMessages.{explanation_message, explanation_offset, explanation_path};
 
+use crate::located::syntax_error_in;
 use crate::preprocessed::{DUPLICATE_KEY, upgrade};
 use crate::quoted_value::{Occurrence, QuotedValue, quote_value_at};
 use crate::shorten::shorten;
@@ -11,6 +12,7 @@ use crate::syntax_error::SyntaxError;
 use crate::task::Task;
 use bson_convert::error::Error;
 use bson_tree::place::{Place, Reason, Segment};
+use bson_v1::bare_words::{WordForm, replace_words};
 use std::alloc::{AllocError, Global};
 
 /// The greatest number of characters of a path, and of a message.
@@ -25,7 +27,7 @@ const MAX_CHARS: usize = 300;
 ///         place,
 ///         reason,
 ///         offset,
-///     } = Explanation::of(alloc, &error, text)?
+///     } = Explanation::of(alloc, false, &error, text)?
 ///     {
 ///         println!(rt; "{:?}", place.segments)?; // [Element(0), Key("orders")]
 ///         println!(rt; "{reason}")?; // not a 64-bit integer; found 1.5
@@ -56,15 +58,21 @@ pub enum Explanation<'a> {
 }
 
 impl<'a> Explanation<'a> {
-    /// Explains the error of a rejected text.
+    /// Explains the error of a rejected text. If `v1` is true, the words `NaN`, `Infinity` and
+    /// `-Infinity` outside of strings are not syntax errors.
     ///
     /// # Errors
     ///
     /// Returns `AllocError` if an allocation fails.
-    pub fn of(alloc: Global, fault: &'a Error, text: &[u8]) -> Result<Explanation<'a>, AllocError>
-        ensures { IfOk result (λ explanation. IsExplanation text.now fault.now explanation) }
+    pub fn of(
+        alloc: Global,
+        v1: bool,
+        fault: &'a Error,
+        text: &[u8],
+    ) -> Result<Explanation<'a>, AllocError>
+        ensures { IfOk result (λ explanation. IsExplanation v1 text.now fault.now explanation) }
     {
-        explanation_in(alloc, fault, text, None)
+        explanation_in(alloc, v1, fault, text, None)
     }
 
     /// Writes the explanation as the message of [`explain`].
@@ -131,9 +139,9 @@ impl<'a> Explanation<'a> {
 ///
 /// Returns `AllocError` if a request for memory is refused.
 pub fn explain(alloc: Global, fault: &Error, text: &[u8]) -> Result<String, AllocError>
-    ensures place { IfOk result (λ full_message. IsPositionMessage text.now fault.now (string_bytes full_message)) }
+    ensures place { IfOk result (λ full_message. IsPositionMessage false text.now fault.now (string_bytes full_message)) }
 {
-    Explanation::of(alloc, fault, text)?.message(alloc, text)
+    Explanation::of(alloc, false, fault, text)?.message(alloc, text)
 }
 
 /// Explains why a task rejected a text, as [`explain`] does. If another text was read instead, the
@@ -148,7 +156,8 @@ pub fn explain_under(
     fault: &Error,
     text: &[u8],
 ) -> Result<String, AllocError>
-    ensures place { IfOk result (λ full_message. IsPositionMessage text.now fault.now (string_bytes full_message)) }
+    ensures place { IfOk result
+        (λ full_message. IsPositionMessage task.preprocessing.v1 text.now fault.now (string_bytes full_message)) }
 {
     explanation_under(alloc, task, fault, text)?.message(alloc, text)
 }
@@ -166,14 +175,15 @@ pub fn explanation_under<'a>(
     fault: &'a Error,
     text: &[u8],
 ) -> Result<Explanation<'a>, AllocError>
-    ensures { IfOk result (λ explanation. IsExplanation text.now fault.now explanation) }
+    ensures { IfOk result (λ explanation. IsExplanation task.preprocessing.v1 text.now fault.now explanation) }
 {
+    let v1 = task.preprocessing.v1;
     let Error::NotExtendedJson(_) = fault else {
-        return explanation_in(alloc, fault, text, None);
+        return Explanation::of(alloc, v1, fault, text);
     };
     match upgraded_text(alloc, task, text)? {
-        Some(upgraded) => explanation_in(alloc, fault, text, Some(upgraded.as_bytes())),
-        None => explanation_in(alloc, fault, text, None),
+        Some(upgraded) => explanation_in(alloc, v1, fault, text, Some(upgraded.as_bytes())),
+        None => Explanation::of(alloc, v1, fault, text),
     }
 }
 
@@ -191,14 +201,15 @@ fn upgraded_text(alloc: Global, task: Task, text: &[u8]) -> Result<Option<String
 // Explains the error of a text, or of the newer one that was read.
 fn explanation_in<'a>(
     alloc: Global,
+    v1: bool,
     fault: &'a Error,
     text: &[u8],
     upgraded: Option<&[u8]>,
 ) -> Result<Explanation<'a>, AllocError>
-    ensures { IfOk result (λ explanation. IsExplanation text.now fault.now explanation) }
+    ensures { IfOk result (λ explanation. IsExplanation v1 text.now fault.now explanation) }
 {
     match fault {
-        Error::NotJson => Ok(Explanation::Syntax(SyntaxError::of(alloc, text)?)),
+        Error::NotJson => Ok(Explanation::Syntax(syntax_error_in(alloc, v1, text)?)),
         Error::NotExtendedJson(place) => {
             let value = value_at_place(alloc, place, text, upgraded)?;
             let reason = reason_text(alloc, &place.reason, value.quote.as_str())?;
@@ -252,8 +263,7 @@ fn uncut_reason(alloc: Global, reason: &Reason, quote: &str) -> Result<String, A
     }
 }
 
-// Returns the value at the path of an error. The second value at a duplicate key is not quoted, since it
-// is not wrong. There is no value if the newer text has another value there.
+// Returns the value at the path of an error. There is no value if the newer text has another value there.
 fn value_at_place(
     alloc: Global,
     place: &Place,
@@ -262,21 +272,53 @@ fn value_at_place(
 ) -> Result<QuotedValue, AllocError>
     ensures { IfOk result (λ value. IsQuotedValue text.now value.offset (string_bytes value.quote)) }
 {
+    let Some(upgraded) = upgraded else {
+        return value_in(alloc, place, text, text);
+    };
+    if !keeps_value(alloc, place, text, upgraded)? {
+        return Ok(QuotedValue::missing(alloc));
+    }
+    match replace_words(alloc, WordForm::Digits, text)? {
+        Some(located) => value_in(alloc, place, &located, text),
+        None => value_in(alloc, place, text, text),
+    }
+}
+
+// Returns the value of the text at the path of an error in the located text. The second value at a
+// duplicate key is not quoted, since it is not wrong.
+fn value_in(
+    alloc: Global,
+    place: &Place,
+    located: &[u8],
+    text: &[u8],
+) -> Result<QuotedValue, AllocError>
+    ensures { IfOk result (λ value. IsQuotedValue text.now value.offset (string_bytes value.quote)) }
+{
     let segments = &place.segments;
     if is_duplicate_key(&place.reason) {
-        let value = quote_value_at(alloc, segments, text, Occurrence::Second)?;
+        let value = quote_value_at(alloc, segments, located, text, Occurrence::Second)?;
         return Ok(value.without_quote(alloc));
     }
-    let value = quote_value_at(alloc, segments, text, Occurrence::Last)?;
-    let Some(upgraded) = upgraded else {
-        return Ok(value);
-    };
-    let upgraded_value = quote_value_at(alloc, segments, upgraded, Occurrence::Last)?;
-    if upgraded_value.quote.as_str() == value.quote.as_str() {
-        Ok(value)
-    } else {
-        Ok(QuotedValue::missing(alloc))
+    quote_value_at(alloc, segments, located, text, Occurrence::Last)
+}
+
+// Returns whether the newer text has the value of the text at the path of an error, with wrappers in place of
+// words. The path of a duplicate key is that of the text.
+fn keeps_value(
+    alloc: Global,
+    place: &Place,
+    text: &[u8],
+    upgraded: &[u8],
+) -> Result<bool, AllocError> {
+    if is_duplicate_key(&place.reason) {
+        return Ok(true);
     }
+    let value = match replace_words(alloc, WordForm::Wrapper, text)? {
+        Some(worded) => value_in(alloc, place, &worded, &worded)?,
+        None => value_in(alloc, place, text, text)?,
+    };
+    let upgraded_value = value_in(alloc, place, upgraded, upgraded)?;
+    Ok(value.quote.as_str() == upgraded_value.quote.as_str())
 }
 
 // Returns whether the reason is that of a duplicate key.

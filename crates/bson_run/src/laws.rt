@@ -23,7 +23,7 @@ pub fn one_outcome()
         (output other_output first_diagnostics second_diagnostics : List ℕ) (refused other_refused : ℕ)
         → LineOutcomes options task on_refusal lines output first_diagnostics refused
         → LineOutcomes options task on_refusal lines other_output second_diagnostics other_refused
-        → (output ≡ other_output) × AreSameDiagnostics task.diagnostics first_diagnostics second_diagnostics
+        → (output ≡ other_output) × AreSameDiagnostics task first_diagnostics second_diagnostics
         × (refused ≡ other_refused) }
 {
     one_duplicate_path();
@@ -39,7 +39,7 @@ pub fn one_stop()
         (line_number other_line_number : ℕ)
         → StopsInsideInput options task on_refusal lines output first_diagnostics fault line_number
         → StopsInsideInput options task on_refusal lines other_output second_diagnostics other_fault other_line_number
-        → (output ≡ other_output) × AreSameDiagnostics task.diagnostics first_diagnostics second_diagnostics
+        → (output ≡ other_output) × AreSameDiagnostics task first_diagnostics second_diagnostics
         × IsSameFault fault other_fault × (line_number ≡ other_line_number) }
     ensures either { (options : Options) (task : Task) (on_refusal : OnRefusal) (lines : List (List ℕ))
         (output other_output first_diagnostics second_diagnostics : List ℕ) (fault : Error) (line_number refused : ℕ)

@@ -200,7 +200,7 @@ impl LineRunState {
     ///
     /// `AllocError` if an allocation fails.
     pub fn place(&self, alloc: Global, task: Task, fault: &Error) -> Result<String, AllocError>
-        ensures { IfOk result (λ place. IsPositionMessage (buffered_text self.now) fault.now (string_bytes place)) }
+        ensures { IfOk result (λ place. IsPositionMessage task.preprocessing.v1 (buffered_text self.now) fault.now (string_bytes place)) }
     {
         explain_under(alloc, task, fault, text(self.lines, &self.line))
     }
@@ -211,7 +211,7 @@ impl LineRunState {
     ///
     /// `AllocError` if an allocation fails.
     pub fn diagnostic(&self, alloc: Global, task: Task, fault: &Error) -> Result<String, AllocError>
-        ensures { IfOk result (λ diagnostic. IsDiagnostic task.diagnostics (min (self.now.lines + 1) (2 ^ 64 - 1))
+        ensures { IfOk result (λ diagnostic. IsDiagnostic task (min (self.now.lines + 1) (2 ^ 64 - 1))
             fault.now (buffered_text self.now) (string_bytes diagnostic)) }
     {
         let number = self.lines.saturating_add(1);
@@ -273,7 +273,7 @@ impl LineRunState {
         requires room { LineCountFits self.old }
         ensures ok { OnOk result ((fault ≢ Error.OutOfMemory) × (settings.on_refusal ≢ Stop)
             × (self.new.refused ≡ self.old.refused + 1)
-            × IsDiagnosticAppended settings.task.diagnostics (self.old.lines + 1) fault
+            × IsDiagnosticAppended settings.task (self.old.lines + 1) fault
             (line_text self.old.lines self.old.line.items) self.old.diagnostics.items self.new.diagnostics.items) }
         ensures err { OnErr result ((self.new.diagnostics.items ≡ self.old.diagnostics.items)
             × (self.new.refused ≡ self.old.refused)) }
@@ -300,7 +300,7 @@ impl LineRunState {
     fn add_diagnostic(&mut self, alloc: Global, task: Task, fault: &Error) -> Result<(), AllocError>
         requires room { LineCountFits self.old }
         ensures ok { OnOk result
-            (IsDiagnosticAppended task.diagnostics (self.old.lines + 1) fault.now
+            (IsDiagnosticAppended task (self.old.lines + 1) fault.now
             (line_text self.old.lines self.old.line.items) self.old.diagnostics.items self.new.diagnostics.items) }
         ensures err { OnErr result (self.new.diagnostics.items ≡ self.old.diagnostics.items) }
         ensures unchanged { (self.new.line ≡ self.old.line) × (self.new.output ≡ self.old.output)

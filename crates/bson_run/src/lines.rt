@@ -147,7 +147,7 @@ impl LineRun {
     /// `AllocError` if an allocation fails.
     pub fn place(&self, alloc: Global, fault: &Error) -> Result<String, AllocError>
         ensures { IfOk result
-            (λ place. IsPositionMessage (buffered_text self.now.state) fault.now (string_bytes place)) }
+            (λ place. IsPositionMessage self.now.task.preprocessing.v1 (buffered_text self.now.state) fault.now (string_bytes place)) }
     {
         self.state.place(alloc, self.task, fault)
     }
@@ -158,7 +158,7 @@ impl LineRun {
     ///
     /// `AllocError` if an allocation fails.
     pub fn diagnostic(&self, alloc: Global, fault: &Error) -> Result<String, AllocError>
-        ensures { IfOk result (λ diagnostic. IsDiagnostic self.now.task.diagnostics (line_number_of self.now)
+        ensures { IfOk result (λ diagnostic. IsDiagnostic self.now.task (line_number_of self.now)
             fault.now (buffered_text self.now.state) (string_bytes diagnostic)) }
     {
         self.state.diagnostic(alloc, self.task, fault)

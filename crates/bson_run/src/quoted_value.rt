@@ -54,20 +54,24 @@ impl QuotedValue {
     }
 }
 
-/// Finds the value at a path in the text, and quotes it.
+/// Finds the value at a path in the located text, and quotes the text there. The two have the same length.
 pub(crate) fn quote_value_at(
     alloc: Global,
     segments: &[Segment],
+    located: &[u8],
     text: &[u8],
     occurrence: Occurrence,
 ) -> Result<QuotedValue, AllocError>
     ensures { IfOk result (λ value. IsQuotedValue text.now value.offset (string_bytes value.quote)) }
 {
-    let Ok(text) = simdutf8::compat::from_utf8(text) else {
+    let (Ok(located), Ok(text)) = (
+        simdutf8::compat::from_utf8(located),
+        simdutf8::compat::from_utf8(text),
+    ) else {
         return Ok(QuotedValue::missing(alloc));
     };
     let mut scratch = Scratch::new(alloc);
-    let mut reader = Reader::new(text, &mut scratch)?;
+    let mut reader = Reader::new(located, &mut scratch)?;
     let Ok(Some((start_offset, end_offset))) = value_at(&mut reader, segments, occurrence) else {
         return Ok(QuotedValue::missing(alloc));
     };

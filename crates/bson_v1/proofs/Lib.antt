@@ -5,3 +5,4 @@ pub mod Passing
 pub mod Complete
 pub mod Objects
 pub mod Version1Laws
+pub mod Words

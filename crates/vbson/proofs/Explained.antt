@@ -1,5 +1,5 @@
 -- The struct that explains why a text is rejected, under the options.
-use Rattle.std.proofs.Common.{◌≡◌, ◌≢◌, inl, inr, ℕ, List, None, Some, refl, subst, arith}
+use Rattle.std.proofs.Common.{◌≡◌, ◌≢◌, inl, inr, ℕ, Bool, List, None, Some, refl, subst, arith}
 use Rattle.json.specs.Json.{Json}
 use Rattle.json.specs.Strict.{HasUniqueKeys}
 use Rattle.serde_json.specs.Read.{read}
@@ -31,7 +31,7 @@ use Rattle.vbson.specs.declared.options.CallOptions.{CallOptions}
 -- ---- of what is read in the place of the text, and of a text that preprocessing rejects
 
 pub of_read : (options : CallOptions) (text read : List ℕ) (out : Rejection) → IsPreprocessedAs (preprocessing_of options) text read
-    → ExplainsWithoutPreprocessing (options_of_call options) read out → Explains options text out
+    → ExplainsWithoutPreprocessing (preprocessing_of options).v1 (options_of_call options) read out → Explains options text out
 of_read options text read out is (inl h) = inl ((h.0.0, record { read_text = read; read_as = is; meaning = h.0.1 }), h.1)
 of_read options text read out is (inr h) =
     inr (record { fault = h.0; read_text = read; refused = inl (is, h.1); reported = h.2; error = h.3 })
@@ -42,7 +42,7 @@ long_of_read options text read e is h reported =
     let it = h reported in record { fault = it.0; read_text = read; refused = inl (is, it.1); too_long = it.2 }
 
 pub refused_first : (options : CallOptions) (fault : Error) (text : List ℕ) (out : Rejection) → IsPreprocessingError (preprocessing_of options) fault text
-    → fault ≢ errors.OutOfMemory → ExplainsError text fault out → Explains options text out
+    → fault ≢ errors.OutOfMemory → ExplainsError (preprocessing_of options).v1 text fault out → Explains options text out
 refused_first options fault text out h reported is =
     inr (record { fault = fault; read_text = text; refused = inr (refl, h); reported = reported; error = is })
 
@@ -82,17 +82,17 @@ reason_code : (reason : Reason) (n : ℕ) → n ≡ status_of_reason reason → 
 reason_code (BadObjectId e) n is zero = absurd (omega (arith, is, zero))
 reason_code (WrongShape message) n is zero = absurd (omega (arith, is, zero))
 
-some_code : (text : List ℕ) (fault : Error) (it : Explanation) (n : ℕ) → IsExplanation text fault it → (HasNoPosition fault → ⊥)
+some_code : (v1 : Bool) (text : List ℕ) (fault : Error) (it : Explanation) (n : ℕ) → IsExplanation v1 text fault it → (HasNoPosition fault → ⊥)
     → n ≡ explanation_code it → n ≡ 0 → ⊥
-some_code text fault (explained.Syntax stop) n h reported is zero = absurd (omega (arith, is, zero))
-some_code text fault (explained.Value place reason offset) n h reported is zero = reason_code place.now.reason n is zero
-some_code text fault (explained.Difference column) n h reported is zero = absurd (omega (arith, is, zero))
-some_code text fault explained.Other n h reported is zero = reported h
+some_code v1 text fault (explained.Syntax stop) n h reported is zero = absurd (omega (arith, is, zero))
+some_code v1 text fault (explained.Value place reason offset) n h reported is zero = reason_code place.now.reason n is zero
+some_code v1 text fault (explained.Difference column) n h reported is zero = absurd (omega (arith, is, zero))
+some_code v1 text fault explained.Other n h reported is zero = reported h
 
 -- a text that is refused has a code
 refuses_code : (options : CallOptions) (text : List ℕ) (out : Rejection) → ExplainsRejection options text out → out.code ≡ 0 → ⊥
 refuses_code options text out h zero =
-    some_code h.read_text h.fault h.error.explanation out.code h.error.is_explanation
+    some_code (preprocessing_of options).v1 h.read_text h.fault h.error.explanation out.code h.error.is_explanation
     (of_rejected options text h.read_text h.fault h.refused h.reported) h.error.error_report.code zero
 
 pub accepted_from : (options : CallOptions) (text : List ℕ) (out : Rejection) → Explains options text out → out.code ≡ 0

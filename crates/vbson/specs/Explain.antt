@@ -1,5 +1,5 @@
 -- Why a text is rejected, and where, as an error struct.
-use Rattle.std.specs.Prelude.{◌≡◌, ◌≢◌, ◌⊎◌, ◌-◌, ℕ, IsUtf8, List, [], ◌++◌, length, min, take, string_bytes}
+use Rattle.std.specs.Prelude.{◌≡◌, ◌≢◌, ◌⊎◌, ◌-◌, ℕ, Bool, IsUtf8, List, [], ◌++◌, length, min, take, string_bytes}
 use Rattle.bson.specs.TextMeaning.{HasTextMeaningIn}
 use Rattle.bson.specs.Value.{Value}
 use Rattle.bson_model.specs.declared.options.Options.{Options}
@@ -78,9 +78,9 @@ pub record ReportsExplanation (text : List ℕ) (explanation : Explanation) (des
   pub message : IsOwnedText description rejection.message
 
 -- the error struct explains the error of the text; its message is that of the error, followed by its path
-pub record ExplainsError (text : List ℕ) (fault : Error) (rejection : Rejection) : Type 0 where
+pub record ExplainsError (v1 : Bool) (text : List ℕ) (fault : Error) (rejection : Rejection) : Type 0 where
   pub explanation : Explanation
-  pub is_explanation : IsExplanation text fault explanation
+  pub is_explanation : IsExplanation v1 text fault explanation
   pub error_report : ReportsExplanation text explanation
       (error_message fault ++ explanation_message text explanation) rejection
   pub utf8 : IsUtf8 (error_message fault ++ explanation_message text explanation)
@@ -100,7 +100,7 @@ pub record ExplainsRejection (options : CallOptions) (text : List ℕ) (rejectio
   pub read_text : List ℕ
   pub refused : IsRejectedFor options text read_text fault
   pub reported : fault ≢ OutOfMemory
-  pub error : ExplainsError read_text fault rejection
+  pub error : ExplainsError (preprocessing_of options).v1 read_text fault rejection
 
 -- the text denotes a value, and the error struct has the code 0 and an empty message; or the text is rejected
 abbrev pub Explains : CallOptions → (text : List ℕ) → Rejection → Type 0
@@ -122,10 +122,10 @@ pub record ErrorPathIsTooLong (options : CallOptions) (text : List ℕ) : Type 0
 -- ---- for private clauses
 
 -- the error struct explains a text without preprocessing
-abbrev pub ExplainsWithoutPreprocessing : Options → (text : List ℕ) → Rejection → Type 0
-ExplainsWithoutPreprocessing options text rejection =
+abbrev pub ExplainsWithoutPreprocessing : (v1 : Bool) → Options → (text : List ℕ) → Rejection → Type 0
+ExplainsWithoutPreprocessing v1 options text rejection =
     (((value : Value) × HasTextMeaningIn options.doubles text value) × ReportsExplanation [] Other [] rejection)
-    ⊎ ((fault : Error) × IsRejectedIn options fault text × (fault ≢ OutOfMemory) × ExplainsError text fault rejection)
+    ⊎ ((fault : Error) × IsRejectedIn options fault text × (fault ≢ OutOfMemory) × ExplainsError v1 text fault rejection)
 
 -- memory ran out, or the path to an error that rejects the text exceeds the limits of BSON
 abbrev pub IsUnexplained : PathError → (rejects : Error → Type 0) → Type 0

@@ -94,24 +94,27 @@ fn explain_text(
     ensures error_report { IfOk result (λ rejection. Explains options text.now rejection) }
     ensures too_long { IfErr result (λ error. error ≢ path_error.OutOfMemory → ErrorPathIsTooLong options text.now) }
 {
-    match preprocess_text(alloc, preprocessing_of(options), text) {
+    let preprocessing = preprocessing_of(options);
+    match preprocess_text(alloc, preprocessing, text) {
         Ok(new_text) => explain_without_preprocessing(
             alloc,
+            preprocessing.v1,
             options_of(options),
             text_to_read(&new_text, text),
         ),
         Err(fault) if fault.is_out_of_memory() => Err(PathError::OutOfMemory),
-        Err(fault) => rejection_of_error(alloc, &fault, text),
+        Err(fault) => rejection_of_error(alloc, preprocessing.v1, &fault, text),
     }
 }
 
 // Explains the text that is read.
 fn explain_without_preprocessing(
     alloc: Global,
+    v1: bool,
     options: Options,
     text: &[u8],
 ) -> Result<Rejection<'static>, PathError>
-    ensures error_report { IfOk result (λ rejection. ExplainsWithoutPreprocessing options text.now rejection) }
+    ensures error_report { IfOk result (λ rejection. ExplainsWithoutPreprocessing v1 options text.now rejection) }
     ensures too_long { IfErr result (λ error. IsUnexplained error (λ fault. IsRejectedIn options fault text.now)) }
 {
     // A law: a tree means at most one value, which is plain and writable.
@@ -119,7 +122,7 @@ fn explain_without_preprocessing(
     match check(alloc, options, text) {
         Ok(()) => empty_rejection(alloc),
         Err(Error::OutOfMemory) => Err(PathError::OutOfMemory),
-        Err(fault) => rejection_of_error(alloc, &fault, text),
+        Err(fault) => rejection_of_error(alloc, v1, &fault, text),
     }
 }
 
@@ -136,13 +139,14 @@ fn empty_rejection(alloc: Global) -> Result<Rejection<'static>, PathError>
 // Returns the error struct for an error of the text.
 fn rejection_of_error(
     alloc: Global,
+    v1: bool,
     fault: &Error,
     text: &[u8],
 ) -> Result<Rejection<'static>, PathError>
-    ensures error_report { IfOk result (λ rejection. ExplainsError text.now fault.now rejection) }
+    ensures error_report { IfOk result (λ rejection. ExplainsError v1 text.now fault.now rejection) }
     ensures too_long { IfErr result (λ error. error ≢ path_error.OutOfMemory → HasTooLongPath fault.now) }
 {
-    let explanation = Explanation::of(alloc, fault, text)?;
+    let explanation = Explanation::of(alloc, v1, fault, text)?;
     let place_message = explanation.message(alloc, text)?;
     let message = error_line(alloc, fault, &place_message)?;
     let fields = rejection_fields_of(alloc, &explanation, text)?;

@@ -23,8 +23,8 @@ class Options(TypedDict, total=False):
     reject_duplicate_keys   reject input in which an object or a document has a duplicate key; without it the last value
                             wins, at the position of the first (False by default)
     v1                      accept Extended JSON v1 too: {"$binary": .., "$type": ..}, {"$regex": .., "$options": ..}, a
-                            $date without seconds or with an offset such as +0100, and a $uuid without hyphens
-                            (False by default)
+                            $date without seconds or with an offset such as +0100, a $uuid without hyphens, and the words
+                            NaN, Infinity and -Infinity (False by default)
     mongodb_layout          write dates and wrappers as libbson and json_util of PyMongo do: a fraction of a second has
                             three digits, and with keep_order "t" is before "i", "pattern" before "options", and "$ref"
                             before "$id". False writes no zeros at the end of a fraction, and ascending keys in

@@ -75,8 +75,8 @@ pub struct Options {
     /// Rejects input in which an object or a document has a duplicate key, at any depth.
     pub reject_duplicate_keys: bool,
     /// Accepts Extended JSON v1 too: `{"$binary": .., "$type": ..}`, `{"$regex": .., "$options": ..}`, a `$date` without
-    /// seconds or with an offset such as `+0100`, and a `$uuid` without hyphens. Bytes are not Extended JSON: the calls
-    /// that decode them reject the option.
+    /// seconds or with an offset such as `+0100`, a `$uuid` without hyphens, and the words `NaN`, `Infinity` and
+    /// `-Infinity`. Bytes are not Extended JSON: the calls that decode them reject the option.
     pub v1: bool,
     /// Lays out the two forms as libbson and `json_util` of PyMongo do. A fraction of a second has three digits. With
     /// `keep_order`, `t` is before `i`, `pattern` before `options`, and `$ref` before `$id` in their wrappers. Without it a

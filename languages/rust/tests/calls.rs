@@ -252,6 +252,7 @@ fn v1_is_an_option_of_texts() {
     let (older, newer) = (r#"{"b":{"$binary":"AQI=","$type":"00"},"a":1.5}"#, r#"{"b":{"$binary":{"base64":"AQI=","subType":"00"}},"a":1.5}"#);
     assert_eq!(&*convert_with(Mode::Relaxed, v1, older.as_bytes()).unwrap(), newer);
     assert_eq!(&*encode(v1, older.as_bytes()).unwrap(), &*encode(Options::default(), newer.as_bytes()).unwrap());
+    assert_eq!(&*convert_with(Mode::Relaxed, v1, b"[-Infinity]").unwrap(), r#"[{"$numberDouble":"-Infinity"}]"#);
     assert_eq!(kind(convert(Mode::Relaxed, older.as_bytes())), Some(ErrorKind::NotExtendedJson));
     assert_eq!(&*convert_lines(Mode::Relaxed, v1, older.as_bytes()).unwrap().text, format!("{newer}\n"));
     assert_eq!((encode_lines(v1, older.as_bytes()).unwrap().refused, explain(v1, older.as_bytes())), (vec![], None));

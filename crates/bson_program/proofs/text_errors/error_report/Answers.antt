@@ -1,5 +1,5 @@
-use Rattle.std.proofs.Common.{◌∙◌, ap, string_bytes, subst, sym}
-use Rattle.bson_program.specs.TextErrors.{IsErrorReport, error_json}
+use Rattle.std.proofs.Common.{◌≡◌, ◌∙◌, ap, string_bytes, subst, sym}
+use Rattle.bson_program.specs.TextErrors.{error_json, report_of}
 use Rattle.bson_program.proofs.text_errors.error_report.Goals as goal
 
 pub returns-in-Text : goal.returns-in-Text
@@ -8,9 +8,13 @@ returns-in-Text c =
     let content = c.args.input_text.content.now in
     let start = c.args.input_text.start in
     let text = c.args.input_text.text.now in
-    subst (λ format. IsErrorReport format fault (string_bytes c.in_ok-position_message.position_message) c.error_line-line_number.result content start text)
-    (sym c.in-Text.is)
-    (c.in_ok-explanation.explanation, c.in_ok-explanation.ensures, c.in_ok-position_message.ensures, c.error_line-line_number.ensures)
+    let explanation = c.in_ok-explanation.explanation in
+    let message = string_bytes c.in_ok-position_message.position_message in (
+      explanation,
+      c.in_ok-explanation.ensures,
+      subst (λ format. message ≡ report_of format fault content start text explanation) (sym c.in-Text.is) c.in_ok-position_message.ensures,
+      c.error_line-line_number.ensures,
+    )
 
 pub returns : goal.returns
 returns c =
@@ -19,11 +23,11 @@ returns c =
     let start = c.args.input_text.start in
     let text = c.args.input_text.text.now in
     let explanation = c.in_ok-explanation.explanation in
-    subst (λ format. IsErrorReport format fault (string_bytes c.in_ok-json-in-Json.json) c.error_line-line_number.result content start text)
-    (sym c.in-Json.is) (
+    let json = string_bytes c.in_ok-json-in-Json.json in (
       explanation,
       c.in_ok-explanation.ensures,
-      c.in_ok-json-in-Json.ensures
-          ∙ ap (λ message. error_json fault content start text explanation message) (c.deref.ensures ∙ c.in_ok-position_message.ensures),
+      subst (λ format. json ≡ report_of format fault content start text explanation) (sym c.in-Json.is)
+          (c.in_ok-json-in-Json.ensures
+          ∙ ap (λ message. error_json fault content start text explanation message) (c.deref.ensures ∙ c.in_ok-position_message.ensures)),
       c.error_line-line_number.ensures,
     )

@@ -1,4 +1,4 @@
-use Rattle.std.proofs.Common.{subst, sym}
+use Rattle.std.proofs.Common.{false, subst, sym}
 use Rattle.bson_run.specs.ErrorMessages.{IsPositionMessage}
 use Rattle.bson_run.proofs.Explaining.{where_from}
 use Rattle.bson_run.proofs.LinesLaws.{oks_with}
@@ -11,5 +11,5 @@ returns c =
     let found = c.in_ok-of.field-0 in
     record {
       place = oks_with c.message.result c.message.ensures
-          (λ full_message e. subst (IsPositionMessage text fault) (sym e) (where_from text fault found c.in_ok-of.ensures));
+          (λ full_message e. subst (IsPositionMessage false text fault) (sym e) (where_from false text fault found c.in_ok-of.ensures));
     }

@@ -15,7 +15,7 @@ returns-in-Ok-clause-error_report c =
     let law = c.reading_in_each_mode.ensures in
     let accepted = c.in-Ok.ensures.ok in
     let (tree, value, is_text, means) = accepted in
-    IfOk-weaker c.empty_rejection.result (λ (out : Rejection). ReportsExplanation [] Other [] out) (λ (out : Rejection). ExplainsWithoutPreprocessing o text out)
+    IfOk-weaker c.empty_rejection.result (λ (out : Rejection). ReportsExplanation [] Other [] out) (λ (out : Rejection). ExplainsWithoutPreprocessing c.args.v1 o text out)
     (λ out says. inl (
       (
         value,

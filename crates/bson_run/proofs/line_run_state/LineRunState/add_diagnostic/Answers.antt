@@ -15,7 +15,7 @@ returns-clause-ok c =
     on_ok_weaker c.extend_from_slice.result
     (λ grown. (
       diagnostic,
-      subst (λ text. IsDiagnostic c.args.task.diagnostics (self.lines + 1) c.args.fault.now text diagnostic) line
+      subst (λ text. IsDiagnostic c.args.task (self.lines + 1) c.args.fault.now text diagnostic) line
           c.in_ok-diagnostic.ensures,
       grown,
       IsUtf8-string_bytes c.in_ok-diagnostic.diagnostic,

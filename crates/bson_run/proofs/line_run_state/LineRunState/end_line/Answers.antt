@@ -39,7 +39,7 @@ returns-clause-ok c =
           (ap (λ (s : LineRunState). s.output.items) w.self-is ∙ ap (λ v. v.items) refused.unchanged.1)
           (ap (λ (s : LineRunState). s.refused) w.self-is ∙ refused.ok.2) refused.ok.1
           (judged_bad c.args.settings.options c.args.settings.task w.in-Err.fault _ (subst (IsConversionFailure c.args.settings.options c.args.settings.task w.in-Err.fault) text w.in-Err.ensures.fault) refused.ok.0)
-          (subst (IsDiagnosticAppended c.args.settings.task.diagnostics (self.lines + 1) w.in-Err.fault (line_text self.lines self.line.items) self.diagnostics.items)
+          (subst (IsDiagnosticAppended c.args.settings.task (self.lines + 1) w.in-Err.fault (line_text self.lines self.line.items) self.diagnostics.items)
           (sym (ap (λ (s : LineRunState). s.diagnostics.items) w.self-is)) refused.ok.3)
     ]
 
