@@ -227,10 +227,11 @@ static inline uint32_t vbson_is_canonical_text(const vbson_options *options, con
 /* Why input is rejected, and where. Free path, reason and message with vbson_buffer_free. */
 typedef struct vbson_error {
     uint32_t code;        /* the status of the rejection; VBSON_OK if the input is accepted */
-    size_t line;          /* of VBSON_NOT_JSON: the line on which the input stops to be JSON, from 1; otherwise 0 */
-    size_t column;        /* of VBSON_NOT_JSON: the byte of that line, from 1; otherwise 0 */
-    size_t offset;        /* of VBSON_NOT_JSON: the number of bytes of the input before that byte. Of VBSON_NOT_A_DOCUMENT: the
-                             number of bytes before the first error. Otherwise 0 */
+    size_t line;          /* the line of the input, from 1, on which it stops to be JSON, or on which the invalid value begins.
+                             0 if that is not known, and for a document's bytes */
+    size_t column;        /* the byte of that line, from 1; or 0 */
+    size_t offset;        /* the number of bytes of the input before that byte; or 0. Of VBSON_NOT_A_DOCUMENT: the number of
+                             bytes before the first error */
     vbson_buffer path;    /* the way to the invalid value: the bytes of a BSON array, for vbson_raw_elements. A key is a
                              string, and an array index, from 0, an integer of 64 bits. It is empty if the error is that of
                              the whole input, of JSON, or of a document's bytes */
@@ -263,7 +264,9 @@ uint32_t vbson_explain_nonnull(const vbson_options *options, const uint8_t *text
  *     " (MESSAGE)"              if the error is that of the whole value
  * In PATH and MESSAGE control characters, U+2028 and U+2029 are escaped as in JSON, for example \u001b. After 300
  * characters they are cut off with "..". PATH is ambiguous if a key contains a point or a backslash, or has only digits;
- * the array path is exact. With VBSON_V1_ACCEPT, all positions are those in the Extended JSON v2 that is read instead.
+ * the array path is exact. If a key is a duplicate that the options reject, line, column and offset are those of its second
+ * value. With VBSON_V1_ACCEPT the path leads into the Extended JSON v2 that is read instead. VALUE, line, column and offset
+ * are those of the input; if it has no value or another one at the path, VALUE is left out, and the numbers are 0.
  * The call reads the input as vbson_convert does, so use it only after a rejection. *out is overwritten: its old
  * blocks are not freed. VBSON_TOO_LONG if the array path has 2^31 bytes or more.
  * VBSON_INVALID_ARGUMENT, VBSON_OUT_OF_MEMORY. */

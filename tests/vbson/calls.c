@@ -187,8 +187,8 @@ static int is_whole(const vbson_error *it) {
     if (it->code == VBSON_OK)
         return it->message.len == 0 && it->reason.len == 0 && it->path.len == 5 && it->line == 0 && it->column == 0 && it->offset == 0;
     if (strncmp(message, kind, len) != 0 || it->message.len < len + it->reason.len + 3) return 0;
-    if (it->code != VBSON_NOT_JSON && (it->line != 0 || it->column != 0 || it->offset != 0)) return 0;
-    if (it->code == VBSON_NOT_JSON && (it->line == 0 || it->column == 0 || it->offset + 1 < it->column || it->path.len != 5)) return 0;
+    if (it->code == VBSON_NOT_JSON && (it->line == 0 || it->path.len != 5)) return 0;
+    if (it->line == 0 ? it->column != 0 || it->offset != 0 : it->column == 0 || it->offset + 1 < it->column) return 0;
     message += it->message.len - it->reason.len - 1;
     return message[-1] == '(' && strncmp(message, reason, it->reason.len) == 0 && strcmp(message + it->reason.len, ")") == 0;
 }
@@ -222,6 +222,16 @@ static int stops(const char *text, size_t line, size_t column, size_t offset, co
     return is_right;
 }
 
+/* Where the wrong value of a text begins. */
+static int begins(uint32_t fields, const char *text, size_t line, size_t column, size_t offset) {
+    vbson_error out = VBSON_ERROR_INIT;
+    int is_right = vbson_explain(with(fields), TEXT(text), &out) == VBSON_OK && out.code != VBSON_OK && out.code != VBSON_NOT_JSON
+        && out.line == line && out.column == column && out.offset == offset && is_whole(&out);
+    if (!is_right) printf("%u %zu %zu %zu\n", out.code, out.line, out.column, out.offset);
+    vbson_error_free(&out);
+    return is_right;
+}
+
 static void errors(void) {
     char nested[1200], path[1200] = "";
     CHECK(finds(0, "{\"a\":1}", VBSON_OK, "") && finds(0, "1.5", VBSON_NOT_EXTENDED_JSON, "") && finds(0, "[1,]", VBSON_NOT_JSON, ""));
@@ -248,6 +258,14 @@ static void errors(void) {
     CHECK(stops("[1]\n\n x", 3, 2, 6, "unexpected data after the value"));
     CHECK(stops("{\"a\":1,\n\"b\":\n  1e400}", 3, 3, 15, "number out of range"));
     CHECK(stops("[\n\"\xff\"]", 2, 2, 3, "invalid UTF-8"));
+    CHECK(begins(0, "1.5", 1, 1, 0) && begins(0, "{\"orders\":[1,{\"price\":1.5}]}", 1, 23, 22));
+    CHECK(begins(0, "{\"a\": [5,\n{\"$oid\": \"53e3\"}]}", 2, 10, 19) && begins(0, "[\n\"\xc3\xa9\",\n \"\xc3\xa9\", 1.5]", 3, 8, 15));
+    /* (the last value of a duplicate key is the one that is read, and the second one is rejected) */
+    CHECK(begins(0, "{\"$oid\":\"53e3\",\"$oid\":5}", 1, 23, 22) && begins(DISTINCT, "{\"a\":{\"b\":1,\n\"b\":2,\"b\":3}}", 2, 5, 17));
+    CHECK(begins(DISTINCT | V1, "[{\"b\":{\"\\u0061\":1,\"a\":2}}]", 1, 23, 22));
+    /* (a value that was rewritten is not in the input) */
+    CHECK(begins(V1, "[{\"$binary\":\"AQI=\",\"$type\":\"00\"},\n{\"$numberInt\":\"x\"}]", 2, 15, 48));
+    CHECK(begins(V1, "{\"a\":{\"$binary\":\"AQI=\",\"$type\":\"000\"}}", 0, 0, 0));
 }
 
 static void explain(void) {
@@ -278,7 +296,7 @@ static void explain(void) {
     CHECK(explains(0, "{\"$binary\":\"AQI=\",\"$type\":\"00\"}",
         "not Extended JSON (`$binary` must be the only key of its object; found {\"$binary\":\"AQI=\",\"$type\":\"00\"})"));
     CHECK(explains(V1, "{\"a\":{\"$binary\":\"AQI=\",\"$type\":\"000\"}}",
-        "not Extended JSON at a.$binary (`subType` must be two hexadecimal digits; found {\"base64\":\"AQI=\",\"subType\":\"000\"})"));
+        "not Extended JSON at a.$binary (`subType` must be two hexadecimal digits)"));
     CHECK(vbson_explain(with(UINT32_MAX), TEXT("!"), &out) == VBSON_INVALID_ARGUMENT && memcmp(&out, &was, sizeof out) == 0);
 }
 

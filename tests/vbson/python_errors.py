@@ -76,13 +76,18 @@ def try_reads():
 
 
 def try_texts():
-    """An error of JSON has the line and the column, and one of Extended JSON the path as the input has it."""
+    """An error has the line, the column and the offset, and one of Extended JSON the path as the input has it."""
     json, extended = (vbson.NotJson, vbson.NOT_JSON), (vbson.NotExtendedJson, vbson.NOT_EXTENDED_JSON)
     for text, wanted in (("[1, 2", (*json, [], 1, 5, 4)), ('{"a": [1,\n 2}', (*json, [], 2, 3, 12)), ('["\u00e9", x]', (*json, [], 1, 8, 7)),
-                         ("[\n[\n\u00e9]]", (*json, [], 3, 1, 4)), ('{"a.b":{"0":[{"c":1.5}]}}', (*extended, ["a.b", "0", 0, "c"], None, None, None)),
-                         ('{"a":{"b":1},"a.b":1.5}', (*extended, ["a.b"], None, None, None)), ('[[],[],{"":[1.5]}]', (*extended, [2, "", 0], None, None, None)),
-                         ('{"a":1,"b":{"$oid":"5"}}', (vbson.BadObjectId, vbson.BAD_OBJECT_ID, ["b", "$oid"], None, None, None))):
+                         ("[\n[\n\u00e9]]", (*json, [], 3, 1, 4)), ('{"a.b":{"0":[{"c":1.5}]}}', (*extended, ["a.b", "0", 0, "c"], 1, 19, 18)),
+                         ('{"a":{"b":1},"a.b":1.5}', (*extended, ["a.b"], 1, 20, 19)), ('[[],[],{"":[1.5]}]', (*extended, [2, "", 0], 1, 13, 12)),
+                         ('{"a":1,"b":{"$oid":"5"}}', (vbson.BadObjectId, vbson.BAD_OBJECT_ID, ["b", "$oid"], 1, 20, 19)),
+                         ('["\u00e9",\n "\u00e9", 1.5]', (*extended, [2], 2, 8, 14))):
         want(f"{text} and its fields", fields(vbson.convert, text, **STRICT), wanted)
+    for text, options, wanted in (('{"a":{"b":1,\n"b":2,"b":3}}', {"reject_duplicate_keys": True}, (*extended, ["a", "b"], 2, 5, 17)),
+                                  ('[{"$binary":"AQI=","$type":"00"},\n{"$numberInt":"x"}]', {"v1": True}, (*extended, [1, "$numberInt"], 2, 15, 48)),
+                                  ('{"a":{"$binary":"AQI=","$type":"000"}}', {"v1": True}, (*extended, ["a", "$binary"], None, None, None))):
+        want(f"{text} under options", fields(vbson.convert, text, **options), wanted)
     for text, wanted in (('{"a":1,\n"b":\n  1e400,\n"c": 5\n}\n', (3, 3, 15)), ("[1,\n\n", (2, 1, 4)), ("[1]\n\n x", (3, 2, 6)), ('["a\nb",\n1]', (1, 2, 1)),
                          ('[\n1,\n"\\x"\n]', (3, 1, 5)), ("[\n\n1,\n\u00e9\n", (4, 1, 6)), ("", (1, 1, 0))):
         want(f"the place in {text!r}", fields(vbson.loads, text)[3:], wanted)
@@ -94,7 +99,7 @@ def try_texts():
     want("places after a byte order mark", [(it.line, it.column, it.offset) for _, it in marked], [(1, 2, 4), (2, 6, 12)])
     marked = vbson.convert_lines(b'[}\n\xef\xbb\xbf[1]\n\n[\n[1]')[1]
     want("byte order marks after a rejected line", [(number, it.offset) for number, it in marked], [(1, 1), (2, 3), (4, 11)])
-    places = [(it.offset, it.column) for _, it in vbson.encode_lines(block, **STRICT)[1] if it.code == vbson.NOT_JSON]
+    places = [(it.offset, it.column) for _, it in vbson.encode_lines(block, **STRICT)[1] if it.offset is not None]
     want("offsets in a block", [at - block.rfind(b"\n", 0, at) for at, _ in places], [column for _, column in places])
 
 

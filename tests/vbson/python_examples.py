@@ -77,9 +77,10 @@ def try_validate(given):
     damaged = ['{"a": }', '{"a":[{"_id":{"$oid":"5"}}]}', '{"a":1,"a":2}', "[1]", "5", '{"a":{"$date":"2020"}}']
     answers = [json.loads(it) for it in run("validate", given="".join(f"{it}\n" for it in lines + damaged).encode())[1].splitlines()]
     want("valid lines", answers[:20], [{"ok": True, "bytes": len(bson.encode(it))} for it in given[:20]])
-    found = [(it["ok"], it["code"], it["path"]) for it in answers[20:]]
-    want("other lines", found, [(False, vbson.NOT_JSON, []), (False, vbson.BAD_OBJECT_ID, ["a", 0, "_id", "$oid"]), (False, vbson.NOT_EXTENDED_JSON, ["a"]),
-                                (False, vbson.NOT_A_DOCUMENT, []), (False, vbson.NOT_A_DOCUMENT, []), (False, vbson.NOT_EXTENDED_JSON, ["a", "$date"])])
+    found = [(it["ok"], it["code"], it["path"], it["column"]) for it in answers[20:]]
+    want("other lines", found, [(False, vbson.NOT_JSON, [], 7), (False, vbson.BAD_OBJECT_ID, ["a", 0, "_id", "$oid"], 22),
+                                (False, vbson.NOT_EXTENDED_JSON, ["a"], 12), (False, vbson.NOT_A_DOCUMENT, [], None),
+                                (False, vbson.NOT_A_DOCUMENT, [], None), (False, vbson.NOT_EXTENDED_JSON, ["a", "$date"], 15)])
 
 
 def try_stream(given):

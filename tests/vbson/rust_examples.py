@@ -53,8 +53,8 @@ def try_validate(given):
     wanted = [[str(number), "ok", str(len(bson.encode(it)))] for number, it in enumerate(given[:20], 2)]
     want("valid lines", answers[:20], wanted)
     found = [(number, code, path, column) for number, _, code, path, column, _ in answers[20:]]
-    want("other lines", found, [("22", "2", "", "7"), ("23", "3", "a.0._id.$oid", "0"), ("24", "4", "a", "0"), ("25", "10", "", "0"),
-                                ("26", "10", "", "0"), ("27", "4", "a.$date", "0")])
+    want("other lines", found, [("22", "2", "", "7"), ("23", "3", "a.0._id.$oid", "22"), ("24", "4", "a", "12"), ("25", "10", "", "0"),
+                                ("26", "10", "", "0"), ("27", "4", "a.$date", "15")])
 
 
 def try_stream(given):

@@ -8,11 +8,11 @@ use Rattle.bson_model.specs.Displayed.{display_text}
 use Rattle.bson_model.specs.declared.options.KeyOrder.{KeyOrder}
 use Rattle.bson_model.specs.declared.options.KeyOrder.TheVariants.{Ascending, AsGiven}
 use Rattle.bson_model.specs.declared.options.Options.{Options}
-use Rattle.bson_run.specs.Preprocessed.{IsPreprocessedAs}
 use Rattle.bson_scalar.specs.Forms.{form_in}
 use Rattle.bson_scalar.specs.TreeText.{tree_text}
 use Rattle.bson_scalar.specs.declared.form.Form.TheVariants as form
-use Rattle.vbson.specs.Convert.{IsLineUnder, options_of_call, preprocessing_of}
+use Rattle.vbson.proofs.Preprocessed.{IsReadBy, under}
+use Rattle.vbson.specs.Convert.{IsLineUnder}
 use Rattle.vbson.specs.declared.options.CallOptions.{CallOptions}
 
 -- a line that a text is converted to ends in a newline
@@ -28,21 +28,16 @@ ended AsGiven o Relaxed input line h = (h.is_output.text, h.is_output.line)
 ended AsGiven o Show input line h = (display_text h.value, h.is_output)
 
 -- the line of the text that is read in the place of a text
-pub line_under : (options : CallOptions) (o : Options) (mode : Mode) (text read line : List ℕ) → o ≡ options_of_call options
-    → IsPreprocessedAs (preprocessing_of options) text read → ConvertsBy o.key_order o mode read line → IsUtf8 line
-    → IsFixedPointBy o.key_order o mode line → IsLineUnder options mode text line
-line_under options o mode text read line same is converts utf8 again =
+pub line_under : (options : CallOptions) (mode : Mode) (text : List ℕ) (o : Options) (read line : List ℕ) → IsReadBy options text o read
+    → ConvertsBy o.key_order o mode read line → IsUtf8 line → IsFixedPointBy o.key_order o mode line → IsLineUnder options mode text line
+line_under options mode text o read line is converts utf8 again =
     let (before, whole) = ended o.key_order o mode read line converts in
     record {
       text = before;
-      converts = record {
-        read_text = read;
-        read_as = is;
-        has = subst (λ (p : Options). ConvertsBy p.key_order p mode read (before ++ newline)) same
-            (subst (λ (x : List ℕ). ConvertsBy o.key_order o mode read x) whole converts);
-      };
+      converts = under (λ p x. ConvertsBy p.key_order p mode x (before ++ newline)) options text o read is
+          (subst (λ (x : List ℕ). ConvertsBy o.key_order o mode read x) whole converts);
       utf8 = subst IsUtf8 whole utf8;
-      unchanged_by_conversion = subst (λ (p : Options). IsFixedPointBy p.key_order p mode (before ++ newline)) same
+      unchanged_by_conversion = subst (λ (p : Options). IsFixedPointBy p.key_order p mode (before ++ newline)) is.with_options
           (subst (λ (x : List ℕ). IsFixedPointBy o.key_order o mode x) whole again);
       whole = whole;
     }

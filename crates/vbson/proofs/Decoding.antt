@@ -98,24 +98,22 @@ module _ (o : Options) (bytes text : List ℕ) (given : o.key_order ≡ AsGiven)
   under_options f v is =
       subst (λ k. IsTextInKeyOrder k o.doubles f v text) (sym given) (subst (λ D. IsTextInOrder D f v text) (sym finite) is)
 
+  as_form : (f g : Form) → f ≡ g → IsDocumentTextOf (form_in o.layout f) depth bytes text
+      → (pairs : Pairs) × IsReadAsDocumentIn LastWins depth bytes pairs
+      × IsTextInKeyOrder o.key_order o.doubles (form_in o.layout g) (document pairs) text
+  as_form f g same it = (
+    it.pairs,
+    it.read,
+    under_options (form_in o.layout g) (document it.pairs)
+        (subst (λ h. IsTextInOrder Finite (form_in o.layout h) (document it.pairs) text) same it.text_in_order),
+  )
+
   in_form : (mode : Mode) (f : Form) → form_of_mode mode ≡ Some f
       → IsDocumentTextOf (form_in o.layout f) depth bytes text → Decodes LastWins o mode bytes text
   in_form Canonical f is it =
-      let same : f ≡ form.Canonical = cc in
-      record {
-        pairs = it.pairs;
-        read = it.read;
-        written = under_options (form_in o.layout form.Canonical) (document it.pairs)
-            (subst (λ g. IsTextInOrder Finite (form_in o.layout g) (document it.pairs) text) same it.text_in_order);
-      }
+      let (pairs, read, written) = as_form f form.Canonical (cc) it in record { pairs = pairs; read = read; written = written }
   in_form Relaxed f is it =
-      let same : f ≡ form.Relaxed = cc in
-      record {
-        pairs = it.pairs;
-        read = it.read;
-        written = under_options (form_in o.layout form.Relaxed) (document it.pairs)
-            (subst (λ g. IsTextInOrder Finite (form_in o.layout g) (document it.pairs) text) same it.text_in_order);
-      }
+      let (pairs, read, written) = as_form f form.Relaxed (cc) it in record { pairs = pairs; read = read; written = written }
   in_form Show f is it = absurd cc
 
 by_options : (o : Options) (order : KeyOrder) (D : Doubles) (mode : Mode) (f : Form) (bytes text : List ℕ)

@@ -1,27 +1,33 @@
 -- What is read in the place of a text, and what a status says of it.
-use Rattle.std.proofs.Common.{◌≡◌, ◌≢◌, ◌≤◌, ◌⊎◌, inl, inr, ℕ, List, Some, refl, ap, subst, arith}
+use Rattle.std.proofs.Common.{◌≡◌, ◌≢◌, ◌≤◌, ◌⊎◌, inl, inr, ℕ, List, Option, Some, refl, sym, ap, subst, arith}
+use Rattle.std.specs.Prelude.{String}
+use Rattle.std.specs.declared.alloc.Global.{Global}
 use Rattle.json.specs.Json.{Json}
 use Rattle.json.specs.Strict.{HasUniqueKeys}
 use Rattle.serde_json.specs.Data.{Data}
 use Rattle.serde_json.specs.Read.{read}
 use Rattle.bson_tokens.specs.DuplicateKeys.{DuplicateAt}
 use Rattle.bson_tree.specs.Place.{PathSegment}
+use Rattle.bson_tree.specs.declared.place.Place.{Place}
 use Rattle.bson_scalar.specs.declared.form.Doubles.{Doubles}
 use Rattle.bson_model.specs.Means.{MeansIn}
 use Rattle.bson_bytes.specs.ReadDocuments.{IsReadAsDocumentIn}
 use Rattle.bson_model.specs.Value.{Pairs, Value}
-use Rattle.bson.specs.TextMeaning.{HasTextMeaningIn, IsTextOf}
+use Rattle.bson.specs.TextMeaning.{HasTextMeaningIn, IsNotJsonText, IsTextOf}
 use Rattle.bson_model.specs.declared.options.Options.{Options}
 use Rattle.bson_convert.specs.Convert.{IsRejectedIn}
+use Rattle.bson_convert.specs.declared.encode_error.NoBytes as without
+use Rattle.bson_convert.specs.declared.encode_error.NoBytes.TheVariants.{NoDocument, ZeroInKey, ZeroInRegex, TooLong}
 use Rattle.bson_convert.specs.declared.error.Error.{Error}
 use Rattle.bson_convert.specs.declared.error.Error.TheVariants.{CannotRead, NotJson, NotExtendedJson, NoBytes, OutOfMemory}
 use Rattle.bson_convert.specs.declared.error.Error.TheVariants.{CannotWrite, NotCanonical}
 use Rattle.bson_run.proofs.Offered.{not_taken, one_taken}
-use Rattle.bson_run.specs.Preprocessed.{IsPreprocessedAs, IsPreprocessingError}
+use Rattle.bson_run.specs.Encode.{TextHasNoBsonBytes}
+use Rattle.bson_run.specs.Preprocessed.{IsPreprocessedAs, IsPreprocessingError, IsRejectedByPreprocessing, preprocessed_of}
 use Rattle.bson_run.specs.declared.task.Preprocessing.{Preprocessing}
-use Rattle.vbson.proofs.Causes.{causes, reason_status}
-use Rattle.vbson.specs.Convert.{IsReadWith, IsTextError, duplicate_keys_of, options_of_call, preprocessing_of}
-use Rattle.vbson.specs.Convert.{status_of}
+use Rattle.vbson.proofs.Causes.{causes, two_to_five}
+use Rattle.vbson.specs.Convert.{IsBadObjectId, IsInvalidExtendedJson, IsInvalidShape, IsReadWith}
+use Rattle.vbson.specs.Convert.{duplicate_keys_of, options_of_call, preprocessing_of, status_of}
 use Rattle.vbson.specs.Documents.{IsEncodeFailure, depth}
 use Rattle.vbson.specs.Reading.{HasRejectedKey, IsReadFailure, IsTextReadFailure, MeansUnder}
 use Rattle.vbson.specs.Reading.{IsDocumentReadFailure, IsPreprocessingFailure, IsTextEncodeFailure}
@@ -38,30 +44,55 @@ one_meaning D bytes v w a b =
     let trees : a.tree ≡ b.tree = cc in
     b.meaning.one v (subst (λ t. MeansIn D t v) trees a.meaning.means)
 
--- the text that is read in the place of a text means one value
-pub meant : (options : CallOptions) (text read : List ℕ) (value : Value) → IsPreprocessedAs (preprocessing_of options) text read
-    → MeansUnder options text value → HasTextMeaningIn (options_of_call options).doubles read value
-meant options text read value is means =
-    subst (λ x. HasTextMeaningIn (options_of_call options).doubles x value)
-    (one_taken (preprocessing_of options) text means.read_text read means.read_as is) means.meaning
+-- ---- what the options read in the place of a text, and with which options of a conversion
 
--- what is read in the place of a text has the property of the text that is read
-pub has_read : (options : CallOptions) (property : List ℕ → Type 0) (text read : List ℕ)
-    → IsPreprocessedAs (preprocessing_of options) text read → IsReadWith options property text → property read
-has_read options property text read is h =
-    subst property (one_taken (preprocessing_of options) text h.read_text read h.read_as is) h.has
+pub record IsReadBy (options : CallOptions) (text : List ℕ) (o : Options) (read : List ℕ) : Type 0 where
+  pub with_options : o ≡ options_of_call options
+  pub read_as : IsPreprocessedAs (preprocessing_of options) text read
+
+-- from what the calls of `options_of`, `preprocess_text` and `text_to_read` ensure
+pub read_by : (options : CallOptions) (text : List ℕ) (o : Options) (read : List ℕ) (preprocessing : Preprocessing)
+    (new_text : Option (String Global)) → o ≡ options_of_call options → preprocessing ≡ preprocessing_of options
+    → IsPreprocessedAs preprocessing text (preprocessed_of text new_text) → read ≡ preprocessed_of text new_text
+    → IsReadBy options text o read
+read_by options text o read preprocessing new_text same_options same_preprocessing is same_text = record {
+  with_options = same_options;
+  read_as = subst (IsPreprocessedAs (preprocessing_of options) text) (sym same_text)
+      (subst (λ p. IsPreprocessedAs p text (preprocessed_of text new_text)) same_preprocessing is);
+}
+
+-- a property of it is one of the text under the options
+pub under : (property : Options → List ℕ → Type 0) (options : CallOptions) (text : List ℕ) (o : Options) (read : List ℕ)
+    → IsReadBy options text o read → property o read → IsReadWith options (property (options_of_call options)) text
+under property options text o read is h = record {
+  read_text = read;
+  read_as = is.read_as;
+  has = subst (λ p. property p read) is.with_options h;
+}
+
+-- and conversely
+pub of_under : (property : Options → List ℕ → Type 0) (options : CallOptions) (text : List ℕ) (o : Options) (read : List ℕ)
+    → IsReadBy options text o read → IsReadWith options (property (options_of_call options)) text → property o read
+of_under property options text o read is h =
+    subst (λ p. property p read) (sym is.with_options)
+    (subst (property (options_of_call options)) (one_taken (preprocessing_of options) text h.read_text read h.read_as is.read_as) h.has)
+
+-- under the options a text means the values of what is read
+pub means_under : (options : CallOptions) (text : List ℕ) (o : Options) (read : List ℕ) (value : Value) → IsReadBy options text o read
+    → HasTextMeaningIn o.doubles read value → MeansUnder options text value
+means_under options text o read value is means = record {
+  read_text = read;
+  read_as = is.read_as;
+  meaning = subst (λ (p : Options). HasTextMeaningIn p.doubles read value) is.with_options means;
+}
+
+pub meant : (options : CallOptions) (text : List ℕ) (o : Options) (read : List ℕ) (value : Value) → IsReadBy options text o read
+    → MeansUnder options text value → HasTextMeaningIn o.doubles read value
+meant options text o read value is means =
+    of_under (λ p x. HasTextMeaningIn p.doubles x value) options text o read is
+    (record { read_text = means.read_text; read_as = means.read_as; has = means.meaning })
 
 -- ---- what a status says
-
-two_at_least : (o : Options) (fault : Error) (bytes : List ℕ) → IsRejectedIn o fault bytes
-    → (2 ≤ status_of fault) × (status_of fault ≤ 5)
-two_at_least o CannotRead bytes h = absurd h
-two_at_least o NotJson bytes h = (omega arith, omega arith)
-two_at_least o (NotExtendedJson place) bytes h = reason_status place.reason
-two_at_least o (NoBytes why) bytes h = absurd h
-two_at_least o (NotCanonical column) bytes h = absurd h
-two_at_least o OutOfMemory bytes h = (omega arith, omega arith)
-two_at_least o CannotWrite bytes h = absurd h
 
 pub rejected : (o : Options) (fault : Error) (bytes : List ℕ) → IsRejectedIn o fault bytes
     → ((tree : Data) (value : Value) → IsTextOf bytes tree → MeansIn o.doubles tree value → fault ≡ OutOfMemory)
@@ -69,47 +100,56 @@ pub rejected : (o : Options) (fault : Error) (bytes : List ℕ) → IsRejectedIn
 rejected o fault bytes h accepts = record {
   cause = causes o fault bytes h;
   accepts = λ value means. ap status_of (accepts means.tree value means.text means.meaning.means);
-  possible_statuses = two_at_least o fault bytes h;
+  possible_statuses = two_to_five o fault bytes h;
 }
 
 -- of what is read in the place of a text
-pub without_value : (options : CallOptions) (status : ℕ) (text read : List ℕ) → IsPreprocessedAs (preprocessing_of options) text read
-    → IsReadFailure (options_of_call options) status read → IsTextReadFailure options status text
-without_value options status text read is h = record {
-  not_json = λ two. record { read_text = read; read_as = is; has = h.cause.not_json two };
-  bad_object_id = λ three. record { read_text = read; read_as = is; has = h.cause.bad_object_id three };
-  not_extended_json = λ four. inr (record { read_text = read; read_as = is; has = h.cause.not_extended_json four });
-  accepts = λ value means. h.accepts value (meant options text read value is means);
+pub without_value : (options : CallOptions) (status : ℕ) (text : List ℕ) (o : Options) (read : List ℕ) → IsReadBy options text o read
+    → IsReadFailure o status read → IsTextReadFailure options status text
+without_value options status text o read is h = record {
+  not_json = λ two. under (λ p. IsNotJsonText) options text o read is (h.cause.not_json two);
+  bad_object_id = λ three. under (λ p. IsInvalidExtendedJson p IsBadObjectId) options text o read is (h.cause.bad_object_id three);
+  not_extended_json = λ four. inr (under (λ p. IsInvalidExtendedJson p IsInvalidShape) options text o read is (h.cause.not_extended_json four));
+  accepts = λ value means. h.accepts value (meant options text o read value is means);
   possible_statuses = h.possible_statuses;
 }
 
-pub without_bytes : (options : CallOptions) (status : ℕ) (text read : List ℕ) → IsPreprocessedAs (preprocessing_of options) text read
-    → IsEncodeFailure (options_of_call options) status read → IsTextEncodeFailure options status text
-without_bytes options status text read is h = record {
-  not_json = λ two. record { read_text = read; read_as = is; has = h.cause.not_json two };
-  bad_object_id = λ three. record { read_text = read; read_as = is; has = h.cause.bad_object_id three };
-  not_extended_json = λ four. inr (record { read_text = read; read_as = is; has = h.cause.not_extended_json four });
-  no_document = λ ten. record { read_text = read; read_as = is; has = h.no_document ten };
-  key_has_zero = λ eleven. record { read_text = read; read_as = is; has = h.key_has_zero eleven };
-  regex_has_zero = λ twelve. record { read_text = read; read_as = is; has = h.regex_has_zero twelve };
-  too_long = λ thirteen. record { read_text = read; read_as = is; has = h.too_long thirteen };
-  possible_statuses = h.possible_statuses;
-}
+pub without_bytes : (options : CallOptions) (status : ℕ) (text : List ℕ) (o : Options) (read : List ℕ) → IsReadBy options text o read
+    → IsEncodeFailure o status read → IsTextEncodeFailure options status text
+without_bytes options status text o read is h =
+    let cannot = λ (why : without.NoBytes). under (λ p. TextHasNoBsonBytes p.key_order p why) options text o read is in
+    record {
+      not_json = λ two. under (λ p. IsNotJsonText) options text o read is (h.cause.not_json two);
+      bad_object_id = λ three. under (λ p. IsInvalidExtendedJson p IsBadObjectId) options text o read is (h.cause.bad_object_id three);
+      not_extended_json = λ four. inr (under (λ p. IsInvalidExtendedJson p IsInvalidShape) options text o read is (h.cause.not_extended_json four));
+      no_document = λ ten. cannot NoDocument (h.no_document ten);
+      key_has_zero = λ eleven. cannot ZeroInKey (h.key_has_zero eleven);
+      regex_has_zero = λ twelve. cannot ZeroInRegex (h.regex_has_zero twelve);
+      too_long = λ thirteen. cannot TooLong (h.too_long thirteen);
+      possible_statuses = h.possible_statuses;
+    }
 
 -- a text that preprocessing rejects is not read
 pub not_read : ((j : Json) (path : List PathSegment) → DuplicateAt j path → ¬ HasUniqueKeys j) → (preprocessing : Preprocessing)
     (text read : List ℕ) → HasRejectedKey preprocessing text → IsPreprocessedAs preprocessing text read → ⊥
 not_read twice preprocessing text read h is = not_taken twice preprocessing h.0 text read h.1 is
 
+-- an error of preprocessing is a duplicate key, or memory ran out
+pub by_key : (P : Error → Type 0) (preprocessing : Preprocessing) (fault : Error) (text : List ℕ) → IsPreprocessingError preprocessing fault text
+    → ((place : Place) → IsRejectedByPreprocessing preprocessing place text → P (NotExtendedJson place)) → P OutOfMemory → P fault
+by_key P preprocessing CannotRead text h key memory = absurd h
+by_key P preprocessing NotJson text h key memory = absurd h
+by_key P preprocessing (NotExtendedJson place) text h key memory = key place h
+by_key P preprocessing (NoBytes why) text h key memory = absurd h
+by_key P preprocessing (NotCanonical column) text h key memory = absurd h
+by_key P preprocessing OutOfMemory text h key memory = memory
+by_key P preprocessing CannotWrite text h key memory = absurd h
+
 pub rejected_key : (preprocessing : Preprocessing) (fault : Error) (text : List ℕ) → IsPreprocessingError preprocessing fault text
     → fault ≢ OutOfMemory → HasRejectedKey preprocessing text
-rejected_key preprocessing CannotRead text h some = absurd h
-rejected_key preprocessing NotJson text h some = absurd h
-rejected_key preprocessing (NotExtendedJson place) text h some = (place, h)
-rejected_key preprocessing (NoBytes why) text h some = absurd h
-rejected_key preprocessing (NotCanonical column) text h some = absurd h
-rejected_key preprocessing OutOfMemory text h some = absurd (some refl)
-rejected_key preprocessing CannotWrite text h some = absurd h
+rejected_key preprocessing fault text h =
+    by_key (λ f. f ≢ OutOfMemory → HasRejectedKey preprocessing text) preprocessing fault text h
+    (λ place key some. (place, key)) (λ some. absurd (some refl))
 
 pub turned_away : ((j : Json) (path : List PathSegment) → DuplicateAt j path → ¬ HasUniqueKeys j) → (options : CallOptions)
     (fault : Error) (text : List ℕ) → IsPreprocessingError (preprocessing_of options) fault text → fault ≢ OutOfMemory
@@ -143,27 +183,18 @@ unread options status text h =
 pub unencoded_first : (options : CallOptions) (status : ℕ) (text : List ℕ) → IsPreprocessingFailure options status text
     → IsTextEncodeFailure options status text
 unencoded_first options status text h =
-    let (least, most) = of_two status h.possible_statuses in
+    let no_value = unread options status text h in
+    let most = no_value.possible_statuses.1 in
     record {
-      not_json = λ is. absurd (omega (arith, least, is));
-      bad_object_id = λ is. absurd (omega (arith, least, is));
-      not_extended_json = λ is. inl (h.has_rejected_key is);
+      not_json = no_value.not_json;
+      bad_object_id = no_value.bad_object_id;
+      not_extended_json = no_value.not_extended_json;
       no_document = λ is. absurd (omega (arith, most, is));
       key_has_zero = λ is. absurd (omega (arith, most, is));
       regex_has_zero = λ is. absurd (omega (arith, most, is));
       too_long = λ is. absurd (omega (arith, most, is));
-      possible_statuses = inl (omega (arith, least), most);
+      possible_statuses = inl no_value.possible_statuses;
     }
-
--- an error that bytes have as a text is neither of a reader nor of a writer
-pub of_refused : (o : Options) (fault : Error) (bytes : List ℕ) → IsRejectedIn o fault bytes → IsTextError fault
-of_refused o CannotRead bytes h = h
-of_refused o NotJson bytes h = tt
-of_refused o (NotExtendedJson place) bytes h = tt
-of_refused o (NoBytes why) bytes h = tt
-of_refused o (NotCanonical column) bytes h = tt
-of_refused o OutOfMemory bytes h = tt
-of_refused o CannotWrite bytes h = h
 
 -- ---- documents
 

@@ -4,7 +4,7 @@ use Rattle.std.specs.Prelude.{◌↔◌, MatchOption, option_map}
 use Rattle.std.specs.Borrow.{Bor}
 use Rattle.bson_bytes.specs.Reading.{read_value_in, read_document_in}
 use Rattle.bson_model.specs.declared.options.DuplicateKeys.TheVariants.{LastWins}
-use Rattle.bson_model.specs.Value.{Value, Pairs, no_pairs, pair, scalar, code_scope, array, document}
+use Rattle.bson_model.specs.Value.{Value, Values, Pairs, no_pairs, pair, scalar, code_scope, array, document}
 use Rattle.bson_bytes.specs.RawElements.{HasValue, IsElement, IsFirstElement, IsValueOfElement, value_length}
 use Rattle.bson_bytes.specs.TypedGetters.{binary_value, boolean_value, date_value, double_value, int32_value, int64_value, object_id_value, string_value}
 use Rattle.bson_bytes.specs.NestedValues.{IsNested}
@@ -76,53 +76,36 @@ no_kind d v value o h none at =
 abbrev pub IsNever : {A : Type 0} → (Value → Option A) → Type 0
 IsNever f = (v : Value) → IsNested v → f v ≡ None
 
+never : {A : Type 0} (f : Value → Option A) → ((s : List ℕ) (ps : Pairs) → f (code_scope s ps) ≡ None)
+    → ((vs : Values) → f (array vs) ≡ None) → ((ps : Pairs) → f (document ps) ≡ None) → IsNever f
+never f of_scope of_array of_document (scalar s) h = absurd h
+never f of_scope of_array of_document (code_scope s ps) h = of_scope s ps
+never f of_scope of_array of_document (array vs) h = of_array vs
+never f of_scope of_array of_document (document ps) h = of_document ps
+
 pub never_int32 : IsNever int32_value
-never_int32 (scalar s) h = absurd h
-never_int32 (code_scope s ps) h = refl
-never_int32 (array vs) h = refl
-never_int32 (document ps) h = refl
+never_int32 = never int32_value (λ s ps. refl) (λ vs. refl) (λ ps. refl)
 
 pub never_int64 : IsNever int64_value
-never_int64 (scalar s) h = absurd h
-never_int64 (code_scope s ps) h = refl
-never_int64 (array vs) h = refl
-never_int64 (document ps) h = refl
+never_int64 = never int64_value (λ s ps. refl) (λ vs. refl) (λ ps. refl)
 
 pub never_double : IsNever double_value
-never_double (scalar s) h = absurd h
-never_double (code_scope s ps) h = refl
-never_double (array vs) h = refl
-never_double (document ps) h = refl
+never_double = never double_value (λ s ps. refl) (λ vs. refl) (λ ps. refl)
 
 pub never_boolean : IsNever boolean_value
-never_boolean (scalar s) h = absurd h
-never_boolean (code_scope s ps) h = refl
-never_boolean (array vs) h = refl
-never_boolean (document ps) h = refl
+never_boolean = never boolean_value (λ s ps. refl) (λ vs. refl) (λ ps. refl)
 
 pub never_string : IsNever string_value
-never_string (scalar s) h = absurd h
-never_string (code_scope s ps) h = refl
-never_string (array vs) h = refl
-never_string (document ps) h = refl
+never_string = never string_value (λ s ps. refl) (λ vs. refl) (λ ps. refl)
 
 pub never_object_id : IsNever object_id_value
-never_object_id (scalar s) h = absurd h
-never_object_id (code_scope s ps) h = refl
-never_object_id (array vs) h = refl
-never_object_id (document ps) h = refl
+never_object_id = never object_id_value (λ s ps. refl) (λ vs. refl) (λ ps. refl)
 
 pub never_date_time : IsNever date_value
-never_date_time (scalar s) h = absurd h
-never_date_time (code_scope s ps) h = refl
-never_date_time (array vs) h = refl
-never_date_time (document ps) h = refl
+never_date_time = never date_value (λ s ps. refl) (λ vs. refl) (λ ps. refl)
 
 pub never_binary : IsNever binary_value
-never_binary (scalar s) h = absurd h
-never_binary (code_scope s ps) h = refl
-never_binary (array vs) h = refl
-never_binary (document ps) h = refl
+never_binary = never binary_value (λ s ps. refl) (λ vs. refl) (λ ps. refl)
 
 pub typed_none : {A : Type 0} (f : Value → Option A) → IsNever f → (v : Value) → IsNested v → (x : A) → IsTypedResult (f v) 15 x
 typed_none {A} f never v nested x = subst (λ (o : Option A). IsTypedResult o 15 x) (sym (never v nested)) refl

@@ -101,9 +101,9 @@ IsFindingOfDocument options pairs FiniteDouble = writable_in options.doubles (do
 
 pub record AreFieldsOfFinding (finding : Finding) (fields : RejectionFields) : Type 0 where
   pub code : fields.code ≡ finding_code finding
-  pub line : fields.line ≡ 0
-  pub column : fields.column ≡ 0
-  pub offset : fields.offset ≡ finding_offset finding
+  pub line : fields.position.line ≡ 0
+  pub column : fields.position.column ≡ 0
+  pub offset : fields.position.offset ≡ finding_offset finding
   pub path : fields.path.items ≡ document_bytes (path_pairs []) ++ newline
   pub reason : fields.reason.items ≡ finding_reason finding ++ newline
   pub utf8 : IsUtf8 (finding_reason finding)

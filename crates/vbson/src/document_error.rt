@@ -7,7 +7,9 @@ ghost use Rattle.vbson.specs.DocumentError.{ReportsFinding, finding_code, findin
 ghost use Rattle.vbson.specs.Options.{AreInvalid};
 ghost use Rattle.vbson.specs.declared.document_error.Finding.TheVariants.{Nothing};
 
-use crate::explain::{Rejection, RejectionFields, line_of_string, rejection_with_fields};
+use crate::explain::{
+    BytePosition, Rejection, RejectionFields, line_of_string, rejection_with_fields,
+};
 use crate::options::{CallOptions, are_invalid, duplicate_keys_of, options_of};
 use crate::path::path_line;
 use crate::status;
@@ -126,9 +128,11 @@ fn rejection_fields_of(alloc: Global, finding: Finding) -> Result<RejectionField
     let reason = line_of_string(alloc, reason_of(finding))?;
     Ok(RejectionFields {
         code: code_of(finding),
-        line: 0,
-        column: 0,
-        offset: offset_of(finding),
+        position: BytePosition {
+            line: 0,
+            column: 0,
+            offset: offset_of(finding),
+        },
         path,
         reason,
     })

@@ -1,28 +1,31 @@
 //! Explains why a text is rejected, and where.
-ghost use Rattle.std.specs.Prelude.{◌≡◌, ◌≢◌, ◌⊎◌, ◌↔◌, ◌<◌, ◌++◌, ℕ, List, [], length, map, IfOk, IfErr, IsUtf8};
+ghost use Rattle.std.specs.Prelude.{◌≡◌, ◌≢◌, ◌⊎◌, ◌↔◌, ◌<◌, ◌++◌, ℕ, List, [], length, map, IfOk, IfErr, IsUtf8, OnOk};
 ghost use Rattle.bson.specs.Value.{Value};
-ghost use Rattle.bson_convert.specs.Convert.{IsRejectedIn, newline};
+ghost use Rattle.bson_convert.specs.Convert.{newline};
 ghost use Rattle.bson_convert.specs.Messages.{error_message};
 ghost use Rattle.bson_tree.specs.Place.{segment_of};
-ghost use Rattle.vbson.specs.Explain.{AreFieldsOfExplanation, Explains, ExplainsWithoutPreprocessing, ExplainsError, PathIsTooLong, HasTooLongPath, IsRejectionWithFields, ErrorPathIsTooLong, IsUnexplained, ReportsExplanation};
-ghost use Rattle.vbson.specs.Explain.{explanation_code, explanation_column, explanation_line, reported_offset, reported_path, explanation_reason};
+ghost use Rattle.vbson.specs.Explain.{AreFieldsOfExplanation, Explains, ExplainsRejection, PathIsTooLong, HasTooLongPath, IsRejectedUnder};
+ghost use Rattle.vbson.specs.Explain.{IsRejectionWithFields, ErrorPathIsTooLong, ReportsExplanation};
+ghost use Rattle.vbson.specs.Explain.{explanation_code, byte_position, reported_path, explanation_reason};
 ghost use Rattle.vbson.specs.Options.{AreInvalid};
 ghost use Rattle.vbson.specs.Reading.{MeansUnder};
 ghost use Rattle.bson_bytes.specs.declared.error.Error.TheVariants as path_error;
 ghost use Rattle.bson_run.specs.declared.explain.Explanation.TheVariants as explanations;
 
+use crate::lines::task_of;
 use crate::options::{CallOptions, are_invalid, options_of, preprocessing_of};
 use crate::path::path_line;
 use crate::reading::text_to_read;
 use crate::status;
 use crate::text::{Text, text_of_line};
-use bson::extjson::Options;
 use bson_bytes::error::Error as PathError;
 use bson_convert::check::check;
 use bson_convert::error::Error;
 use bson_model::laws::reading_in_each_mode;
-use bson_run::explain::Explanation;
+use bson_run::explain::{Explanation, explanation_under};
+use bson_run::position::{column_at, line_at};
 use bson_run::preprocessed::preprocess_text;
+use bson_run::task::{Criterion, Output};
 use bson_tokens::laws::one_duplicate_path;
 use bson_tree::place::{Reason, Segment};
 use std::alloc::{AllocError, Global};
@@ -33,12 +36,13 @@ use std::alloc::{AllocError, Global};
 pub struct Rejection<'a> {
     /// The status of the error, or `OK` if the input is accepted.
     pub code: u32,
-    /// If the code is `NOT_JSON`, the line on which the text stops to be JSON, from 1; else 0.
+    /// The line of the text, from 1, on which it stops to be JSON, or on which the invalid value begins.
+    /// It is 0 if the text does not have that value, and for a document.
     pub line: usize,
-    /// The byte of the line there, from 1.
+    /// The first byte of the error in that line, from 1; or 0.
     pub column: usize,
-    /// How many bytes of the text are before that byte. If the code is `NOT_A_DOCUMENT`, the number of
-    /// bytes before the first fault.
+    /// The number of bytes of the text before that byte; or 0. If the code is `NOT_A_DOCUMENT`, the number
+    /// of bytes before the first fault.
     pub offset: usize,
     /// The path to the invalid value: the bytes of an array of keys and indexes. It has no element
     /// if the error is that of the whole text.
@@ -52,6 +56,9 @@ pub struct Rejection<'a> {
 /// Explains why a text is rejected, and where. The code is 0, and the message is empty, if the text
 /// is accepted. All options are accepted. This explains the status of `vbson_convert_nonnull` and
 /// `vbson_same_nonnull`; the order of keys and the layout change nothing here.
+///
+/// With `v1` the path leads into the text that is read instead. The place and the quote are those of the
+/// value in the text itself, if that text has the same value at the path.
 #[unsafe(no_mangle)]
 pub extern "C" fn vbson_explain_nonnull(
     alloc: Global,
@@ -73,7 +80,7 @@ pub extern "C" fn vbson_explain_nonnull(
     if are_invalid(*options) {
         return status::INVALID_ARGUMENT;
     }
-    // A law: no text with a duplicate key has unique keys.
+    // A law: a text with a duplicate key does not have unique keys.
     one_duplicate_path();
     match explain_text(alloc, *options, text) {
         Ok(rejection) => *out = rejection,
@@ -94,36 +101,22 @@ fn explain_text(
     ensures error_report { IfOk result (λ rejection. Explains options text.now rejection) }
     ensures too_long { IfErr result (λ error. error ≢ path_error.OutOfMemory → ErrorPathIsTooLong options text.now) }
 {
-    let preprocessing = preprocessing_of(options);
-    match preprocess_text(alloc, preprocessing, text) {
-        Ok(new_text) => explain_without_preprocessing(
-            alloc,
-            preprocessing.v1,
-            options_of(options),
-            text_to_read(&new_text, text),
-        ),
-        Err(fault) if fault.is_out_of_memory() => Err(PathError::OutOfMemory),
-        Err(fault) => rejection_of_error(alloc, preprocessing.v1, &fault, text),
+    match check_under(alloc, options, text) {
+        Ok(()) => empty_rejection(alloc),
+        Err(Error::OutOfMemory) => Err(PathError::OutOfMemory),
+        Err(fault) => rejection_of_error(alloc, options, &fault, text),
     }
 }
 
-// Explains the text that is read.
-fn explain_without_preprocessing(
-    alloc: Global,
-    v1: bool,
-    options: Options,
-    text: &[u8],
-) -> Result<Rejection<'static>, PathError>
-    ensures error_report { IfOk result (λ rejection. ExplainsWithoutPreprocessing v1 options text.now rejection) }
-    ensures too_long { IfErr result (λ error. IsUnexplained error (λ fault. IsRejectedIn options fault text.now)) }
+// Checks that the text means a value, under the options.
+fn check_under(alloc: Global, options: CallOptions, text: &[u8]) -> Result<(), Error>
+    ensures accepted { OnOk result ((value : Value) × MeansUnder options text.now value) }
+    ensures rejected { IfErr result (λ fault. IsRejectedUnder options fault text.now) }
 {
     // A law: a tree means at most one value, which is plain and writable.
     reading_in_each_mode();
-    match check(alloc, options, text) {
-        Ok(()) => empty_rejection(alloc),
-        Err(Error::OutOfMemory) => Err(PathError::OutOfMemory),
-        Err(fault) => rejection_of_error(alloc, v1, &fault, text),
-    }
+    let new_text = preprocess_text(alloc, preprocessing_of(options), text)?;
+    check(alloc, options_of(options), text_to_read(&new_text, text))
 }
 
 // Returns the error struct of an accepted text.
@@ -136,17 +129,20 @@ fn empty_rejection(alloc: Global) -> Result<Rejection<'static>, PathError>
     Ok(rejection_with_fields(fields, message))
 }
 
-// Returns the error struct for an error of the text.
+// Returns the error struct for an error of the text, under the options.
 fn rejection_of_error(
     alloc: Global,
-    v1: bool,
+    options: CallOptions,
     fault: &Error,
     text: &[u8],
 ) -> Result<Rejection<'static>, PathError>
-    ensures error_report { IfOk result (λ rejection. ExplainsError v1 text.now fault.now rejection) }
+    requires rejected { IsRejectedUnder options fault.now text.now }
+    requires reported { fault.now ≢ Error.OutOfMemory }
+    ensures error_report { IfOk result (λ rejection. ExplainsRejection options text.now rejection) }
     ensures too_long { IfErr result (λ error. error ≢ path_error.OutOfMemory → HasTooLongPath fault.now) }
 {
-    let explanation = Explanation::of(alloc, v1, fault, text)?;
+    let task = task_of(options, Output::Nothing(Criterion::Valid));
+    let explanation = explanation_under(alloc, task, fault, text)?;
     let place_message = explanation.message(alloc, text)?;
     let message = error_line(alloc, fault, &place_message)?;
     let fields = rejection_fields_of(alloc, &explanation, text)?;
@@ -163,13 +159,20 @@ fn error_line(alloc: Global, fault: &Error, place_message: &str) -> Result<Vec<u
     Ok(line.into_bytes())
 }
 
+// Where an error begins in a text: the line and the column, from 1, and the offset. All are 0 if that is
+// unknown.
+#[derive(Clone, Copy)]
+pub(crate) struct BytePosition {
+    pub(crate) line: usize,
+    pub(crate) column: usize,
+    pub(crate) offset: usize,
+}
+
 // The fields of the error struct, without its message. The bytes end in a newline.
 #[derive(Drop)]
 pub(crate) struct RejectionFields {
     pub(crate) code: u32,
-    pub(crate) line: usize,
-    pub(crate) column: usize,
-    pub(crate) offset: usize,
+    pub(crate) position: BytePosition,
     pub(crate) path: Vec<u8>,
     pub(crate) reason: Vec<u8>,
 }
@@ -181,9 +184,9 @@ pub(crate) fn rejection_with_fields(fields: RejectionFields, message: Vec<u8>) -
 {
     Rejection {
         code: fields.code,
-        line: fields.line,
-        column: fields.column,
-        offset: fields.offset,
+        line: fields.position.line,
+        column: fields.position.column,
+        offset: fields.position.offset,
         path: text_of_line(fields.path),
         reason: text_of_line(fields.reason),
         message: text_of_line(message),
@@ -203,9 +206,7 @@ fn rejection_fields_of(
     let reason = line_of_string(alloc, reason_of(explanation))?;
     Ok(RejectionFields {
         code: code_of(explanation),
-        line: explanation_line(explanation, text),
-        column: explanation_column(explanation, text),
-        offset: reported_offset(explanation, text),
+        position: byte_position(explanation.offset(text), text),
         path,
         reason,
     })
@@ -234,36 +235,21 @@ fn code_of(explanation: &Explanation<'_>) -> u32
     }
 }
 
-// Returns the line on which the text stops to be JSON, or 0.
-fn explanation_line(explanation: &Explanation<'_>, text: &[u8]) -> usize
-    ensures { result ≡ explanation_line text.now explanation.now }
+// Returns the position of the byte at an offset of the text.
+fn byte_position(offset: Option<usize>, text: &[u8]) -> BytePosition
+    ensures { result ≡ byte_position text.now offset }
 {
-    match explanation {
-        Explanation::Syntax(syntax_error) => syntax_error.line(text),
-        Explanation::Difference(_) => 1,
-        _ => 0,
-    }
-}
-
-// Returns the column at which the text stops to be JSON, or 0.
-fn explanation_column(explanation: &Explanation<'_>, text: &[u8]) -> usize
-    ensures { result ≡ explanation_column text.now explanation.now }
-{
-    match explanation {
-        Explanation::Syntax(syntax_error) => syntax_error.column(text),
-        Explanation::Difference(column) => *column,
-        _ => 0,
-    }
-}
-
-// Returns the offset at which the text stops to be JSON, or 0.
-fn reported_offset(explanation: &Explanation<'_>, text: &[u8]) -> usize
-    ensures { result ≡ reported_offset text.now explanation.now }
-{
-    match explanation {
-        Explanation::Syntax(syntax_error) => syntax_error.offset.min(text.len().saturating_sub(1)),
-        Explanation::Difference(column) => column.saturating_sub(1),
-        _ => 0,
+    match offset {
+        Some(offset) => BytePosition {
+            line: line_at(offset, text),
+            column: column_at(offset, text),
+            offset,
+        },
+        None => BytePosition {
+            line: 0,
+            column: 0,
+            offset: 0,
+        },
     }
 }
 

@@ -149,8 +149,8 @@ pub extern "C" fn vbson_first_unencoded_line_nonnull(
     first_rejected(alloc, options_of(*options), task, block, number)
 }
 
-// Returns the task that writes the output of each line, with the preprocessing of the options.
-fn task_of(options: CallOptions, output: Output) -> Task
+/// Returns the task that writes the output of each line, with the preprocessing of the options.
+pub(crate) fn task_of(options: CallOptions, output: Output) -> Task
     ensures { result ≡ task_of options output }
 {
     Task {

@@ -31,7 +31,7 @@ pub fn preprocess(alloc: Global, options: CallOptions, text: &[u8]) -> Result<Op
         (λ new_text. IsPreprocessedAs (preprocessing_of options) text.now (preprocessed_of text.now new_text)) }
     ensures rejected { IfErr result (λ status. IsPreprocessingFailure options status text.now) }
 {
-    // A law: no text with a duplicate key has unique keys.
+    // A law: a text with a duplicate key does not have unique keys.
     one_duplicate_path();
     match preprocess_text(alloc, preprocessing_of(options), text) {
         Ok(new_text) => Ok(new_text),
@@ -72,7 +72,7 @@ pub fn value_of_text(alloc: Global, options: CallOptions, text: &[u8]) -> Result
     }
 }
 
-// Returns the value that bytes mean as a text, with no preprocessing.
+// Returns the value that bytes mean as a text, without preprocessing.
 fn meaning_of(alloc: Global, options: Options, bytes: &[u8]) -> Result<Bson, u32>
     ensures ok { IfOk result (λ value. HasTextMeaningIn options.doubles bytes.now (bson_view value)) }
     ensures unique_value { (value : Value) → HasTextMeaningIn options.doubles bytes.now value

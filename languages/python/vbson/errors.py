@@ -16,9 +16,10 @@ class Error(ValueError):
     reason   what is wrong: 'not a 64-bit integer; found 1.5'. Without a longer one it is the message
     path     the keys and indexes that lead to the wrong value, for example ['orders', 3, 'price']. It is empty if the error
              is that of the whole value, or if the input is not JSON
-    offset   the bytes of the input before the error, if the input is not JSON or not a document; otherwise None
-    line, column    the same for JSON: the line, and the byte in that line, both from 1. An error of a block of lines always
-             has the line. For other errors they are None
+    offset   the number of bytes of the input before the error: before the byte at which it stops to be JSON, before the wrong
+             value, or before the first error of a document. It is None if that is not known
+    line, column    the line of that byte, and the byte in the line, both from 1. They are None for a document, and without an
+             offset. An error of a block of lines always has the line
     """
 
     code: Optional[int] = None
@@ -128,7 +129,7 @@ def is_of_text(status):
 def of_text(found):
     """Returns the error of a rejected text, from what `vbson_explain` found."""
     error = _ERRORS[found.code][0](found.message, found.reason, _paths.of_array(found.path), code=found.code)
-    if found.code == NOT_JSON:
+    if found.line > 0:
         error.line, error.column, error.offset = found.line, found.column, found.offset
     return error
 

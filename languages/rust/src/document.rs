@@ -99,9 +99,9 @@ pub fn decode(mode: Mode, options: Options, bytes: &[u8]) -> Result<Text, Error>
 /// # Errors
 ///
 /// - `NotJson`, with line, column and offset, if the input is not UTF-8, is not one JSON text, or nests deeper than 127.
-/// - `BadObjectId`, with the path, if the first error is an invalid object id.
-/// - `NotExtendedJson`, with the path, if the first error is any other, a finite double while `doubles` is off, or a duplicate
-///   key while `reject_duplicate_keys` is on.
+/// - `BadObjectId`, with the path too, if the first error is an invalid object id.
+/// - `NotExtendedJson`, with the path too, if the first error is any other, a finite double while `doubles` is off, or a
+///   duplicate key while `reject_duplicate_keys` is on.
 /// - `NotADocument` if the value is not a document.
 /// - `ZeroInKey` if a key contains a 0 byte.
 /// - `ZeroInRegex` if a regular expression contains a 0 byte.

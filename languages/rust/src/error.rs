@@ -73,6 +73,7 @@ impl ErrorKind {
 /// assert_eq!((error.kind(), error.code()), (vbson::ErrorKind::BadObjectId, Some(3)));
 /// assert_eq!(error.reason(), "an object id has 24 digits, but \"53e3\" has 4");
 /// assert_eq!(error.path()[..], ["a".into(), 1.into(), "$oid".into()]);
+/// assert_eq!((error.line(), error.column(), error.offset()), (Some(2), Some(10), Some(19)));
 /// let error = vbson::convert(vbson::Mode::Relaxed, b"{\"a\": 1,\n \"b\": }").unwrap_err();
 /// assert_eq!((error.line(), error.column(), error.offset()), (Some(2), Some(7), Some(15)));
 /// ```
@@ -119,17 +120,18 @@ impl Error {
         &self.0.path
     }
 
-    /// Returns the line, from 1, if the input is not JSON. An error of a line of several always has the line.
+    /// Returns the line, from 1, on which the input stops to be JSON, or on which the wrong value begins. It is `None` for
+    /// bytes, and with `v1` if the value is not in the input as it is read. An error of a line of several always has the line.
     pub fn line(&self) -> Option<u64> {
         self.0.line
     }
 
-    /// Returns the byte in the line, from 1, if the input is not JSON.
+    /// Returns the first byte of the error in its line, from 1, if the line is known.
     pub fn column(&self) -> Option<u64> {
         self.0.column
     }
 
-    /// Returns the number of bytes before the error, if the input is not JSON or not a document.
+    /// Returns the number of bytes before the error, if the line is known, or if the input is not a document.
     pub fn offset(&self) -> Option<u64> {
         self.0.offset
     }
@@ -174,6 +176,12 @@ impl Error {
         self.0.line = Some(number);
         self.0.offset = self.0.offset.map(|it| start + it);
         self
+    }
+
+    /// The error without a position, of a text that the caller does not have.
+    #[cfg(any(feature = "serde", feature = "serde_json"))]
+    pub(crate) fn without_position(self) -> Error {
+        self.with(|it| (it.line, it.column, it.offset) = (None, None, None))
     }
 
     pub(crate) fn with(mut self, change: impl FnOnce(&mut Parts)) -> Error {

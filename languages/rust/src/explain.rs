@@ -35,7 +35,7 @@ fn of_text(options: RawOptions, text: &[u8]) -> Result<Option<Error>, ErrorKind>
     let found = call::explain(options, text)?;
     let (path, reason, message) = (Block::of(found.path), owned(found.reason), owned(found.message));
     let Some(kind) = call::kind_of(found.code) else { return Ok(None) };
-    let position = |it: usize| if kind == ErrorKind::NotJson { Some(it as u64) } else { None };
+    let position = |it: usize| (found.line > 0).then_some(it as u64);
     Ok(Some(Error::new(kind, &*message, &reason).with(|it| {
         it.path = elements_of(&path);
         it.line = position(found.line);

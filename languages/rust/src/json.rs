@@ -31,8 +31,8 @@ impl Form {
 /// # Errors
 ///
 /// - `NotJson`, with line, column and offset, if the input is not UTF-8, is not one JSON text, or nests deeper than 127.
-/// - `BadObjectId`, with the path, if the first error is an invalid object id.
-/// - `NotExtendedJson`, with the path, if the first error is any other, or a finite double while `doubles` is off.
+/// - `BadObjectId`, with the path too, if the first error is an invalid object id.
+/// - `NotExtendedJson`, with the path too, if the first error is any other, or a finite double while `doubles` is off.
 /// - `OutOfMemory` if an allocation fails.
 ///
 /// ```
@@ -62,7 +62,7 @@ pub fn from_text(form: Form, options: Options, text: &[u8]) -> Result<Value, Err
 /// # Ok::<(), vbson::Error>(())
 /// ```
 pub fn to_text(form: Form, options: Options, value: &Value) -> Result<Text, Error> {
-    convert_with(form.mode(), options, &written(value)?)
+    convert_with(form.mode(), options, &written(value)?).map_err(Error::without_position)
 }
 
 /// Reads the bytes as one document, and returns its value in the form.
@@ -86,7 +86,7 @@ pub fn from_document(form: Form, options: Options, bytes: &[u8]) -> Result<Value
 /// - `ZeroInRegex` if a regular expression contains a 0 byte.
 /// - `TooLong` if a part has 2^31 bytes or more.
 pub fn to_document(options: Options, value: &Value) -> Result<Bytes, Error> {
-    encode(options, &written(value)?)
+    encode(options, &written(value)?).map_err(Error::without_position)
 }
 
 /// The tree of a text that the library has written. (It nests no deeper than the library lets it.)

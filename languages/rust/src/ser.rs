@@ -34,7 +34,7 @@ use std::fmt::{self, Display, Write};
 pub fn to_document<T: Serialize + ?Sized>(value: &T) -> Result<Bytes, Error> {
     let mut text = String::new();
     value.serialize(Writer { text: &mut text, is_plain: false })?;
-    encode(Options::default(), text.as_bytes())
+    encode(Options::default(), text.as_bytes()).map_err(Error::without_position)
 }
 
 impl ser::Error for Error {

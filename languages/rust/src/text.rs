@@ -123,8 +123,8 @@ impl Options {
 /// # Errors
 ///
 /// - `NotJson`, with line, column and offset, if the input is not UTF-8, is not one JSON text, or nests deeper than 127.
-/// - `BadObjectId`, with the path, if the first error is an invalid object id.
-/// - `NotExtendedJson`, with the path, if the first error is any other.
+/// - `BadObjectId`, with the path too, if the first error is an invalid object id.
+/// - `NotExtendedJson`, with the path too, if the first error is any other.
 /// - `OutOfMemory` if an allocation fails.
 pub fn convert(mode: Mode, text: &[u8]) -> Result<Text, Error> {
     convert_with(mode, Options::default(), text)
@@ -135,9 +135,9 @@ pub fn convert(mode: Mode, text: &[u8]) -> Result<Text, Error> {
 /// # Errors
 ///
 /// - `NotJson`, with line, column and offset, if the input is not UTF-8, is not one JSON text, or nests deeper than 127.
-/// - `BadObjectId`, with the path, if the first error is an invalid object id.
-/// - `NotExtendedJson`, with the path, if the first error is any other, a number such as 1.5 or 0.0 while `doubles` is off, or a
-///   duplicate key while `reject_duplicate_keys` is on.
+/// - `BadObjectId`, with the path too, if the first error is an invalid object id.
+/// - `NotExtendedJson`, with the path too, if the first error is any other, a number such as 1.5 or 0.0 while `doubles` is off,
+///   or a duplicate key while `reject_duplicate_keys` is on.
 /// - `OutOfMemory` if an allocation fails.
 pub fn convert_with(mode: Mode, options: Options, text: &[u8]) -> Result<Text, Error> {
     let made = call::convert(mode as u32, options.raw(), text);
@@ -162,8 +162,9 @@ pub fn explain(options: Options, text: &[u8]) -> Option<Error> {
 /// The error is that of `a`, or that of `b` if `a` has none:
 ///
 /// - `NotJson`, with line, column and offset, if the input is not UTF-8, is not one JSON text, or nests deeper than 127.
-/// - `BadObjectId`, with the path, if the first error is an invalid object id.
-/// - `NotExtendedJson`, with the path, if the first error is any other, or a duplicate key while `reject_duplicate_keys` is on.
+/// - `BadObjectId`, with the path too, if the first error is an invalid object id.
+/// - `NotExtendedJson`, with the path too, if the first error is any other, or a duplicate key while `reject_duplicate_keys`
+///   is on.
 /// - `OutOfMemory` if an allocation fails.
 pub fn same(options: Options, a: &[u8], b: &[u8]) -> Result<bool, Error> {
     call::same(options.raw_for_reading(), a, b).map_err(|kind| of_texts(kind, options.raw(), &[a, b]))
@@ -193,8 +194,9 @@ pub fn is_canonical_text(options: Options, text: &[u8]) -> Result<bool, Error> {
 /// # Errors
 ///
 /// - `NotJson`, with line, column and offset, if the input is not UTF-8, is not one JSON text, or nests deeper than 127.
-/// - `BadObjectId`, with the path, if the first error is an invalid object id.
-/// - `NotExtendedJson`, with the path, if the first error is any other, or a duplicate key while `reject_duplicate_keys` is on.
+/// - `BadObjectId`, with the path too, if the first error is an invalid object id.
+/// - `NotExtendedJson`, with the path too, if the first error is any other, or a duplicate key while `reject_duplicate_keys`
+///   is on.
 /// - `OutOfMemory` if an allocation fails.
 pub fn hash(options: Options, text: &[u8]) -> Result<u64, Error> {
     call::hash(options.raw_for_reading(), text).map_err(|kind| of_texts(kind, options.raw(), &[text]))

@@ -136,21 +136,32 @@ fn places_are_told() {
     // (the message has 300 characters of a path)
     let (long, cut) = ("a".repeat(1000), "a".repeat(300) + "..");
     let (a, index): (PathElement, PathElement) = ("a (".into(), 0.into());
-    for (text, words, path, why) in [
-        (r#"{"a (":[{"b":1.5}]}"#, format!("not Extended JSON at a (.0.b ({number})"), vec![a.clone(), index, "b".into()], number),
-        ("1.5", format!("not Extended JSON ({number})"), vec![], number),
-        (r#"{"a.0":1,"a":{"0":1.5}}"#, format!("not Extended JSON at a.0 ({number})"), vec!["a".into(), "0".into()], number),
-        (r#"{"a (":{"$date":" (a)"}}"#, format!("not Extended JSON at a (.$date ({date})"), vec![a, "$date".into()], date),
-        (r#"{"a":{"$oid":"53e3 ("}}"#, format!("bad object id at a.$oid ({digit})"), vec!["a".into(), "$oid".into()], digit),
-        (r#"{"\u0007":1.5}"#, format!(r"not Extended JSON at \u0007 ({number})"), vec!["\u{7}".into()], number),
-        (&*format!(r#"{{"{long}":{{"$oid":"53e3 ("}}}}"#), format!("bad object id at {cut} ({digit})"), vec![(&*long).into(), "$oid".into()], digit),
+    for (text, offset, words, path, why) in [
+        (r#"{"a (":[{"b":1.5}]}"#, 13, format!("not Extended JSON at a (.0.b ({number})"), vec![a.clone(), index, "b".into()], number),
+        ("1.5", 0, format!("not Extended JSON ({number})"), vec![], number),
+        (r#"{"a.0":1,"a":{"0":1.5}}"#, 18, format!("not Extended JSON at a.0 ({number})"), vec!["a".into(), "0".into()], number),
+        (r#"{"a (":{"$date":" (a)"}}"#, 16, format!("not Extended JSON at a (.$date ({date})"), vec![a, "$date".into()], date),
+        (r#"{"a":{"$oid":"53e3 ("}}"#, 13, format!("bad object id at a.$oid ({digit})"), vec!["a".into(), "$oid".into()], digit),
+        (r#"{"\u0007":1.5}"#, 10, format!(r"not Extended JSON at \u0007 ({number})"), vec!["\u{7}".into()], number),
+        (&*format!(r#"{{"{long}":{{"$oid":"53e3 ("}}}}"#), 1012, format!("bad object id at {cut} ({digit})"), vec![(&*long).into(), "$oid".into()], digit),
     ] {
         let error = convert_with(Mode::Relaxed, Options::SPECIFIED, text.as_bytes()).unwrap_err();
         assert_eq!((error.to_string(), &error.path()[..], error.reason()), (words, &path[..], why));
-        assert_eq!((error.line(), error.column(), error.offset()), (None, None, None));
+        assert_eq!((error.line(), error.column(), error.offset()), (Some(1), Some(offset + 1), Some(offset)));
         assert_eq!(explain(Options::SPECIFIED, text.as_bytes()).as_ref(), Some(&error));
         assert_eq!(same(Options::SPECIFIED, b"1", text.as_bytes()).as_ref(), Err(&error));
         assert_eq!(hash(Options::SPECIFIED, text.as_bytes()).as_ref(), Err(&error));
+    }
+    let (strict, v1) = (Options { reject_duplicate_keys: true, ..Options::default() }, Options { v1: true, ..Options::default() });
+    for (options, text, place) in [
+        (Options::SPECIFIED, "[\"\u{e9}\",\n \"\u{e9}\", 1.5]", Some((2, 8, 14))),
+        (strict, "{\"a\":{\"b\":1,\n\"b\":2,\"b\":3}}", Some((2, 5, 17))),
+        (v1, "[{\"$binary\":\"AQI=\",\"$type\":\"00\"},\n{\"$numberInt\":\"x\"}]", Some((2, 15, 48))),
+        (v1, r#"{"a":{"$binary":"AQI=","$type":"000"}}"#, None),
+    ] {
+        let error = explain(options, text.as_bytes()).unwrap();
+        let found = (error.line(), error.column(), error.offset());
+        assert_eq!(found, (place.map(|it| it.0), place.map(|it| it.1), place.map(|it| it.2)), "{text}");
     }
     let error = "53e3".parse::<ObjectId>().unwrap_err();
     assert_eq!((error.to_string().as_str(), error.path().len(), error.reason()), ("invalid string", 0, "invalid string"));

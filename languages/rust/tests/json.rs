@@ -46,7 +46,11 @@ fn numbers_are_kept() {
 #[test]
 fn faults_are_those_of_texts() {
     let error = from_text(Form::Relaxed, Options::SPECIFIED, br#"{"a":[1.5]}"#).unwrap_err();
-    assert_eq!(to_text(Form::Relaxed, Options::SPECIFIED, &json!({"a": [1.5]})).unwrap_err(), error);
+    assert_eq!((error.line(), error.column(), error.offset()), (Some(1), Some(7), Some(6)));
+    // (a value has no text of the caller's)
+    let of_value = to_text(Form::Relaxed, Options::SPECIFIED, &json!({"a": [1.5]})).unwrap_err();
+    assert_eq!((of_value.to_string(), of_value.path()), (error.to_string(), error.path()));
+    assert_eq!((of_value.line(), of_value.column(), of_value.offset()), (None, None, None));
     let error = to_document(ALL, &json!([1])).unwrap_err();
     assert_eq!(error.kind(), ErrorKind::NotADocument);
     assert_eq!(from_document(Form::Relaxed, ALL, &[5, 0, 0, 0]).unwrap_err().kind(), ErrorKind::NotADocument);

@@ -94,7 +94,7 @@ fn lines_are_read() {
         assert_eq!((found[0].as_ref().unwrap().as_bytes(), found[4].as_ref().unwrap().as_bytes()), (&document(r#"{"n": 5}"#)[..], &document("{}")[..]));
         let errors: Vec<_> = found[1..4].iter().map(|it| it.as_ref().unwrap_err()).collect();
         let places: Vec<_> = errors.iter().map(|it| (it.kind(), it.line(), it.column())).collect();
-        assert_eq!(places, [(ErrorKind::NotJson, Some(3), Some(7)), (ErrorKind::NotADocument, Some(4), None), (ErrorKind::BadObjectId, Some(5), None)]);
+        assert_eq!(places, [(ErrorKind::NotJson, Some(3), Some(7)), (ErrorKind::NotADocument, Some(4), None), (ErrorKind::BadObjectId, Some(5), Some(14))]);
         let before = lines.windows(7).position(|it| it == b"{\"n\": }").unwrap() as u64;
         assert_eq!(errors[0].offset(), Some(before + 6));
         assert_eq!(errors[2].path()[..], ["a".into(), "$oid".into()]);

@@ -1,5 +1,6 @@
 use Rattle.std.proofs.Common.{subst, sym, ◌∙◌, ap}
-use Rattle.vbson.proofs.Preprocessed.{of_refused, rejected}
+use Rattle.vbson.proofs.Causes.{of_refused}
+use Rattle.vbson.proofs.Preprocessed.{rejected}
 use Rattle.vbson.specs.Convert.{status_of}
 use Rattle.vbson.specs.Reading.{IsReadFailure}
 use Rattle.vbson.proofs.convert.convert_read_text.Goals as goal

@@ -7,29 +7,21 @@ use Rattle.vbson.proofs.Decoding.{directly, unread_directly}
 use Rattle.vbson.specs.Documents.{Decodes, IsOneDocument, IsDecodeFailure, depth, streaming_form}
 use Rattle.vbson.proofs.decode.decode_document.Goals as goal
 
-pub returns-in-Some-clause-ok : goal.returns-in-Some-clause-ok
-returns-in-Some-clause-ok c =
+pub returns-in-Some : goal.returns-in-Some
+returns-in-Some c =
     let keys = c.args.keys in
     let o = c.args.options in
     let mode = c.args.mode in
     let f = c.in-Some.form in
     let bytes = c.args.bytes.now in
     let given : streaming_form keys o mode ≡ Some f = cc in
-    IfOk-weaker c.decode_streaming.result
-    (λ line. (text : List ℕ) × IsDocumentTextOf c.form.result depth bytes text × IsUtf8 text × (line.items ≡ text ++ newline))
-    (λ line. (text : List ℕ) × Decodes keys o mode bytes text × IsUtf8 text × (line.items ≡ text ++ newline))
-    (λ line is. (is.0, directly keys o mode f bytes is.0 given (subst (λ g. IsDocumentTextOf g depth bytes is.0) c.form.ensures is.1), is.2, is.3))
-    c.decode_streaming.ensures.ok
-
-pub returns-in-Some-clause-error_status : goal.returns-in-Some-clause-error_status
-returns-in-Some-clause-error_status c =
-    let keys = c.args.keys in
-    let o = c.args.options in
-    let mode = c.args.mode in
-    let f = c.in-Some.form in
-    let bytes = c.args.bytes.now in
-    let given : streaming_form keys o mode ≡ Some f = cc in
-    IfErr-weaker c.decode_streaming.result (λ status. (status ≡ 5) ⊎ ((status ≡ 10) × (IsOneDocument LastWins bytes → ⊥)))
-    (λ status. IsDecodeFailure keys o mode status bytes)
-    (λ status h. unread_directly keys o mode f status bytes given h)
-    c.decode_streaming.ensures.error_status
+    record {
+      ok = IfOk-weaker c.decode_streaming.result
+          (λ line. (text : List ℕ) × IsDocumentTextOf c.form.result depth bytes text × IsUtf8 text × (line.items ≡ text ++ newline))
+          (λ line. (text : List ℕ) × Decodes keys o mode bytes text × IsUtf8 text × (line.items ≡ text ++ newline))
+          (λ line is. (is.0, directly keys o mode f bytes is.0 given (subst (λ g. IsDocumentTextOf g depth bytes is.0) c.form.ensures is.1), is.2, is.3))
+          c.decode_streaming.ensures.ok;
+      error_status = IfErr-weaker c.decode_streaming.result (λ status. (status ≡ 5) ⊎ ((status ≡ 10) × (IsOneDocument LastWins bytes → ⊥)))
+          (λ status. IsDecodeFailure keys o mode status bytes) (λ status h. unread_directly keys o mode f status bytes given h)
+          c.decode_streaming.ensures.error_status;
+    }

@@ -1,6 +1,7 @@
 use Rattle.std.proofs.Common.{subst, sym}
 use Rattle.bson.specs.View.{bson_view}
-use Rattle.vbson.proofs.Preprocessed.{of_refused, one_meaning, rejected}
+use Rattle.vbson.proofs.Causes.{of_refused}
+use Rattle.vbson.proofs.Preprocessed.{one_meaning, rejected}
 use Rattle.vbson.specs.Reading.{IsReadFailure}
 use Rattle.vbson.proofs.reading.meaning_of.Goals as goal
 
