@@ -19,7 +19,6 @@ use Rattle.bson_convert.specs.declared.encode_error.NoBytes.TheVariants.{NoDocum
 use Rattle.vbson.specs.Convert.{IsInvalidExtendedJson, IsInvalidShape, IsBadObjectId, IsCauseOfStatus, IsTextError, status_of_reason, status_of}
 use Rattle.vbson.specs.Convert.{status_of_encode_error}
 use Rattle.vbson.specs.Documents.{IsEncodeFailure}
-use Rattle.bson_model.specs.declared.options.KeyOrder.{KeyOrder}
 
 is_bad_id : (f : TreeFault) (r : Reason) → IsReasonOfFault f r → status_of_reason r ≡ 3 → IsBadObjectId f
 is_bad_id f (BadObjectId e) h is = (h.0, h.1)

@@ -1,11 +1,11 @@
 -- Values of documents that remain bytes.
-use Rattle.std.proofs.Common.{◌≡◌, ℕ, ◌-◌, ◌≤◌, Bool, List, Option, None, Some, Ok, length, drop, refl, sym, ap, ◌∙◌, subst, arith}
-use Rattle.std.specs.Prelude.{◌↔◌, MatchOption, option_map}
+use Rattle.std.proofs.Common.{◌≡◌, ℕ, ◌≤◌, List, Option, None, Some, Ok, length, drop, refl, sym, ap, ◌∙◌, subst, arith}
+use Rattle.std.specs.Prelude.{◌↔◌, option_map}
 use Rattle.std.specs.Borrow.{Bor}
 use Rattle.bson_bytes.specs.Reading.{read_value_in, read_document_in}
 use Rattle.bson_model.specs.declared.options.DuplicateKeys.TheVariants.{LastWins}
-use Rattle.bson_model.specs.Value.{Value, Values, Pairs, no_pairs, pair, scalar, code_scope, array, document}
-use Rattle.bson_bytes.specs.RawElements.{HasValue, IsElement, IsFirstElement, IsValueOfElement, value_length}
+use Rattle.bson_model.specs.Value.{Value, Values, Pairs, no_pairs, scalar, code_scope, array, document}
+use Rattle.bson_bytes.specs.RawElements.{HasValue, IsElement, IsValueOfElement}
 use Rattle.bson_bytes.specs.TypedGetters.{binary_value, boolean_value, date_value, double_value, int32_value, int64_value, object_id_value, string_value}
 use Rattle.bson_bytes.specs.NestedValues.{IsNested}
 use Rattle.bson_bytes.specs.ReadElements.{BeginsWithElements}

@@ -1,14 +1,12 @@
 -- Why bytes are rejected as a document that has a text, and where, as an error struct.
-use Rattle.std.specs.Prelude.{◌≡◌, ℕ, List, [], ◌++◌, IsUtf8, codes, false, true}
+use Rattle.std.specs.Prelude.{◌≡◌, ℕ, List, [], ◌++◌, IsUtf8, codes, string_bytes, false, true}
 use Rattle.std.specs.Fmt.{decimal}
 use Rattle.bson_model.specs.declared.options.Options.{Options}
 use Rattle.bson_bytes.specs.ReadDocuments.{IsReadAsDocumentIn}
 use Rattle.bson_bytes.specs.Writing.{document_bytes}
-use Rattle.bson_bytes.specs.declared.fault.FaultKind.{FaultKind}
 use Rattle.bson_codec.specs.Bytes.{reads_bytes_in}
 use Rattle.bson_codec.specs.ReadErrors.{IsFaultAtOffset}
 use Rattle.bson_codec.specs.Diagnostics.{fault_kind_message}
-use Rattle.bson_convert.specs.Convert.{newline}
 use Rattle.bson_model.specs.Normal.{writable_in}
 use Rattle.bson_model.specs.Value.{Pairs, document}
 use Rattle.vbson.specs.Convert.{duplicate_keys_of, options_of_call}
@@ -65,14 +63,10 @@ abbrev pub malformed_message : (offset : ℕ) → (description : List ℕ) → L
 malformed_message offset description =
     codes "not a document at byte " ++ decimal offset ++ codes " (" ++ description ++ codes ")"
 
--- the message for a document that has no text, with its reason
-abbrev pub not_representable_message : (description : List ℕ) → List ℕ
-not_representable_message description = codes "not representable (" ++ description ++ codes ")"
-
 abbrev pub finding_message : Finding → List ℕ
 finding_message Nothing = []
 finding_message (Malformed kind offset) = malformed_message offset (fault_kind_message kind)
-finding_message FiniteDouble = not_representable_message (codes "a finite double")
+finding_message FiniteDouble = codes "not representable (a finite double)"
 
 -- the error struct has the fields of the finding; its path has no segment
 pub record ReportsFinding (finding : Finding) (rejection : Rejection) : Type 0 where
@@ -104,6 +98,6 @@ pub record AreFieldsOfFinding (finding : Finding) (fields : RejectionFields) : T
   pub line : fields.position.line ≡ 0
   pub column : fields.position.column ≡ 0
   pub offset : fields.position.offset ≡ finding_offset finding
-  pub path : fields.path.items ≡ document_bytes (path_pairs []) ++ newline
-  pub reason : fields.reason.items ≡ finding_reason finding ++ newline
+  pub path : fields.path.items ≡ document_bytes (path_pairs [])
+  pub reason : string_bytes fields.reason ≡ finding_reason finding
   pub utf8 : IsUtf8 (finding_reason finding)

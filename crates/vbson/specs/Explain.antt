@@ -1,8 +1,8 @@
 -- Why a text is rejected, and where, as an error struct.
-use Rattle.std.specs.Prelude.{◌≡◌, ◌≢◌, ◌⊎◌, ◌-◌, ℕ, IsUtf8, List, [], ◌++◌, length, take, string_bytes, Option, None, Some}
+use Rattle.std.specs.Prelude.{◌≡◌, ◌≢◌, ◌⊎◌, ℕ, IsUtf8, List, [], ◌++◌, string_bytes, Option, None, Some}
 use Rattle.bson.specs.Value.{Value}
 use Rattle.bson_bytes.specs.Writing.{document_bytes, FitsDocument}
-use Rattle.bson_convert.specs.Convert.{IsRejectedIn, newline}
+use Rattle.bson_convert.specs.Convert.{IsRejectedIn}
 use Rattle.bson_convert.specs.Messages.{error_message}
 use Rattle.bson_convert.specs.declared.error.Error.{Error}
 use Rattle.bson_convert.specs.declared.error.Error.TheVariants.{NotExtendedJson, OutOfMemory}
@@ -109,13 +109,9 @@ PathIsTooLong explanation = FitsDocument (path_pairs (reported_path explanation)
 pub record AreFieldsOfExplanation (text : List ℕ) (explanation : Explanation) (fields : RejectionFields) : Type 0 where
   pub code : fields.code ≡ explanation_code explanation
   pub position : fields.position ≡ explanation_position text explanation
-  pub path : fields.path.items ≡ document_bytes (path_pairs (reported_path explanation)) ++ newline
-  pub reason : fields.reason.items ≡ explanation_reason explanation ++ newline
+  pub path : fields.path.items ≡ document_bytes (path_pairs (reported_path explanation))
+  pub reason : string_bytes fields.reason ≡ explanation_reason explanation
   pub utf8 : IsUtf8 (explanation_reason explanation)
-
--- the line without its newline
-abbrev pub line_without_end : (line : List ℕ) → List ℕ
-line_without_end line = take (length line - 1) line
 
 pub record IsRejectionWithFields (fields : RejectionFields) (description : List ℕ)
     (rejection : Rejection) : Type 0 where
@@ -123,6 +119,7 @@ pub record IsRejectionWithFields (fields : RejectionFields) (description : List 
   pub line : rejection.line ≡ fields.position.line
   pub column : rejection.column ≡ fields.position.column
   pub offset : rejection.offset ≡ fields.position.offset
-  pub path : IsOwnedText (line_without_end fields.path.items) rejection.path
-  pub reason : IsOwnedText (line_without_end fields.reason.items) rejection.reason
-  pub message : IsOwnedText (line_without_end description) rejection.message
+  pub path : IsOwnedText fields.path.items rejection.path
+  pub reason : IsOwnedText (string_bytes fields.reason) rejection.reason
+  pub message : IsOwnedText description rejection.message
+  pub utf8 : IsUtf8 description

@@ -1,17 +1,14 @@
 //! Why bytes are rejected as a document that has a text, and where.
-ghost use Rattle.std.specs.Prelude.{◌≡◌, ◌⊎◌, ◌↔◌, ◌<◌, ◌++◌, IfOk, IsUtf8};
+ghost use Rattle.std.specs.Prelude.{◌≡◌, ◌⊎◌, ◌↔◌, ◌<◌, string_bytes, IfOk};
 ghost use Rattle.bson.specs.View.{document_view};
-ghost use Rattle.bson_convert.specs.Convert.{newline};
 ghost use Rattle.vbson.specs.DocumentError.{AreFieldsOfFinding, ExplainsDocument, HasDocumentText, IsFinding, IsFindingOfDocument};
-ghost use Rattle.vbson.specs.DocumentError.{ReportsFinding, finding_code, finding_message, finding_offset, finding_reason, not_representable_message, malformed_message};
+ghost use Rattle.vbson.specs.DocumentError.{ReportsFinding, finding_code, finding_message, finding_offset, finding_reason, malformed_message};
 ghost use Rattle.vbson.specs.Options.{AreInvalid};
 ghost use Rattle.vbson.specs.declared.document_error.Finding.TheVariants.{Nothing};
 
-use crate::explain::{
-    BytePosition, Rejection, RejectionFields, line_of_string, rejection_with_fields,
-};
+use crate::explain::{BytePosition, Rejection, RejectionFields, rejection_with_fields};
 use crate::options::{CallOptions, are_invalid, duplicate_keys_of, options_of};
-use crate::path::path_line;
+use crate::path::path_bytes;
 use crate::status;
 use bson::extjson::{Form, Options, WriteError};
 use bson::{Bson, Document};
@@ -117,15 +114,15 @@ fn rejection_of(alloc: Global, finding: Finding) -> Result<Rejection<'static>, P
 {
     let message = message_of(alloc, finding)?;
     let fields = rejection_fields_of(alloc, finding)?;
-    Ok(rejection_with_fields(fields, message))
+    Ok(rejection_with_fields(fields, message)?)
 }
 
 // Returns the fields of the error struct for the finding.
 fn rejection_fields_of(alloc: Global, finding: Finding) -> Result<RejectionFields, PathError>
     ensures error_report { IfOk result (λ fields. AreFieldsOfFinding finding fields) }
 {
-    let path = path_line(alloc, &[])?;
-    let reason = line_of_string(alloc, reason_of(finding))?;
+    let path = path_bytes(alloc, &[])?;
+    let reason = String::from_str(alloc, reason_of(finding))?;
     Ok(RejectionFields {
         code: code_of(finding),
         position: BytePosition {
@@ -170,33 +167,21 @@ fn reason_of(finding: Finding) -> &'static str
     }
 }
 
-// Returns the message of the finding, and a newline.
-fn message_of(alloc: Global, finding: Finding) -> Result<Vec<u8>, AllocError>
-    ensures { IfOk result (λ line. IsUtf8 (finding_message finding)
-        × (line.items ≡ finding_message finding ++ newline)) }
+// Returns the message of the finding.
+fn message_of(alloc: Global, finding: Finding) -> Result<String, AllocError>
+    ensures { IfOk result (λ message. string_bytes message ≡ finding_message finding) }
 {
     let description = reason_of(finding);
     match finding {
-        Finding::Nothing => Vec::from_slice(alloc, b"\n"),
-        Finding::Malformed { offset, .. } => malformed_line(alloc, offset, description),
-        Finding::FiniteDouble => not_representable_line(alloc, description),
+        Finding::Nothing => Ok(String::new(alloc)),
+        Finding::Malformed { offset, .. } => malformed_message(alloc, offset, description),
+        Finding::FiniteDouble => format!(in alloc; "not representable ({description})"),
     }
 }
 
-// Returns the message for a fault at the offset, and a newline.
-fn malformed_line(alloc: Global, offset: usize, description: &str) -> Result<Vec<u8>, AllocError>
-    ensures { IfOk result (λ line. IsUtf8 (malformed_message offset description.now)
-        × (line.items ≡ malformed_message offset description.now ++ newline)) }
+// Returns the message for a fault at the offset.
+fn malformed_message(alloc: Global, offset: usize, description: &str) -> Result<String, AllocError>
+    ensures { IfOk result (λ message. string_bytes message ≡ malformed_message offset description.now) }
 {
-    let line = format!(in alloc; "not a document at byte {offset} ({description})\n")?;
-    Ok(line.into_bytes())
-}
-
-// Returns the message for a document that has no text, and a newline.
-fn not_representable_line(alloc: Global, description: &str) -> Result<Vec<u8>, AllocError>
-    ensures { IfOk result (λ line. IsUtf8 (not_representable_message description.now)
-        × (line.items ≡ not_representable_message description.now ++ newline)) }
-{
-    let line = format!(in alloc; "not representable ({description})\n")?;
-    Ok(line.into_bytes())
+    format!(in alloc; "not a document at byte {offset} ({description})")
 }

@@ -1,7 +1,6 @@
 //! Explains why a text is rejected, and where.
-ghost use Rattle.std.specs.Prelude.{◌≡◌, ◌≢◌, ◌⊎◌, ◌↔◌, ◌<◌, ◌++◌, ℕ, List, [], length, map, IfOk, IfErr, IsUtf8, OnOk};
+ghost use Rattle.std.specs.Prelude.{◌≡◌, ◌≢◌, ◌⊎◌, ◌↔◌, ◌<◌, ◌++◌, ℕ, List, [], map, string_bytes, IfOk, IfErr, IsUtf8, OnOk};
 ghost use Rattle.bson.specs.Value.{Value};
-ghost use Rattle.bson_convert.specs.Convert.{newline};
 ghost use Rattle.bson_convert.specs.Messages.{error_message};
 ghost use Rattle.bson_tree.specs.Place.{segment_of};
 ghost use Rattle.vbson.specs.Explain.{AreFieldsOfExplanation, Explains, ExplainsRejection, PathIsTooLong, HasTooLongPath, IsRejectedUnder};
@@ -14,10 +13,10 @@ ghost use Rattle.bson_run.specs.declared.explain.Explanation.TheVariants as expl
 
 use crate::lines::task_of;
 use crate::options::{CallOptions, are_invalid, options_of, preprocessing_of};
-use crate::path::path_line;
+use crate::path::path_bytes;
 use crate::reading::text_to_read;
 use crate::status;
-use crate::text::{Text, text_of_line};
+use crate::text::{Text, owned_text};
 use bson_bytes::error::Error as PathError;
 use bson_convert::check::check;
 use bson_convert::error::Error;
@@ -125,8 +124,7 @@ fn empty_rejection(alloc: Global) -> Result<Rejection<'static>, PathError>
     ensures memory { IfErr result (λ error. error ≡ path_error.OutOfMemory) }
 {
     let fields = rejection_fields_of(alloc, &Explanation::Other, b"")?;
-    let message = Vec::from_slice(alloc, b"\n")?;
-    Ok(rejection_with_fields(fields, message))
+    Ok(rejection_with_fields(fields, String::new(alloc))?)
 }
 
 // Returns the error struct for an error of the text, under the options.
@@ -144,19 +142,17 @@ fn rejection_of_error(
     let task = task_of(options, Output::Nothing(Criterion::Valid));
     let explanation = explanation_under(alloc, task, fault, text)?;
     let place_message = explanation.message(alloc, text)?;
-    let message = error_line(alloc, fault, &place_message)?;
+    let message = full_message(alloc, fault, &place_message)?;
     let fields = rejection_fields_of(alloc, &explanation, text)?;
-    Ok(rejection_with_fields(fields, message))
+    Ok(rejection_with_fields(fields, message)?)
 }
 
-// Returns the message of a fault and its path, and a newline.
-fn error_line(alloc: Global, fault: &Error, place_message: &str) -> Result<Vec<u8>, AllocError>
-    ensures { IfOk result (λ line. IsUtf8 (error_message fault.now ++ place_message.now)
-        × (line.items ≡ (error_message fault.now ++ place_message.now) ++ newline)) }
+// Returns the message of a fault and its path.
+fn full_message(alloc: Global, fault: &Error, place_message: &str) -> Result<String, AllocError>
+    ensures { IfOk result (λ message. string_bytes message ≡ error_message fault.now ++ place_message.now) }
 {
     let description = fault.message();
-    let line = format!(in alloc; "{description}{place_message}\n")?;
-    Ok(line.into_bytes())
+    format!(in alloc; "{description}{place_message}")
 }
 
 // Where an error begins in a text: the line and the column, from 1, and the offset. All are 0 if that is
@@ -168,29 +164,37 @@ pub(crate) struct BytePosition {
     pub(crate) offset: usize,
 }
 
-// The fields of the error struct, without its message. The bytes end in a newline.
+// The fields of the error struct, without its message.
 #[derive(Drop)]
 pub(crate) struct RejectionFields {
     pub(crate) code: u32,
     pub(crate) position: BytePosition,
     pub(crate) path: Vec<u8>,
-    pub(crate) reason: Vec<u8>,
+    pub(crate) reason: String,
 }
 
-// Returns the error struct of these fields.
-pub(crate) fn rejection_with_fields(fields: RejectionFields, message: Vec<u8>) -> Rejection<'static>
-    requires { (0 < length fields.path.items) × (0 < length fields.reason.items) × (0 < length message.items) }
-    ensures { IsRejectionWithFields fields message.items result }
+// Returns the error struct with these fields.
+pub(crate) fn rejection_with_fields(
+    fields: RejectionFields,
+    message: String,
+) -> Result<Rejection<'static>, AllocError>
+    ensures { IfOk result (IsRejectionWithFields fields (string_bytes message)) }
 {
-    Rejection {
-        code: fields.code,
-        line: fields.position.line,
-        column: fields.position.column,
-        offset: fields.position.offset,
-        path: text_of_line(fields.path),
-        reason: text_of_line(fields.reason),
-        message: text_of_line(message),
-    }
+    let RejectionFields {
+        code,
+        position,
+        path,
+        reason,
+    } = fields;
+    Ok(Rejection {
+        code,
+        line: position.line,
+        column: position.column,
+        offset: position.offset,
+        path: owned_text(path)?,
+        reason: owned_text(reason.into_bytes())?,
+        message: owned_text(message.into_bytes())?,
+    })
 }
 
 // Returns the fields of the error struct for an explanation of an error of the text.
@@ -202,22 +206,14 @@ fn rejection_fields_of(
     ensures error_report { IfOk result (λ fields. AreFieldsOfExplanation text.now explanation.now fields) }
     ensures too_long { IfErr result (λ error. error ≢ path_error.OutOfMemory → PathIsTooLong explanation.now) }
 {
-    let path = path_line(alloc, segments_of(explanation))?;
-    let reason = line_of_string(alloc, reason_of(explanation))?;
+    let path = path_bytes(alloc, segments_of(explanation))?;
+    let reason = String::from_str(alloc, reason_of(explanation))?;
     Ok(RejectionFields {
         code: code_of(explanation),
         position: byte_position(explanation.offset(text), text),
         path,
         reason,
     })
-}
-
-// Returns the string, and a newline.
-pub(crate) fn line_of_string(alloc: Global, description: &str) -> Result<Vec<u8>, AllocError>
-    ensures { IfOk result (λ line. IsUtf8 description.now × (line.items ≡ description.now ++ newline)) }
-{
-    let line = format!(in alloc; "{description}\n")?;
-    Ok(line.into_bytes())
 }
 
 // Returns the status of an explained error, or 0 if there is no error.

@@ -1,6 +1,5 @@
 //! The path to a wrong value, as bytes of BSON.
-ghost use Rattle.std.specs.Prelude.{◌≡◌, ◌≤◌, ◌++◌, decimal, length, map, IfOk, IfErr, OnOk};
-ghost use Rattle.bson_convert.specs.Convert.{newline};
+ghost use Rattle.std.specs.Prelude.{◌≡◌, ◌≤◌, decimal, length, map, IfOk, IfErr, OnOk};
 ghost use Rattle.bson_bytes.specs.PutSteps.{put_elements, PutsBytes};
 ghost use Rattle.bson_bytes.specs.Writing.{document_bytes, FitsDocument};
 ghost use Rattle.bson_bytes.specs.declared.error.Error.TheVariants as errors;
@@ -16,25 +15,13 @@ use bson_tree::place::Segment;
 use bson_types::spec::ElementType;
 use std::alloc::Global;
 
-/// Returns the bytes of a path, whose segments lead from the value outward, and a newline.
+/// Returns the bytes of a path, whose segments lead from the value outward.
 ///
 /// # Errors
 ///
 /// - `Size`: the path has 2^31 bytes or more.
 /// - `OutOfMemory`: an allocation failed.
-pub fn path_line(alloc: Global, segments: &[Segment]) -> Result<Vec<u8>, Error>
-    ensures ok { IfOk result (λ bytes. bytes.items
-        ≡ document_bytes (path_pairs (map segment_of segments.now)) ++ newline) }
-    ensures only_out_of_memory { FitsDocument (path_pairs (map segment_of segments.now))
-        → IfErr result (λ error. error ≡ errors.OutOfMemory) }
-{
-    let mut line = path_bytes(alloc, segments)?;
-    line.push(b'\n')?;
-    Ok(line)
-}
-
-// The bytes of a path.
-fn path_bytes(alloc: Global, segments: &[Segment]) -> Result<Vec<u8>, Error>
+pub fn path_bytes(alloc: Global, segments: &[Segment]) -> Result<Vec<u8>, Error>
     ensures ok { IfOk result (λ bytes. bytes.items ≡ document_bytes (path_pairs (map segment_of segments.now))) }
     ensures only_out_of_memory { FitsDocument (path_pairs (map segment_of segments.now))
         → IfErr result (λ error. error ≡ errors.OutOfMemory) }

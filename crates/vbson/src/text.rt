@@ -4,6 +4,7 @@ ghost use Rattle.bson_convert.specs.Convert.{newline};
 ghost use Rattle.vbson.specs.Text.{IsOwnedText};
 
 use crate::status;
+use std::alloc::AllocError;
 
 /// A text that the caller owns: its bytes followed by a NUL, in a block of their own that the
 /// caller frees with `free`, and its length without the NUL.
@@ -25,6 +26,22 @@ pub fn text_of_line(mut line: Vec<u8>) -> Text<'static>
         bytes: line.leak(),
         len,
     }
+}
+
+/// Returns the bytes as a text.
+///
+/// # Errors
+///
+/// Returns `AllocError` if an allocation fails.
+pub fn owned_text(mut bytes: Vec<u8>) -> Result<Text<'static>, AllocError>
+    ensures { IfOk result (IsOwnedText bytes.items) }
+{
+    let len = bytes.len();
+    bytes.push(0)?;
+    Ok(Text {
+        bytes: bytes.leak(),
+        len,
+    })
 }
 
 /// Appends a newline to the bytes.

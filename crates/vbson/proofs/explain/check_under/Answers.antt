@@ -1,4 +1,4 @@
-use Rattle.std.proofs.Common.{List, inl, ℕ}
+use Rattle.std.proofs.Common.{inl}
 use Rattle.std.proofs.lemmas.Result.{IfErr-weaker, on_ok_weaker}
 use Rattle.bson_convert.specs.Convert.{IsAccepted, IsRejectedIn}
 use Rattle.bson_convert.specs.declared.error.Error.{Error}
