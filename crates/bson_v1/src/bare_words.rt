@@ -75,8 +75,9 @@ impl WordState {
 /// Returns `AllocError` if an allocation fails.
 ///
 /// ```
-/// let located = replace_words(alloc, WordForm::Digits, b"[NaN, \"NaN\"]")?; // [100, "NaN"]
-/// println!(rt; "{}", located.is_some())?; // true
+/// if let Some(text) = replace_words(alloc, WordForm::Digits, b"[NaN, \"NaN\"]")? {
+///     rt.print(str::from_utf8(&text)?)?; // [100, "NaN"]
+/// }
 /// ```
 pub fn replace_words(
     alloc: Global,
