@@ -16,7 +16,7 @@ use crate::options::{CallOptions, are_invalid, options_of, preprocessing_of};
 use crate::path::path_bytes;
 use crate::reading::text_to_read;
 use crate::status;
-use crate::text::{Text, owned_text};
+use crate::text::{Text, append_nul, text_before_nul};
 use bson_bytes::error::Error as PathError;
 use bson_convert::check::check;
 use bson_convert::error::Error;
@@ -186,14 +186,18 @@ pub(crate) fn rejection_with_fields(
         path,
         reason,
     } = fields;
+    // (a text that is made is not freed here, so all memory is requested before)
+    let path = append_nul(path)?;
+    let reason = append_nul(reason.into_bytes())?;
+    let message = append_nul(message.into_bytes())?;
     Ok(Rejection {
         code,
         line: position.line,
         column: position.column,
         offset: position.offset,
-        path: owned_text(path)?,
-        reason: owned_text(reason.into_bytes())?,
-        message: owned_text(message.into_bytes())?,
+        path: text_before_nul(path),
+        reason: text_before_nul(reason),
+        message: text_before_nul(message),
     })
 }
 

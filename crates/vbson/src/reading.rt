@@ -40,7 +40,7 @@ pub fn preprocess(alloc: Global, options: CallOptions, text: &[u8]) -> Result<Op
     }
 }
 
-/// Returns the text that is read: the new one, or the text itself if there is none.
+/// Returns the text that is read: the new one if there is one, or else the text itself.
 pub fn text_to_read<'a>(new_text: &'a Option<String>, text: &'a [u8]) -> &'a [u8]
     ensures { result.now ≡ preprocessed_of text.now new_text.now }
 {

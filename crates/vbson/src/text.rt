@@ -1,7 +1,7 @@
 //! Output text that the caller owns and frees.
-ghost use Rattle.std.specs.Prelude.{◌≡◌, ◌<◌, ◌-◌, ◌++◌, length, take, IfOk, IfErr};
+ghost use Rattle.std.specs.Prelude.{◌≡◌, ◌<◌, ◌-◌, ◌++◌, ℕ, List, length, take, IfOk, IfErr};
 ghost use Rattle.bson_convert.specs.Convert.{newline};
-ghost use Rattle.vbson.specs.Text.{IsOwnedText};
+ghost use Rattle.vbson.specs.Text.{IsOwnedText, nul};
 
 use crate::status;
 use std::alloc::AllocError;
@@ -28,20 +28,27 @@ pub fn text_of_line(mut line: Vec<u8>) -> Text<'static>
     }
 }
 
-/// Returns the bytes as a text.
+/// Appends a NUL to the bytes.
 ///
 /// # Errors
 ///
 /// Returns `AllocError` if an allocation fails.
-pub fn owned_text(mut bytes: Vec<u8>) -> Result<Text<'static>, AllocError>
-    ensures { IfOk result (IsOwnedText bytes.items) }
+pub fn append_nul(mut bytes: Vec<u8>) -> Result<Vec<u8>, AllocError>
+    ensures { IfOk result (λ text. text.items ≡ bytes.items ++ nul) }
 {
-    let len = bytes.len();
     bytes.push(0)?;
-    Ok(Text {
+    Ok(bytes)
+}
+
+/// Returns bytes that end in a NUL as a text.
+pub fn text_before_nul(bytes: Vec<u8>) -> Text<'static>
+    ensures { (text : List ℕ) → bytes.items ≡ text ++ nul → IsOwnedText text result }
+{
+    let len = bytes.len().saturating_sub(1);
+    Text {
         bytes: bytes.leak(),
         len,
-    })
+    }
 }
 
 /// Appends a newline to the bytes.

@@ -9,8 +9,10 @@ returns c = record {
   line = refl;
   column = refl;
   offset = refl;
-  path = c.in_ok-owned_text.ensures;
-  reason = subst (λ v. IsOwnedText v.items c.in_ok-owned_text-2.field-0) c.into_bytes.ensures.value c.in_ok-owned_text-2.ensures;
-  message = subst (λ v. IsOwnedText v.items c.in_ok-owned_text-3.field-0) c.into_bytes-2.ensures.value c.in_ok-owned_text-3.ensures;
+  path = c.text_before_nul.ensures c.args.fields.path.items c.in_ok-path.ensures;
+  reason = subst (λ v. IsOwnedText v.items c.text_before_nul-2.result) c.into_bytes.ensures.value
+      (c.text_before_nul-2.ensures c.into_bytes.result.items c.in_ok-reason.ensures);
+  message = subst (λ v. IsOwnedText v.items c.text_before_nul-3.result) c.into_bytes-2.ensures.value
+      (c.text_before_nul-3.ensures c.into_bytes-2.result.items c.in_ok-message.ensures);
   utf8 = IsUtf8-string_bytes c.args.message;
 }
