@@ -349,8 +349,11 @@ class Jobs:
             self.tell(b"".join(self.hints))
 
 
-def stop(number, frame):
-    raise End(-number)
+def stop(number, frame, stopped=[]):
+    """Ends the run at the first signal."""
+    if not stopped:
+        stopped.append(number)
+        raise End(-number)
 
 
 def convert(program, request):
