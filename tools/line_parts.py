@@ -162,7 +162,9 @@ class Runs:
 
     def end(self):
         for number in self.parts:
-            os.kill(number, signal.SIGKILL)
+            # (a signal can come between the end of a run and its removal here)
+            with suppress(ProcessLookupError):
+                os.kill(number, signal.SIGKILL)
 
 
 class Jobs:
@@ -344,7 +346,9 @@ class Jobs:
         """Ends all runs, and leaves no part."""
         self.runs.end()
         if self.part:
-            os.unlink(self.part)
+            # (or after the part replaced the output)
+            with suppress(FileNotFoundError):
+                os.unlink(self.part)
         with suppress(End):
             self.tell(b"".join(self.hints))
 
@@ -361,10 +365,14 @@ def convert(program, request):
     if not is_accepted(program, request):
         return
     work = Jobs(program, request)
-    for number in STOPPING:
-        signal.signal(number, stop)
     try:
-        status = work.run()
+        try:
+            for number in STOPPING:
+                signal.signal(number, stop)
+            status = work.run()
+        finally:
+            for number in STOPPING:
+                signal.signal(number, signal.SIG_IGN)
     except End as end:
         status = end.status
     for number in STOPPING:
