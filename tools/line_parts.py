@@ -353,10 +353,14 @@ class Jobs:
             self.tell(b"".join(self.hints))
 
 
-def stop(number, frame, stopped=[]):
-    """Ends the run at the first signal."""
-    if not stopped:
-        stopped.append(number)
+# Filled once the run has ended, or a signal ends it.
+ENDED = []
+
+
+def stop(number, frame):
+    """Ends the run at its first signal."""
+    if not ENDED:
+        ENDED.append(number)
         raise End(-number)
 
 
@@ -371,13 +375,11 @@ def convert(program, request):
                 signal.signal(number, stop)
             status = work.run()
         finally:
-            for number in STOPPING:
-                signal.signal(number, signal.SIG_IGN)
+            ENDED.append(None)
     except End as end:
         status = end.status
-    for number in STOPPING:
-        signal.signal(number, signal.SIG_DFL if number == -status else signal.SIG_IGN)
     work.end()
     if status < 0:
+        signal.signal(-status, signal.SIG_DFL)
         os.kill(os.getpid(), -status)
     os._exit(status)
