@@ -76,7 +76,7 @@ impl WordState {
 ///
 /// ```
 /// if let Some(text) = replace_words(alloc, WordForm::Digits, b"[NaN, \"NaN\"]")? {
-///     rt.print(str::from_utf8(&text)?)?; // [100, "NaN"]
+///     println!(rt; "{}", str::from_utf8(&text)?)?; // [100, "NaN"]
 /// }
 /// ```
 pub fn replace_words(
