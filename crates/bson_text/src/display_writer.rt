@@ -1,6 +1,6 @@
 //! The text that shows values, each document's keys in ascending order or in the order in which they
 //! came.
-ghost use Rattle.std.specs.Prelude.{◌≡◌, ◌-◌, ◌∷◌, ◌++◌, [], length, map, take, true, false, codes, OnOk, IfErr, ⊤};
+ghost use Rattle.std.specs.Prelude.{◌≡◌, ◌-◌, ◌∷◌, ◌++◌, [], length, map, take, true, false, codes, IfOk, OnOk, IfErr, ⊤};
 ghost use Rattle.std.specs.Prelude.{if◌then◌else◌};
 ghost use Rattle.std.specs.Str.{is_utf8};
 ghost use Rattle.bson_scalar.specs.Displayed.{scalar_text};
@@ -12,7 +12,7 @@ ghost use Rattle.bson_text.specs.TraversalErrors.{IsDocumentEndError};
 ghost use Rattle.bson_text.specs.TraversalResults.{PairsWritten, keys_of, each_key_once};
 
 use crate::distinct_keys::are_distinct;
-use crate::member_spans::{end_object, put_comma};
+use crate::member_spans::{allowed_sort_memory, end_object, put_comma};
 use crate::sorted_writer::ContainerStart;
 use crate::traversal_error::TraversalError;
 use crate::value_writer::ValueWriter;
@@ -25,11 +25,12 @@ use std::alloc::{AllocError, Global};
 /// The text of values on one line, as people read it. It has the members of an open
 /// document in input order, each from its offset on.
 #[derive(Drop)]
-pub(crate) struct DisplayWriter {
+pub struct DisplayWriter {
     pub(crate) alloc: Global,
     // Where the keys of a document go.
     pub(crate) key_order: KeyOrder,
-    pub(crate) text: Vec<u8>,
+    /// The text so far.
+    pub text: Vec<u8>,
     // Memory for the text of a scalar.
     pub(crate) fragment: String,
     // The offsets of the members of all open documents, the outermost document before the others.
@@ -44,6 +45,32 @@ pub(crate) struct DisplayWriter {
 impl DisplayWriter {
     ghost use Rattle.bson_text.specs.DisplayOutput.{HasDisplayAdded, HasBegunDisplay, HasDisplayOfKey, HasDisplayAfterSeparator, HasDisplayOfPairs, HasDisplayOfValue, closing_brace};
     ghost use Rattle.bson_text.specs.DisplayOutput.{separator_if};
+
+    /// Returns a writer of an empty text, with room for this number of bytes. Sorting may allocate some nine times
+    /// the input's length.
+    ///
+    /// # Errors
+    ///
+    /// `AllocError`: an allocation failed.
+    pub fn new(
+        alloc: Global,
+        key_order: KeyOrder,
+        capacity: usize,
+        input_length: usize,
+    ) -> Result<DisplayWriter, AllocError>
+        ensures order { IfOk result (λ writer. writer.key_order ≡ key_order) }
+        ensures empty { IfOk result (λ writer. (writer.text.items ≡ []) × (writer.needs_comma ≡ false)) }
+    {
+        Ok(DisplayWriter {
+            alloc,
+            key_order,
+            text: Vec::with_capacity(alloc, capacity)?,
+            fragment: String::new(alloc),
+            member_starts: Vec::new(alloc),
+            needs_comma: false,
+            sort_memory_limit: allowed_sort_memory(input_length),
+        })
+    }
 
     // Adds the separator of elements that is due.
     fn add_separator(&mut self) -> Result<(), AllocError>

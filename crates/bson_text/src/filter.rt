@@ -7,21 +7,14 @@ ghost use Rattle.bson_scalar.specs.Forms.{form_in};
 ghost use Rattle.bson_scalar.specs.declared.form.Doubles.TheVariants.{Finite};
 
 use crate::display_writer::DisplayWriter;
-use crate::member_spans::allowed_sort_memory;
 use crate::sorted_writer::SortedWriter;
 use crate::text_writer::TextWriter;
 use crate::traversal::write_text;
 use crate::traversal_error::TraversalError;
 use bson_model::options::{KeyOrder, Options};
 use bson_scalar::form::{Doubles, Form};
-use json::{Scratch, Writer};
+use json::Scratch;
 use std::alloc::Global;
-
-// The capacity for a fragment, enough for almost every value, and for the offsets of members. A short
-// input needs no more.
-const FRAGMENT_CAPACITY: usize = 64;
-
-const MEMBER_STARTS_CAPACITY: usize = 16;
 
 /// Writes the compact text of the value that the text denotes in the form, with the keys of each
 /// document in the key order and the layout of the options, at every depth. It is written as the text is read,
@@ -72,15 +65,7 @@ pub fn show_text(
     ensures utf8 { IfOk result (λ written. IsUtf8 written.items) }
     ensures accepts { IfErr result (IsRejectedText options.doubles ⊥ ⊤ text.now) }
 {
-    let writer = DisplayWriter {
-        alloc,
-        key_order: options.key_order,
-        text: Vec::with_capacity(alloc, output_capacity(text))?,
-        fragment: String::new(alloc),
-        member_starts: Vec::new(alloc),
-        needs_comma: false,
-        sort_memory_limit: allowed_sort_memory(text.len()),
-    };
+    let writer = DisplayWriter::new(alloc, options.key_order, output_capacity(text), text.len())?;
     let finished_writer = write_text(alloc, options.doubles, text, scratch, writer)?;
     Ok(finished_writer.text)
 }
@@ -97,12 +82,7 @@ fn order_text(
     ensures utf8 { IfOk result (λ written. IsUtf8 written.items) }
     ensures accepts { IfErr result (IsRejectedText doubles (doubles ≡ Finite) (SortsKeys AsGiven) text.now) }
 {
-    let writer = TextWriter {
-        alloc,
-        doubles,
-        form,
-        json_writer: Writer::new(Vec::with_capacity(alloc, output_capacity(text))?),
-    };
+    let writer = TextWriter::new(alloc, doubles, form, output_capacity(text))?;
     let finished_writer = write_text(alloc, doubles, text, scratch, writer)?;
     Ok(finished_writer.json_writer.into_inner())
 }
@@ -119,16 +99,7 @@ fn sort_text(
     ensures utf8 { IfOk result (λ written. IsUtf8 written.items) }
     ensures accepts { IfErr result (IsRejectedText doubles (doubles ≡ Finite) (SortsKeys Ascending) text.now) }
 {
-    let writer = SortedWriter {
-        alloc,
-        doubles,
-        form,
-        text: Vec::with_capacity(alloc, output_capacity(text))?,
-        fragment: Vec::with_capacity(alloc, FRAGMENT_CAPACITY)?,
-        member_starts: Vec::with_capacity(alloc, MEMBER_STARTS_CAPACITY)?,
-        needs_comma: false,
-        sort_memory_limit: allowed_sort_memory(text.len()),
-    };
+    let writer = SortedWriter::new(alloc, doubles, form, output_capacity(text), text.len())?;
     let finished_writer = write_text(alloc, doubles, text, scratch, writer)?;
     Ok(finished_writer.text)
 }

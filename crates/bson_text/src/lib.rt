@@ -11,7 +11,7 @@
 #![tactic(auto)]
 
 pub mod discard_writer;
-mod display_writer;
+pub mod display_writer;
 pub mod distinct_keys;
 mod error_paths;
 pub mod filter;
@@ -19,8 +19,8 @@ pub mod first_fault;
 mod level;
 mod lookahead;
 mod member_spans;
-mod sorted_writer;
-mod text_writer;
+pub mod sorted_writer;
+pub mod text_writer;
 pub mod traversal;
 pub mod traversal_error;
 pub mod value_writer;

@@ -4,7 +4,7 @@ ghost use Rattle.std.specs.Str.{is_utf8};
 ghost use Rattle.json.specs.Print.{print};
 ghost use Rattle.serde_json.specs.Written.{comma_if};
 
-use crate::member_spans::{end_object, put_comma};
+use crate::member_spans::{allowed_sort_memory, end_object, put_comma};
 use crate::traversal_error::{TraversalError, write_error};
 use crate::value_writer::ValueWriter;
 use bson_scalar::code::put_code;
@@ -16,14 +16,21 @@ use json::Writer;
 use std::alloc::{AllocError, Global};
 use std::mem::replace;
 
+// The capacity for a fragment, enough for almost every value, and for the offsets of members. A short
+// input needs no more.
+const FRAGMENT_CAPACITY: usize = 64;
+
+const MEMBER_STARTS_CAPACITY: usize = 16;
+
 /// The compact text of values in a form. It has the members of an open document in input order, each
 /// from its offset on.
 #[derive(Drop)]
-pub(crate) struct SortedWriter {
+pub struct SortedWriter {
     pub(crate) alloc: Global,
     pub(crate) doubles: Doubles,
     pub(crate) form: Form,
-    pub(crate) text: Vec<u8>,
+    /// The text so far.
+    pub text: Vec<u8>,
     // Memory for the writer of a fragment: a writer of the long text would reserve much more.
     pub(crate) fragment: Vec<u8>,
     // The offsets of the members of all open documents, the outermost document before the others.
@@ -37,13 +44,41 @@ pub(crate) struct SortedWriter {
 
 /// The offset at which an open array or object begins, and the number of open members before it.
 #[derive(Clone, Copy, Drop)]
-pub(crate) struct ContainerStart {
+pub struct ContainerStart {
     pub(crate) start: usize,
     pub(crate) outer_member_count: usize,
 }
 
 impl SortedWriter {
     ghost use Rattle.bson_text.specs.SortedOutput.{HasOutputAdded};
+
+    /// Returns a writer of an empty text, with room for this number of bytes. Sorting may allocate some nine times
+    /// the input's length.
+    ///
+    /// # Errors
+    ///
+    /// `AllocError`: an allocation failed.
+    pub fn new(
+        alloc: Global,
+        doubles: Doubles,
+        form: Form,
+        capacity: usize,
+        input_length: usize,
+    ) -> Result<SortedWriter, AllocError>
+        ensures modes { IfOk result (λ writer. (writer.doubles ≡ doubles) × (writer.form ≡ form)) }
+        ensures empty { IfOk result (λ writer. (writer.text.items ≡ []) × (writer.needs_comma ≡ false)) }
+    {
+        Ok(SortedWriter {
+            alloc,
+            doubles,
+            form,
+            text: Vec::with_capacity(alloc, capacity)?,
+            fragment: Vec::with_capacity(alloc, FRAGMENT_CAPACITY)?,
+            member_starts: Vec::with_capacity(alloc, MEMBER_STARTS_CAPACITY)?,
+            needs_comma: false,
+            sort_memory_limit: allowed_sort_memory(input_length),
+        })
+    }
 
     // Adds the comma that is due.
     fn add_comma(&mut self) -> Result<(), AllocError>

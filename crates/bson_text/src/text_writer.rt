@@ -1,5 +1,5 @@
 //! A text of Extended JSON that values are written to.
-ghost use Rattle.std.specs.Prelude.{◌≡◌};
+ghost use Rattle.std.specs.Prelude.{◌≡◌, [], IfOk};
 
 use crate::distinct_keys::are_distinct;
 use crate::traversal_error::{TraversalError, write_error};
@@ -10,21 +10,48 @@ use bson_scalar::scalar::Scalar;
 use bson_scalar::write::print_ordered_scalar;
 use itoa::Buffer;
 use json::Writer;
-use std::alloc::Global;
+use std::alloc::{AllocError, Global};
 
 /// The compact text of values in a form.
 #[derive(Drop)]
-pub(crate) struct TextWriter {
+pub struct TextWriter {
     pub(crate) alloc: Global,
     pub(crate) doubles: Doubles,
     pub(crate) form: Form,
-    pub(crate) json_writer: Writer,
+    /// The text so far.
+    pub json_writer: Writer,
+}
+
+impl TextWriter {
+    /// Returns a writer of an empty text, with room for this number of bytes.
+    ///
+    /// # Errors
+    ///
+    /// `AllocError`: an allocation failed.
+    pub fn new(
+        alloc: Global,
+        doubles: Doubles,
+        form: Form,
+        capacity: usize,
+    ) -> Result<TextWriter, AllocError>
+        ensures modes { IfOk result (λ writer. (writer.doubles ≡ doubles) × (writer.form ≡ form)) }
+        ensures empty { IfOk result
+            (λ writer. (writer.json_writer.before ≡ []) × (writer.json_writer.tokens ≡ [])) }
+    {
+        let json_writer = Writer::new(Vec::with_capacity(alloc, capacity)?);
+        Ok(TextWriter {
+            alloc,
+            doubles,
+            form,
+            json_writer,
+        })
+    }
 }
 
 impl ValueWriter for TextWriter {
     type OpenContainer = ();
 
-    ghost use Rattle.std.specs.Prelude.{[], ◌∷◌};
+    ghost use Rattle.std.specs.Prelude.{◌∷◌};
     ghost use Rattle.bson_scalar.specs.declared.form.Doubles.TheVariants.{Finite};
     ghost use Rattle.json.specs.Token as token;
     ghost use Rattle.bson_scalar.specs.Tokens.{code_tokens};

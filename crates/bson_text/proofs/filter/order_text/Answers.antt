@@ -1,9 +1,8 @@
 use Rattle.bson_scalar.specs.declared.form.Doubles.TheVariants.{Finite}
 use Rattle.std.proofs.lemmas.Result.{err_from_is_err_and}
 use Rattle.bson_text.proofs.TextDenials.{refused}
-use Rattle.std.proofs.Common.{◌≡◌, [], refl, ◌∙◌, sym, subst, arith, IsUtf8}
+use Rattle.std.proofs.Common.{◌≡◌, [], ◌∙◌, sym, subst, arith, IsUtf8}
 use Rattle.json.specs.Print.{print}
-use Rattle.bson_text.specs.declared.text_writer.TextWriter.{TextWriter}
 use Rattle.bson_text.proofs.Sending.{text_sent}
 use Rattle.bson_text.proofs.filter.order_text.Goals as goal
 
@@ -12,13 +11,14 @@ returns c =
     let D = c.args.doubles in
     let utf8 : IsUtf8 c.args.text.now = grind arith in
     let f = c.args.form in
-    let old : TextWriter = record { alloc = c.args.alloc; doubles = D; form = f; json_writer = c.new.result } in
+    let old = c.in_ok-writer.writer in
     let new = c.in_ok-finished_writer.finished_writer in
     let done = c.in_ok-finished_writer.ensures.ok in
-    let before : new.json_writer.before ≡ [] = done.2.2.2 ∙ c.new.ensures.before ∙ c.in_ok-with_capacity.ensures.items in
+    let before : new.json_writer.before ≡ [] = done.2.2.2 ∙ c.in_ok-writer.ensures.empty.0 in
     let written : c.into_inner.result.items ≡ print new.json_writer.tokens = grind (arith, before) in
     record {
-      ok = text_sent D f c.args.text.now c.into_inner.result.items old new utf8 done refl refl c.new.ensures.tokens written;
+      ok = text_sent D f c.args.text.now c.into_inner.result.items old new utf8 done c.in_ok-writer.ensures.modes.0
+          c.in_ok-writer.ensures.modes.1 c.in_ok-writer.ensures.empty.1 written;
       utf8 = subst IsUtf8 (sym written) c.into_inner.ensures.utf8;
       accepts = tt;
     }

@@ -1,5 +1,5 @@
 -- What a failure denies, and where its fault is.
-use Rattle.std.proofs.Common.{◌≡◌, ◌-◌, ◌+◌, [], ◌∷◌, length, option_map, Some, sym, ap, ◌∙◌, arith}
+use Rattle.std.proofs.Common.{◌≡◌, ◌-◌, [], ◌∷◌, length, option_map, Some, sym, ap, ◌∙◌, arith}
 use Rattle.std.proofs.Common.{codes, ◌&&◌, true, bytes_eq, None, List, ℕ}
 use Rattle.std.proofs.Common.{false, is_some, string_bytes}
 use Rattle.std.proofs.lemmas.Result.{err_from_is_err_and}
@@ -8,7 +8,6 @@ use Rattle.json.specs.Json.{after_end_array, read_key, value}
 use Rattle.json.proofs.Grammar.{value_is, members_no_key}
 use Rattle.json.specs.Reads.{token_of}
 use Rattle.bson_scalar.specs.Table.{wrapper_of}
-use Rattle.bson_scalar.specs.Scalar.{code}
 use Rattle.bson_model.specs.OrderedTrees.{tree_of_json}
 use Rattle.bson_text.proofs.Objects.{located, begins}
 use Rattle.bson_tokens.proofs.Offered.{was_read as from_tree, if_err}
