@@ -8,9 +8,7 @@ proving all of them again.
 """
 import os
 import shutil
-import subprocess
 import sys
-import tempfile
 from pathlib import Path
 
 sys.dont_write_bytecode = True
@@ -18,6 +16,7 @@ ROOT = Path(__file__).resolve().parents[2]
 sys.path.append(str(ROOT / "tools"))
 
 import kit
+import library
 
 # What a check has proved, in the folder of the crate: both compilers start from it.
 CHECKED = "out/checked"
@@ -38,7 +37,7 @@ def main():
     os.makedirs(f"{crate.folder}/out", exist_ok=True)
     if sys.argv[1:]:
         status = compiled(rt, crate, jobs, sys.argv[1], "out/libvbson_by_rattle.a")
-        status = status or joined(sys.argv[2], f"{crate.folder}/out/libvbson_by_rattle.a", f"{rt.rtlib.KIT}/c/liblibc_c.a")
+        status = status or library.join(sys.argv[2], f"{crate.folder}/out/libvbson_by_rattle.a", f"{rt.rtlib.KIT}/c/liblibc_c.a")
     else:
         shutil.rmtree(f"{crate.folder}/{CHECKED}", ignore_errors=True)
         status = compiled(rt, crate, jobs, "llvm", "out/libvbson.a")
@@ -55,17 +54,6 @@ def compiled(rt, crate, jobs, backend, made):
         del words[words.index(flag):words.index(flag) + 2]
     words += ["--crate-checked", CHECKED, "--toolchain", f"{rt.rtlib.KIT}/toolchain", "--backend", backend, "-o", made]
     return crate.call(rt.rtlib.RATTLE, "build", *words)
-
-
-def joined(to, *archives):
-    """Makes one archive of the objects of several."""
-    with tempfile.TemporaryDirectory() as room:
-        for it in archives:
-            subprocess.run(["ar", "x", os.path.abspath(it)], cwd=room, check=True)
-        if os.path.exists(to):
-            os.remove(to)
-        subprocess.run(["ar", "qcDs", to, *sorted(f"{room}/{it}" for it in os.listdir(room))], check=True)
-    return 0
 
 
 if __name__ == "__main__":
