@@ -18,7 +18,6 @@ It needs the Rattle kit (rt) with python3, and cc and ar.
 # Status 0: done; 1: it could not be linked or installed; 2: wrong arguments; 3: it can't be proved and built here.
 import os
 import shutil
-import signal
 import subprocess
 import sys
 import tempfile
@@ -114,7 +113,6 @@ def make(word):
 
 
 def main():
-    signal.signal(signal.SIGINT, signal.SIG_DFL)
     match sys.argv[1:]:
         case ["--help" | "-h"]:
             print(__doc__, end="")
@@ -131,4 +129,7 @@ def main():
 
 
 if __name__ == "__main__":
-    sys.exit(main())
+    try:
+        sys.exit(main())
+    except KeyboardInterrupt:
+        sys.exit(130)
