@@ -1,5 +1,5 @@
 -- What is packed of a normalized text is what is to be packed of the text.
-use Rattle.std.proofs.Common.{◌≡◌, ℕ, List, Result, Ok, Err, Vec, Global, IfOk, sym, ◌∙◌, subst}
+use Rattle.std.proofs.Common.{ℕ, List, Result, Ok, Err, Vec, Global, IfOk, sym, ◌∙◌, subst}
 use Rattle.std.specs.Prelude.{IsUtf8}
 use Rattle.bson_scalar.specs.declared.form.Doubles.{Doubles}
 use Rattle.bson_model.specs.TextMeaning.{HasTextMeaningIn, HasTextMeaningInKeyOrder}
