@@ -14,6 +14,7 @@ pub mod Inside
 pub mod Decoded
 pub mod Offered
 pub mod Utf8
+mod AscendingTrees
 mod Normalized
 pub mod Once
 pub mod Put

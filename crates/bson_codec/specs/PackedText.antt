@@ -1,20 +1,17 @@
--- Which bytes are written from the tokens of a text.
+-- Which bytes are written of a document that is meant, and from the tokens of a text.
 use Rattle.std.specs.Prelude.{◌≡◌, ◌++◌, ◌+◌, ◌≤◌, ℕ, suc, List, length, true, Ok}
 use Rattle.std.specs.Str.{is_utf8}
 use Rattle.bson_types.specs.declared.spec.ElementType.TheVariants as tag
-use Rattle.bson_scalar.specs.declared.form.Doubles.{Doubles}
 use Rattle.bson_model.specs.Value.{Value, Pairs, document}
-use Rattle.bson_model.specs.OrderedTexts.{HasMeaningInOrder}
 use Rattle.bson_bytes.specs.ReadDocuments.{IsReadAsDocument}
 use Rattle.bson_bytes.specs.PutSteps.{put_value, put_document, put_text, put_length_placeholder}
 use Rattle.bson_bytes.specs.Writing.{type_of, name_bytes, document_bytes, pairs_read_back, FitsDocument, PairsNestUpTo, IsWellTyped}
 use Rattle.bson_bytes.specs.Writing.{IsWellTypedDocument}
 
--- the text means a document in the order of its keys, each part of which has bytes, and these are its canonical bytes,
--- which are read back as it, each binary under the subtype that its byte names
-pub record IsPackedText (doubles : Doubles) (text bytes : List ℕ) : Type 0 where
+-- a document is meant, whose canonical bytes these are; they are read back as it
+pub record IsBytesOf (means : Value → Type 0) (bytes : List ℕ) : Type 0 where
   pub pairs : Pairs
-  pub meaning : HasMeaningInOrder doubles text (document pairs)
+  pub meaning : means (document pairs)
   pub fits : FitsDocument pairs
   pub canonical : bytes ≡ document_bytes pairs
   pub back : (depth : ℕ) → PairsNestUpTo pairs depth → IsReadAsDocument (suc depth) bytes (pairs_read_back pairs)

@@ -1,6 +1,5 @@
 -- The bytes of the document that a text denotes are unique, and each meaning has bytes or none of them has.
 use Rattle.std.proofs.Common.{◌≡◌, ℕ, List, Some, sym, ap, ◌∙◌, subst, rules}
-use Rattle.std.specs.Prelude.{IsUtf8}
 use Rattle.bson.specs.TextMeaning.{HasTextMeaningInKeyOrder, TextMeansInKeyOrder}
 use Rattle.bson.specs.View.{bson_view, document_view}
 use Rattle.bson.specs.declared.bson.Bson.{the_lemmas}
@@ -14,7 +13,6 @@ use Rattle.bson_model.specs.Means.{MeansIn}
 use Rattle.bson_model.specs.Value.{Value, Pairs, document}
 use Rattle.bson_model.specs.OrderedTrees.{read_in_order}
 use Rattle.bson_model.specs.OrderedMeans.{MeansInOrder}
-use Rattle.bson_codec.specs.PackedText.{IsPackedText}
 use Rattle.bson_convert.specs.Convert.{IsRejectedIn}
 use Rattle.bson_run.specs.Encode.{Encodes, IsUnencodableFor, IsBytesOf, IsEncodeErrorBy, IsEncodeErrorFor}
 use Rattle.bson_run.specs.LinesSteps.{Options, Error, CannotRead, NotJson, NotExtendedJson, NoBytes, OutOfMemory}
@@ -85,16 +83,6 @@ is_meant AsGiven o text ps value m h =
     let b : read_in_order text ≡ Some m.0 = m.2 in
     let same : m.0 ≡ h.1.tree = cc in
     sym (h.1.one (document ps) (subst (λ d. MeansInOrder o.doubles d (document ps)) same m.3))
-
--- what was written from the tokens of a text
-pub packed : (o : Options) (text out : List ℕ) → IsUtf8 text → IsPackedText o.doubles text out → Encodes AsGiven o text out
-packed o text out utf8 x = record {
-  pairs = x.pairs;
-  meaning = (utf8, x.meaning);
-  fits = x.fits;
-  canonical = x.canonical;
-  back = x.back;
-}
 
 module _ (k : KeyOrder) (o : Options) (text : List ℕ) where
   pub encoded : (value : Value) (out : List ℕ) → HasTextMeaningInKeyOrder k o.doubles text value

@@ -1,12 +1,12 @@
 -- Encoding bytes: the canonical bytes (BSON 1.1) of the document that they denote as a text, or why there
 -- are none.
-use Rattle.std.specs.Prelude.{◌≡◌, ℕ, suc, List}
+use Rattle.std.specs.Prelude.{◌≡◌, ℕ, List}
 use Rattle.bson.specs.TextMeaning.{HasTextMeaningInKeyOrder}
 use Rattle.bson_model.specs.declared.options.KeyOrder.{KeyOrder}
 use Rattle.bson_model.specs.declared.options.Options.{Options}
 use Rattle.bson_codec.specs.Canonical.{NoBytesCause, nul_in_key, nul_in_regex, too_long}
-use Rattle.bson_codec.specs.Canonical.{DocumentDoesNotFit, FitsDocument, PairsNestUpTo, pairs_read_back, document_bytes}
-use Rattle.bson_codec.specs.ReadDocuments.{IsReadAsDocument}
+use Rattle.bson_codec.specs.Canonical.{DocumentDoesNotFit}
+pub use Rattle.bson_codec.specs.PackedText.{IsBytesOf}
 use Rattle.bson_model.specs.Value.{Value, Pairs, document}
 use Rattle.bson_convert.specs.Convert.{IsRejectedIn}
 use Rattle.bson_convert.specs.declared.encode_error.NoBytes.{NoBytes}
@@ -15,14 +15,6 @@ use Rattle.bson_convert.specs.declared.error.Error.{Error}
 use Rattle.bson_convert.specs.declared.error.Error.TheVariants as error
 
 -- ---- what is meant has bytes, or has none
-
--- a document is meant, whose canonical bytes these are; they are read back as it
-pub record IsBytesOf (means : Value → Type 0) (bytes : List ℕ) : Type 0 where
-  pub pairs : Pairs
-  pub meaning : means (document pairs)
-  pub fits : FitsDocument pairs
-  pub canonical : bytes ≡ document_bytes pairs
-  pub back : (depth : ℕ) → PairsNestUpTo pairs depth → IsReadAsDocument (suc depth) bytes (pairs_read_back pairs)
 
 -- a value that is no document is meant
 pub record IsNoDocument (means : Value → Type 0) : Type 0 where

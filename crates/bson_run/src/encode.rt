@@ -12,8 +12,8 @@ ghost use Rattle.bson_codec.specs.Unwritten.TheVariants as errors;
 ghost use Rattle.bson_run.specs.Encode.{Encodes, IsWriteErrorOf, IsBytesOf, IsEncodeErrorBy, IsEncodeErrorFor};
 
 use bson::Bson;
+use bson::extjson::Options;
 use bson::extjson::de::TextError;
-use bson::extjson::{KeyOrder, Options};
 use bson_codec::pack::pack_text;
 use bson_codec::{ser, to_vec};
 use bson_convert::encode_error::NoBytes;
@@ -69,32 +69,27 @@ pub(crate) fn encode_line(
         → FitsDocument pairs → IfErr result (λ fault. fault ≡ Error.OutOfMemory) }
     ensures fault { IfErr result (λ fault. IsEncodeErrorBy options.key_order options fault bytes.now) }
 {
-    match pack_document(alloc, options.key_order, options, bytes, scratch)? {
+    match pack_document(alloc, options, bytes, scratch)? {
         Some(document) => Ok(document),
         None => encode_whole(alloc, options, bytes),
     }
 }
 
-// The bytes that are written as the text is read; none if keys are sorted, or the text is to be read
-// whole.
+// The bytes that are written as the text is read; none if the text is to be read whole.
 fn pack_document(
     alloc: Global,
-    key_order: KeyOrder,
     options: Options,
     bytes: &[u8],
     scratch: &mut Scratch,
 ) -> Result<Option<Vec<u8>>, Error>
     ensures ok { IfOk result
-        (λ optional_bytes. IfSome optional_bytes (λ output. Encodes key_order options bytes.now output.items)) }
+        (λ optional_bytes. IfSome optional_bytes (λ output. Encodes options.key_order options bytes.now output.items)) }
     ensures fault { IfErr result (λ fault. fault ≡ Error.OutOfMemory) }
 {
-    let KeyOrder::AsGiven = key_order else {
-        return Ok(None);
-    };
     let Ok(text) = simdutf8::compat::from_utf8(bytes) else {
         return Ok(None);
     };
-    match pack_text(alloc, options.doubles, text, scratch) {
+    match pack_text(alloc, options, text, scratch) {
         Ok(document) => Ok(Some(document)),
         Err(TraversalError::OutOfMemory) => Err(Error::OutOfMemory),
         Err(_) => Ok(None),
