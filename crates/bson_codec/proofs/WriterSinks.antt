@@ -20,13 +20,6 @@ texts_join : (ks ls : List Key) → texts (ks ++ ls) ≡ texts ks ++ texts ls
 texts_join [] ls = refl
 texts_join (k ∷ ks) ls = ap (λ xs. k.now ∷ xs) (texts_join ks ls)
 
-pub no_keys : (ks : List Key) → HasKeysAdded ks [] ks
-no_keys ks = ([], sym (append-nil ks), refl)
-
-pub one_key : (old new : List Key) (k : Key) (name : List ℕ) → new ≡ old ++ k ∷ [] → k.now ≡ name
-    → HasKeysAdded old (name ∷ []) new
-one_key old new k name is named = (k ∷ [], is, ap (λ n. n ∷ []) named)
-
 keys_last : (ps : Pairs) (k : List ℕ) (v : Value) → keys_of (with_last_pair ps k v) ≡ keys_of ps ++ k ∷ []
 keys_last no_pairs k v = refl
 keys_last (pair l w ps) k v = ap (λ xs. l ∷ xs) (keys_last ps k v)
@@ -43,23 +36,12 @@ drop_first : (old ks : List Key) → drop (length old) (old ++ ks) ≡ ks
 drop_first [] ks = refl
 drop_first (k ∷ old) ks = drop_first old ks
 
-take_first : (old ks : List Key) → take (length old) (old ++ ks) ≡ old
-take_first [] ks = refl
-take_first (k ∷ old) ks = ap (λ xs. k ∷ xs) (take_first old ks)
-
 -- the keys after the old ones
 pub own_keys : (old all : List Key) (names : List (List ℕ)) (n : ℕ) → HasKeysAdded old names all → n ≡ length old
     → texts (take (length all - n) (drop n all)) ≡ names
 own_keys old all names n (ks, is, named) at =
     ap texts (take_all _ (drop n all) (omega (arith, length-drop n all)) ∙ ap (λ m. drop m all) at ∙ ap (drop (length old)) is ∙ drop_first old ks)
     ∙ named
-
-within_all : (old ks : List Key) → length old ≤ length (old ++ ks)
-within_all [] ks = omega arith
-within_all (k ∷ old) ks = omega (arith, within_all old ks)
-
-pub within : (old all : List Key) (names : List (List ℕ)) (n : ℕ) → HasKeysAdded old names all → n ≡ length old → n ≤ length all
-within old all names n (ks, is, named) at = omega (arith, at, ap length is, within_all old ks)
 
 -- ---- pairs and elements
 

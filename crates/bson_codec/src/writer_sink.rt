@@ -289,7 +289,11 @@ fn same_text<'b>(bytes: &'b [u8], bytes_to_end: usize, text: &str) -> Option<&'b
     ensures { IfSome result (λ key. key.now ≡ text.now) }
 {
     let start = bytes.len().checked_sub(bytes_to_end)?;
-    let Ok(found) = str::from_utf8(bytes.get(start..)?.get(..text.len())?) else {
+    let found = &bytes[start..];
+    if found.len() < text.len() {
+        return None;
+    }
+    let Ok(found) = str::from_utf8(&found[..text.len()]) else {
         return None;
     };
     if found == text { Some(found) } else { None }
