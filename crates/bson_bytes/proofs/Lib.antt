@@ -16,8 +16,6 @@ pub mod Texts
 pub mod Offered
 pub mod OfferedSource
 pub mod Loop
-pub mod Apart
-pub mod Sending
 pub mod Skips
 pub mod Steps
 pub mod Passing

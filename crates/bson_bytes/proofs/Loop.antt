@@ -24,7 +24,7 @@ use Rattle.bson_bytes.specs.declared.stop.Stop.TheVariants as stops
 pub stops_by : {A B : Type 0} (May : Stop → Type 0) (e : Stop) (part : Result A Fault) (whole : Result B Fault)
     → ((f : Fault) → part ≡ Err f → whole ≡ Err f) → StopsReadingFor May e part → StopsReadingFor May e whole
 stops_by May (stops.Fault f) part whole g h = g f h
-stops_by May stops.PossibleDuplicate part whole g h = h
+stops_by May stops.GaveUp part whole g h = h
 stops_by May stops.OutOfMemory part whole g h = h
 
 pub stopped_at : {A : Type 0} (May : Stop → Type 0) (e : Stop) (f : Fault) (whole : Result A Fault) → e ≡ stops.Fault f
@@ -34,7 +34,7 @@ stopped_at May e f whole is h = subst (λ (x : Stop). StopsReadingFor May x whol
 pub stops_sink : {A : Type 0} (May : Stop → Type 0) (e : Stop) (whole : Result A Fault) → May e → IsSinkStop e
     → StopsReadingFor May e whole
 stops_sink May (stops.Fault f) whole m n = absurd n
-stops_sink May stops.PossibleDuplicate whole m n = m
+stops_sink May stops.GaveUp whole m n = m
 stops_sink May stops.OutOfMemory whole m n = m
 
 -- ---- pairs that are done, and those that follow

@@ -8,8 +8,6 @@ pub mod PutSteps
 pub mod Source
 pub mod FixedScalars
 pub mod ReadScalars
-pub mod TextSinkStates
-pub mod PrintedText
 pub mod ReadElements
 pub mod RawContents
 pub mod RawElements

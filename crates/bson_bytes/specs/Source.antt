@@ -12,7 +12,7 @@ use Rattle.bson_bytes.specs.declared.stop.Stop.TheVariants as stops
 abbrev pub StopsReadingFor : {Parsed : Type 0} → (MayStop : Stop → Type 0) → Stop → (read_result : Result Parsed Fault)
     → Type 0
 StopsReadingFor MayStop (stops.Fault fault) read_result = read_result ≡ Err fault
-StopsReadingFor MayStop stops.PossibleDuplicate read_result = MayStop stops.PossibleDuplicate
+StopsReadingFor MayStop stops.GaveUp read_result = MayStop stops.GaveUp
 StopsReadingFor MayStop stops.OutOfMemory read_result = MayStop stops.OutOfMemory
 
 -- the bytes are read as a value, with these bytes left after it, and this holds for both the value and the result

@@ -2,8 +2,8 @@
 //! `Grammar`, `Writing`; then `Fault` and `Reading`, for the order of faults. `read_parts` reads what an
 //! element is made of, and `write_parts` writes it.
 //!
-//! `source` reads each element once, and writes its value to a `ValueSink` (`sink`): to `nothing_sink`,
-//! or as text (`text_sink`). `raw_document` has documents that remain bytes.
+//! `source` reads each element once, and writes its value to a `ValueSink` (`sink`). `nothing_sink` keeps
+//! nothing. `raw_document` has documents that remain bytes.
 #![tactic(auto)]
 
 pub mod error;
@@ -23,7 +23,6 @@ pub mod sink;
 mod skip_value;
 pub mod source;
 pub mod stop;
-pub mod text_sink;
 pub mod typed_getters;
 pub mod write_parts;
 

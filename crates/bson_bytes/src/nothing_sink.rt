@@ -128,7 +128,7 @@ pub fn is_document(bytes: &[u8], depth: usize) -> Result<(), Fault>
     match read_document(bytes, depth, &mut Nothing) {
         Ok(()) => Ok(()),
         Err(Stop::Fault(fault)) => Err(fault),
-        Err(Stop::PossibleDuplicate) => unreachable!(),
+        Err(Stop::GaveUp) => unreachable!(),
         Err(Stop::OutOfMemory) => unreachable!(),
     }
 }

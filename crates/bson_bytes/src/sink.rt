@@ -133,13 +133,14 @@ pub trait ValueSink {
 
     /// Ends an array.
     fn end_array(&mut self, list: Self::OpenList) -> Result<Self::Value, AllocError>
+        requires { (sink_before : Self) × (pairs : Pairs) × list_opened false sink_before pairs list self.old }
         ensures outcome { IfOk result (λ token. (sink_before : Self) (pairs : Pairs)
             → list_opened false sink_before pairs list self.old
             → value_written sink_before (array (pair_values pairs)) token self.new) }
         ensures stop { IfErr result (λ error. may_stop stops.OutOfMemory) };
 
     /// Ends a document. If a key is duplicated, its last value wins, at its first position. A sink can
-    /// return `PossibleDuplicate` instead.
+    /// give up instead.
     fn end_document(&mut self, list: Self::OpenList) -> Result<Self::Document, Stop>
         requires { (sink_before : Self) × (pairs : Pairs) × list_opened true sink_before pairs list self.old }
         ensures outcome { IfOk result (λ token. (sink_before : Self) (pairs : Pairs)
@@ -169,6 +170,9 @@ pub trait ValueSink {
         code: Self::Code,
         scope: Self::Document,
     ) -> Result<Self::Value, AllocError>
+        requires { (sink_before : Self) × (sink_after_code : Self) × (code_text : List ℕ) × (pairs : Pairs)
+            × code_opened sink_before code_text code sink_after_code
+            × document_written sink_after_code pairs scope self.old }
         ensures outcome { IfOk result
             (λ token. (sink_before : Self) (sink_after_code : Self) (code_text : List ℕ) (pairs : Pairs)
             → code_opened sink_before code_text code sink_after_code

@@ -11,9 +11,9 @@ use std::alloc::{AllocError, AllocFailed};
 pub enum Stop {
     /// The bytes have a fault.
     Fault(Fault),
-    /// A document may have a duplicate key, and the sink can't replace the value that it wrote. The
-    /// caller reads the bytes into values.
-    PossibleDuplicate,
+    /// The sink gave up a document that it can't write as it is read. The caller reads the bytes into
+    /// values.
+    GaveUp,
     /// An allocation failed.
     OutOfMemory,
 }

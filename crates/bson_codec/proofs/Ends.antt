@@ -23,14 +23,14 @@ Memory e = e ≡ stops.OutOfMemory
 pub memory_alone : {Y : Type 0} (e : Stop) (bytes : List ℕ) (r : Result Y Fault) (y : Y) → StopsReadingFor Memory e r → r ≡ Ok y
     → error_with_offset e bytes ≡ errors.OutOfMemory
 memory_alone (stops.Fault f) bytes r y s h = absurd cc
-memory_alone stops.PossibleDuplicate bytes r y s h = refl
+memory_alone stops.GaveUp bytes r y s h = refl
 memory_alone stops.OutOfMemory bytes r y s h = refl
 
 -- a fault that reading gives is in the bytes, where each of its faults does
 pub stands : {Y : Type 0} (e : Stop) (bytes : List ℕ) (r : Result Y Fault)
     → ((f : Fault) → r ≡ Err f → f.bytes_to_end ≤ length bytes) → StopsReadingFor Memory e r → IsStopInBytes e bytes
 stands (stops.Fault f) bytes r h s = h f s
-stands stops.PossibleDuplicate bytes r h s = cc
+stands stops.GaveUp bytes r h s = cc
 stands stops.OutOfMemory bytes r h s = tt
 
 pub fault_alone : {Y : Type 0} (f : Fault) (bytes : List ℕ) (r : Result Y Fault) → f.bytes_to_end ≤ length bytes → r ≡ Err f
@@ -42,7 +42,7 @@ fault_alone f bytes r le e =
 pub fault_of : {Y : Type 0} (e : Stop) (bytes : List ℕ) (r : Result Y Fault) → IsStopInBytes e bytes → StopsReadingFor Memory e r
     → IsReadFault (error_with_offset e bytes) bytes r
 fault_of (stops.Fault f) bytes r h s = fault_alone f bytes r h s
-fault_of stops.PossibleDuplicate bytes r h s = tt
+fault_of stops.GaveUp bytes r h s = tt
 fault_of stops.OutOfMemory bytes r h s = tt
 
 pub never : (P : Type 0) → (P → ⊥) → IsTrue false ↔ P

@@ -1,8 +1,8 @@
 -- A run that ended for a fault of known bytes ended inside them.
-use Rattle.std.proofs.Common.{◌≡◌, ℕ, List, [], ◌++◌, length, Option, None, Some, refl, sym, ap, subst, ◌∙◌, append_assoc}
+use Rattle.std.proofs.Common.{◌≡◌, ℕ, List, [], ◌++◌, Option, None, Some, sym, ap, subst, ◌∙◌, append_assoc}
 use Rattle.std.proofs.lemmas.List.{append-nil}
 use Rattle.std.specs.Io.KnownBytes.{Appends, Consumes}
-use Rattle.bson_codec.proofs.Justified.{ended, Ended}
+use Rattle.bson_codec.proofs.Justified.{ended}
 use Rattle.bson_codec.proofs.Streams.{front_none}
 use Rattle.bson_codec.specs.DumpRuns.{EndsAt, EndsInside, IsRejectedWithFault, IsFaultOfDocument, IsSkipped}
 use Rattle.bson_codec.specs.Streams.{declared_prefix}

@@ -11,7 +11,6 @@ pub mod Justified
 pub mod Lengths
 pub mod OneDump
 pub mod Inside
-pub mod Decoded
 pub mod Offered
 pub mod Utf8
 mod AscendingTrees
@@ -19,3 +18,6 @@ mod Normalized
 pub mod Once
 pub mod Put
 pub mod Whole
+pub mod WriterSinks
+pub mod Unsorted
+pub mod WrittenTexts

@@ -2,7 +2,7 @@
 use Rattle.std.proofs.Common.{◌≡◌, List, ℕ, bytes_eq, cond, refl, ap, ◌∙◌}
 use Rattle.bson_model.specs.Value.{Value, Pairs, no_pairs, pair}
 use Rattle.json.specs.Strict.{AreDistinct}
-use Rattle.bson_text.specs.TraversalResults.{keys_of, with_pair_set, with_pairs_set}
+use Rattle.bson_text.specs.TraversalResults.{keys_of, with_pair_set, with_pairs_set, each_key_once}
 use Rattle.bson_text.proofs.Offered.{once_is}
 use Rattle.bson_bytes.specs.Grammar.{insert_value, deduplicated_onto, deduplicated}
 
@@ -16,3 +16,7 @@ insert_pairs_read (pair k v ps) found = ap (λ qs. deduplicated_onto qs ps) (ins
 
 pub once : (ps : Pairs) → AreDistinct (keys_of ps) → deduplicated ps ≡ ps
 once ps apart = insert_pairs_read ps no_pairs ∙ once_is ps apart
+
+-- each key once, as bytes are read and as a text is
+pub each_once : (ps : Pairs) → deduplicated ps ≡ each_key_once ps
+each_once ps = insert_pairs_read ps no_pairs

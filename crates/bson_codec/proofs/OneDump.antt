@@ -1,6 +1,6 @@
 -- The same bytes are one dump.
 use Rattle.std.proofs.Common.{◌≡◌, ◌≢◌, ◌⊎◌, inl, inr, ℕ, zero, suc, ◌+◌, ◌-◌, ◌<◌, ◌≤◌, List, [], ◌++◌, length}
-use Rattle.std.proofs.Common.{Bool, true, false, Result, Ok, Err, ltb, refl, sym, ap, subst, ◌∙◌, append_assoc, arith}
+use Rattle.std.proofs.Common.{Bool, true, false, ltb, refl, sym, ap, subst, ◌∙◌, append_assoc, arith}
 use Rattle.std.proofs.lemmas.Bool.{ltb-false, ltb-true}
 use Rattle.std.proofs.lemmas.List.{append-nil, length-append, nil_from_length}
 use Rattle.bson.specs.Texts.{IsTextInKeyOrder}
@@ -15,7 +15,7 @@ use Rattle.bson_model.specs.Value.{Pairs, Value, document}
 use Rattle.bson_bytes.proofs.Offered.{size_again}
 use Rattle.bson_bytes.specs.Reading.{reads_bytes_in, read_length}
 use Rattle.bson_codec.proofs.Justified.{faultless, no_line, read_one}
-use Rattle.bson_codec.proofs.Lengths.{Counted, counted, length_front, one_span}
+use Rattle.bson_codec.proofs.Lengths.{counted, length_front, one_span}
 use Rattle.bson_codec.proofs.Runs.{same_rest}
 use Rattle.bson_codec.proofs.Streams.{sized}
 use Rattle.bson_codec.specs.DumpRuns.{BeginsWithLength, Dump, none, written, skipped_document, EndsInside, IsRejectedWithFault, IsLineOfDocument}

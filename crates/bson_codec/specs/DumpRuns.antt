@@ -5,7 +5,6 @@ use Rattle.std.specs.Io.KnownBytes.{Appends, Consumes, IsAtEnd, Keeps}
 use Rattle.bson_model.specs.declared.options.Options.{Options}
 use Rattle.bson_scalar.specs.Forms.{form_in}
 use Rattle.bson.specs.Texts.{IsTextInKeyOrder}
-use Rattle.bson_scalar.specs.declared.form.Form.{Form}
 use Rattle.bson_model.specs.Displayed.{display_text}
 use Rattle.bson_model.specs.Normal.{writable_in}
 use Rattle.bson_model.specs.Value.{Pairs, document}

@@ -6,6 +6,7 @@ pub mod Diagnostics
 pub mod DumpRuns
 pub mod DocumentText
 pub mod PackedText
+pub mod WriterSinks
 -- what public clauses cite of the crates below, so that a caller names this crate alone
 pub use Rattle.bson_bytes.specs.Grammar
 pub use Rattle.bson_bytes.specs.ReadDocuments

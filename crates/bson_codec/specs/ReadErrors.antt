@@ -32,7 +32,7 @@ IsFaultWithoutMemory (errors.Malformed fault_kind offset) bytes read_result =
 -- the error is in the bytes, or at their end, and no duplicate key is possible
 abbrev pub IsStopInBytes : Stop → (bytes : List ℕ) → Type 0
 IsStopInBytes (stops.Fault fault) bytes = fault.bytes_to_end ≤ length bytes
-IsStopInBytes stops.PossibleDuplicate bytes = ⊥
+IsStopInBytes stops.GaveUp bytes = ⊥
 IsStopInBytes stops.OutOfMemory bytes = Unit {0}
 
 -- the error with its offset in the bytes

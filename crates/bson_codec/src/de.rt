@@ -270,7 +270,7 @@ pub(crate) fn add_offset(stop: Stop, bytes: &[u8]) -> Error
             kind: fault.kind,
             offset: bytes.len() - fault.bytes_to_end,
         },
-        Stop::PossibleDuplicate => unreachable!(),
+        Stop::GaveUp => unreachable!(),
         Stop::OutOfMemory => Error::OutOfMemory,
     }
 }

@@ -1,36 +1,74 @@
 //! The line of a document of a dump.
-ghost use Rattle.std.specs.Prelude.{◌≡◌, ◌++◌, IfOk, IfErr, OnOk, IsUtf8, string_bytes};
+ghost use Rattle.std.specs.Prelude.{◌≡◌, ◌++◌, IfOk, IfErr, OnOk, IsUtf8};
 ghost use Rattle.bson_model.specs.Displayed.{display_text};
 ghost use Rattle.bson_model.specs.Value as model;
 ghost use Rattle.bson_model.specs.Value.{Pairs};
-ghost use Rattle.bson_model.specs.declared.options.KeyOrder.TheVariants.{AsGiven};
+ghost use Rattle.bson_model.specs.declared.options.DuplicateKeys.TheVariants.{LastWins};
 ghost use Rattle.bson_bytes.specs.ReadDocuments.{IsReadAsDocumentIn};
+ghost use Rattle.bson_bytes.specs.Reading.{reads_bytes};
+ghost use Rattle.bson_bytes.specs.Source.{ReadsAllTo};
 ghost use Rattle.bson.specs.View.{document_view};
 ghost use Rattle.bson_codec.specs.DumpRuns.{IsConversionFault, IsLineFault, IsLineOfDocument, WritesLine, run_fault};
 ghost use Rattle.bson_codec.specs.Diagnostics.{line_feed};
 ghost use Rattle.bson_codec.specs.declared.documents.Line.TheVariants.{Text};
 ghost use Rattle.bson_codec.specs.declared.run_end.RunFault.TheVariants.{OutOfMemory};
 
-use crate::de::{DuplicateKeys, Error, ReadOptions, from_bytes, is_document};
+use crate::de::{DuplicateKeys, Error, ReadOptions, add_offset, from_bytes, is_document};
 use crate::documents::{Line, Run};
 use crate::run_end::RunFault;
-use crate::text::decode_text;
-use bson::extjson::{Doubles, Form, KeyOrder, WriteError};
+use crate::text::{ordered_text, shown_text, sorted_text};
+use bson::extjson::{Form, KeyOrder, WriteError};
 use bson::{Bson, Document};
+use bson_bytes::stop::Stop;
 use std::alloc::Global;
 
-/// Returns the line of the document that the bytes are.
+/// Returns the line of the document that the bytes are. It needs no document in memory, unless duplicate keys
+/// are rejected or a writer gives up.
 pub(crate) fn line_of(alloc: Global, run: Run, bytes: &[u8]) -> Result<Vec<u8>, RunFault>
     ensures ok { IfOk result (λ line. IsLineOfDocument run bytes.now line.items) }
     ensures fault { IfErr result (λ run_end_fault. IsConversionFault run_end_fault run bytes.now) }
 {
-    match run.line {
-        Line::Text(form) => text_line(alloc, run, form, bytes),
-        Line::Shown => shown_line(alloc, read_document(alloc, run, bytes)?),
-        Line::Nothing => match check_document(alloc, run, bytes) {
+    match (run.line, run.duplicate_keys) {
+        (Line::Nothing, _) => match check_document(alloc, run, bytes) {
             Ok(()) => Ok(Vec::new(alloc)),
             Err(fault) => Err(fault),
         },
+        (_, DuplicateKeys::LastWins) => written_line(alloc, run, bytes),
+        (_, DuplicateKeys::Reject) => value_line(alloc, run, read_document(alloc, run, bytes)?),
+    }
+}
+
+// Writes the line while the bytes are read, or by a document in memory if the writer stops.
+fn written_line(alloc: Global, run: Run, bytes: &[u8]) -> Result<Vec<u8>, RunFault>
+    requires { run.duplicate_keys ≡ LastWins }
+    ensures ok { IfOk result (λ line. IsLineOfDocument run bytes.now line.items) }
+    ensures fault { IfErr result (λ run_end_fault. IsConversionFault run_end_fault run bytes.now) }
+{
+    match document_text(alloc, run, bytes) {
+        Ok(text) => end_line(text),
+        Err(Stop::Fault(fault)) => Err(to_run_fault(add_offset(Stop::Fault(fault), bytes))),
+        Err(_) => value_line(alloc, run, read_document(alloc, run, bytes)?),
+    }
+}
+
+// Returns the line without its newline, unless duplicate keys are rejected.
+fn document_text(alloc: Global, run: Run, bytes: &[u8]) -> Result<Vec<u8>, Stop>
+    ensures { ReadsAllTo (λ stop. Unit {0})
+        (λ pairs text. WritesLine run.options run.line pairs (text.items ++ line_feed) × IsUtf8 text.items) result
+        (reads_bytes run.depth bytes.now) }
+{
+    let doubles = run.options.doubles;
+    match (run.line, run.options.key_order) {
+        (Line::Text(form), KeyOrder::Ascending) => {
+            let form = run.options.layout.form(form);
+            sorted_text(alloc, doubles, form, bytes, run.depth)
+        }
+        (Line::Text(form), KeyOrder::AsGiven) => {
+            let form = run.options.layout.form(form);
+            ordered_text(alloc, doubles, form, bytes, run.depth)
+        }
+        (Line::Shown, _) => shown_text(alloc, bytes, run.depth),
+        (Line::Nothing, _) => Err(Stop::GaveUp),
     }
 }
 
@@ -68,39 +106,6 @@ fn check_document(alloc: Global, run: Run, bytes: &[u8]) -> Result<(), RunFault>
     }
 }
 
-// Returns the line in the form of the document that the bytes are.
-fn text_line(alloc: Global, run: Run, form: Form, bytes: &[u8]) -> Result<Vec<u8>, RunFault>
-    requires { run.line ≡ Text form }
-    ensures ok { IfOk result (λ line. IsLineOfDocument run bytes.now line.items) }
-    ensures fault { IfErr result (λ run_end_fault. IsConversionFault run_end_fault run bytes.now) }
-{
-    match run.options.key_order {
-        KeyOrder::Ascending => value_line(alloc, run, form, read_document(alloc, run, bytes)?),
-        KeyOrder::AsGiven => ordered_line(alloc, run, form, bytes),
-    }
-}
-
-// Returns the line of the document that the bytes are, in the form and with its keys in their own
-// order. With finite doubles it needs no document in memory, unless duplicate keys are rejected.
-fn ordered_line(alloc: Global, run: Run, form: Form, bytes: &[u8]) -> Result<Vec<u8>, RunFault>
-    requires { (run.line ≡ Text form) × (run.options.key_order ≡ AsGiven) }
-    ensures ok { IfOk result (λ line. IsLineOfDocument run bytes.now line.items) }
-    ensures fault { IfErr result (λ run_end_fault. IsConversionFault run_end_fault run bytes.now) }
-{
-    match (run.options.doubles, run.duplicate_keys) {
-        (Doubles::Finite, DuplicateKeys::LastWins) => match decode_text(
-            alloc,
-            run.options.layout.form(form),
-            bytes,
-            run.depth,
-        ) {
-            Ok(text) => end_line(text),
-            Err(error) => Err(to_run_fault(error)),
-        },
-        _ => value_line(alloc, run, form, read_document(alloc, run, bytes)?),
-    }
-}
-
 // Why the bytes are not a document.
 fn to_run_fault(error: Error) -> RunFault
     ensures { result ≡ run_fault error }
@@ -111,14 +116,27 @@ fn to_run_fault(error: Error) -> RunFault
     }
 }
 
+// Returns the line of the document.
+fn value_line(alloc: Global, run: Run, document: Document) -> Result<Vec<u8>, RunFault>
+    ensures ok { IfOk result
+        (λ line. WritesLine run.options run.line (document_view document) line.items × IsUtf8 line.items) }
+    ensures fault { IfErr result (λ run_end_fault. IsLineFault run_end_fault run.options run.line (document_view document)) }
+{
+    match run.line {
+        Line::Text(form) => text_line(alloc, run, form, document),
+        Line::Shown => shown_line(alloc, document),
+        Line::Nothing => Ok(Vec::new(alloc)),
+    }
+}
+
 // Returns the line of the document in the form.
-fn value_line(alloc: Global, run: Run, form: Form, document: Document) -> Result<Vec<u8>, RunFault>
+fn text_line(alloc: Global, run: Run, form: Form, document: Document) -> Result<Vec<u8>, RunFault>
     ensures ok { IfOk result
         (λ line. WritesLine run.options (Text form) (document_view document) line.items × IsUtf8 line.items) }
     ensures fault { IfErr result (λ run_end_fault. IsLineFault run_end_fault run.options (Text form) (document_view document)) }
 {
     match Bson::Document(document).into_text(alloc, run.options, form) {
-        Ok(text) => end_line(text),
+        Ok(text) => end_line(text.into_bytes()),
         Err(WriteError::FiniteDouble) => Err(RunFault::FiniteDouble),
         Err(WriteError::OutOfMemory) => Err(RunFault::OutOfMemory),
     }
@@ -137,11 +155,12 @@ fn shown_line(alloc: Global, document: Document) -> Result<Vec<u8>, RunFault>
 }
 
 // Appends a newline.
-fn end_line(text: String) -> Result<Vec<u8>, RunFault>
-    ensures ok { IfOk result (λ line. (line.items ≡ string_bytes text ++ line_feed) × IsUtf8 line.items) }
+fn end_line(text: Vec<u8>) -> Result<Vec<u8>, RunFault>
+    requires { IsUtf8 text.items }
+    ensures ok { IfOk result (λ line. (line.items ≡ text.items ++ line_feed) × IsUtf8 line.items) }
     ensures fault { IfErr result (λ run_end_fault. run_end_fault ≡ OutOfMemory) }
 {
-    let mut line = text.into_bytes();
+    let mut line = text;
     match line.push(b'\n') {
         Ok(()) => Ok(line),
         Err(_) => Err(RunFault::OutOfMemory),

@@ -19,6 +19,7 @@ pub mod ser;
 pub mod stream;
 pub mod text;
 mod value_sink;
+mod writer_sink;
 
 pub use de::{
     ReadOptions, from_bytes, from_slice, front, front_of_bytes, is_canonical, is_document,

@@ -1,18 +1,25 @@
-//! The text of a document's bytes.
-ghost use Rattle.std.specs.Prelude.{◌≡◌, IfOk, IfErr, string_bytes};
+//! The text of a document's bytes, written as they are read.
+ghost use Rattle.std.specs.Prelude.{◌≡◌, true, IfOk, IfErr, IsUtf8, string_bytes};
 ghost use Rattle.bson_bytes.specs.ReadDocuments.{IsReadAsDocument};
 ghost use Rattle.bson_bytes.specs.Reading.{reads_bytes};
+ghost use Rattle.bson_bytes.specs.Source.{ReadsAllTo};
 ghost use Rattle.bson_codec.specs.ReadErrors.{IsReadFault};
 ghost use Rattle.bson_codec.specs.DocumentText.{IsDocumentTextOf};
 ghost use Rattle.bson_codec.specs.declared.de.Error.TheVariants as errors;
-ghost use Rattle.bson_model.specs.Value.{Pairs};
+ghost use Rattle.bson_model.specs.Displayed.{display_text};
+ghost use Rattle.bson_model.specs.Normal.{writable_in};
+ghost use Rattle.bson_model.specs.Value.{Pairs, document};
+ghost use Rattle.bson_model.specs.ValueTexts.{IsTextInOrder, IsTextWithDoubles};
 
 use crate::de::{Error, add_offset, from_slice};
+use crate::writer_sink::write_document;
 use bson::Bson;
 use bson::extjson::{Doubles, Form, KeyOrder, Options, WriteError};
 use bson_bytes::stop::Stop;
-use bson_bytes::text_sink::document_text;
 use bson_scalar::form::Layout;
+use bson_text::display_writer::DisplayWriter;
+use bson_text::sorted_writer::SortedWriter;
+use bson_text::text_writer::TextWriter;
 use std::alloc::Global;
 
 /// Reads all of the bytes as a document (BSON 1.1), and returns its compact text in the form (MongoDB
@@ -39,12 +46,21 @@ pub fn decode_text(alloc: Global, form: Form, bytes: &[u8], depth: usize) -> Res
     // Which fault it is, and where.
     ensures fault { IfErr result (λ error. IsReadFault error bytes.now (reads_bytes depth bytes.now)) }
 {
-    match document_text(alloc, form, bytes, depth) {
-        Ok(text) => Ok(text),
+    match ordered_text(alloc, Doubles::Finite, form, bytes, depth) {
+        Ok(text) => Ok(into_string(text)),
         Err(Stop::Fault(fault)) => Err(add_offset(Stop::Fault(fault), bytes)),
-        Err(Stop::OutOfMemory) => Err(Error::OutOfMemory),
-        Err(Stop::PossibleDuplicate) => decode_by_value(alloc, form, bytes, depth),
+        Err(_) => decode_by_value(alloc, form, bytes, depth),
     }
+}
+
+fn into_string(text: Vec<u8>) -> String
+    requires { IsUtf8 text.items }
+    ensures { string_bytes result ≡ text.items }
+{
+    let Ok(text) = String::from_utf8(text) else {
+        unreachable!();
+    };
+    text
 }
 
 // Decodes the bytes through a document in memory. The form has its layout, which `Layout::Specified`
@@ -65,5 +81,60 @@ fn decode_by_value(alloc: Global, form: Form, bytes: &[u8], depth: usize) -> Res
         Ok(text) => Ok(text),
         Err(WriteError::OutOfMemory) => Err(Error::OutOfMemory),
         Err(WriteError::FiniteDouble) => unreachable!(),
+    }
+}
+
+// Returns the compact text of the document that the bytes are, its keys in their own order.
+pub(crate) fn ordered_text(
+    alloc: Global,
+    doubles: Doubles,
+    form: Form,
+    bytes: &[u8],
+    depth: usize,
+) -> Result<Vec<u8>, Stop>
+    ensures { ReadsAllTo (λ stop. Unit {0})
+        (λ pairs text. (IsTextInOrder doubles form (document pairs) text.items
+        × (writable_in doubles (document pairs) ≡ true)) × IsUtf8 text.items) result
+        (reads_bytes depth bytes.now) }
+{
+    let writer = TextWriter::new(alloc, doubles, form, text_capacity(bytes))?;
+    let finished_writer = write_document(alloc, bytes, depth, writer)?;
+    Ok(finished_writer.json_writer.into_inner())
+}
+
+// The same with each document's keys in ascending order.
+pub(crate) fn sorted_text(
+    alloc: Global,
+    doubles: Doubles,
+    form: Form,
+    bytes: &[u8],
+    depth: usize,
+) -> Result<Vec<u8>, Stop>
+    ensures { ReadsAllTo (λ stop. Unit {0})
+        (λ pairs text. (IsTextWithDoubles doubles form (document pairs) text.items
+        × (writable_in doubles (document pairs) ≡ true)) × IsUtf8 text.items) result
+        (reads_bytes depth bytes.now) }
+{
+    let writer = SortedWriter::new(alloc, doubles, form, text_capacity(bytes), bytes.len())?;
+    let finished_writer = write_document(alloc, bytes, depth, writer)?;
+    Ok(finished_writer.text)
+}
+
+// Returns the output of `Display` for the document that the bytes are.
+pub(crate) fn shown_text(alloc: Global, bytes: &[u8], depth: usize) -> Result<Vec<u8>, Stop>
+    ensures { ReadsAllTo (λ stop. Unit {0})
+        (λ pairs text. (text.items ≡ display_text (document pairs)) × IsUtf8 text.items) result
+        (reads_bytes depth bytes.now) }
+{
+    let writer = DisplayWriter::new(alloc, KeyOrder::AsGiven, text_capacity(bytes), bytes.len())?;
+    let finished_writer = write_document(alloc, bytes, depth, writer)?;
+    Ok(finished_writer.text)
+}
+
+// Returns a capacity for the text of a document with numbers and short strings.
+fn text_capacity(bytes: &[u8]) -> usize {
+    match bytes.len().checked_mul(2) {
+        Some(doubled_length) => doubled_length,
+        None => bytes.len(),
     }
 }

@@ -136,6 +136,11 @@ read_first_document-returns-clause-outcome g t c =
 
 -- ---- what holds a document
 
+pub read_array-end_array-requires : goal.read_array-end_array-requires
+read_array-end_array-requires g t c =
+    let x = c.in_ok-open_list.ensures.outcome in
+    (c.args.value_sink.now, x.0, x.2)
+
 pub read_array-returns-in_err-open_list-clause-outcome : goal.read_array-returns-in_err-open_list-clause-outcome
 read_array-returns-in_err-open_list-clause-outcome g t c =
     let p = err_from_is_err_and c.from_residual.result c.from_residual.ensures.1 in
@@ -177,6 +182,11 @@ pub read_first_document-end_document-requires : goal.read_first_document-end_doc
 read_first_document-end_document-requires g t c =
     let x = c.in_ok-open_list.ensures.outcome in
     (c.args.value_sink.now, x.0, x.2)
+
+pub read_code_with_scope-end_code-requires : goal.read_code_with_scope-end_code-requires
+read_code_with_scope-end_code-requires g t c =
+    let x = c.in_ok-scope.ensures.outcome in
+    (c.args.value_sink.now, _, c.in_ok-text.text.now, x.0, c.in_ok-code.ensures.outcome, x.2)
 
 pub read_code_with_scope-returns-in_err-scope-clause-outcome : goal.read_code_with_scope-returns-in_err-scope-clause-outcome
 read_code_with_scope-returns-in_err-scope-clause-outcome g t c =

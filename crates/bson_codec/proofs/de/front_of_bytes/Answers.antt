@@ -1,4 +1,4 @@
-use Rattle.std.proofs.Common.{◌≡◌, List, ℕ, arith, sym, ap, subst, ◌∙◌}
+use Rattle.std.proofs.Common.{List, ℕ, arith, sym, ap, subst, ◌∙◌}
 use Rattle.bson_model.specs.Value.{Pairs, no_pairs}
 use Rattle.bson_bytes.proofs.Offered.{front_from, front_read, front_fault}
 use Rattle.bson_bytes.specs.ReadDocuments.{IsFirstDocumentIn}

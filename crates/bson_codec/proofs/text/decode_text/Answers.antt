@@ -1,9 +1,11 @@
-use Rattle.std.proofs.Common.{◌≡◌, Ok, Err, arith}
+use Rattle.std.proofs.Common.{◌≡◌, Ok, Err, arith, subst, sym}
 use Rattle.bson_bytes.specs.Reading.{reads_bytes}
+use Rattle.bson_model.specs.Value.{document}
+use Rattle.bson_model.specs.ValueTexts.{IsTextInOrder}
 use Rattle.bson_model.specs.declared.options.DuplicateKeys.TheVariants.{LastWins}
+use Rattle.bson_scalar.specs.declared.form.Doubles.TheVariants.{Finite}
 use Rattle.bson_bytes.proofs.Offered.{grammar_from, is_read, fault_stands}
 use Rattle.bson_bytes.proofs.OfferedSource.{stopped_at}
-use Rattle.bson_codec.proofs.Decoded.{printed_is}
 use Rattle.bson_codec.proofs.Ends.{fault_alone}
 use Rattle.bson_codec.proofs.text.decode_text.Goals as goal
 
@@ -19,7 +21,7 @@ returns-in-Ok-clause-ok c =
     record {
       pairs = x.0;
       read = grammar_from LastWins c.args.depth c.args.bytes.now x.0 (λ i. omega (arith, c.type_inv.bytes i)) x.1;
-      text_in_order = printed_is c.args.form x.0 c.in-Ok.text x.2;
+      text_in_order = subst (IsTextInOrder Finite c.args.form (document x.0)) (sym c.into_string.ensures) x.2.0.0;
     }
 
 pub returns-in-Err-Fault-clause-only : goal.returns-in-Err-Fault-clause-only
