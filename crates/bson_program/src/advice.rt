@@ -18,10 +18,10 @@ use bson_convert::encode_error::NoBytes;
 use bson_convert::error::Error;
 use bson_json::sequence::{Separator, split_text};
 use bson_run::lines::Counts;
-use bson_run::located::syntax_error_in;
 use bson_run::preprocessed::preprocess_text;
 use bson_run::rule::Rule;
 use bson_run::task::{Criterion, Output, Preprocessing};
+use bson_run::syntax_error::SyntaxError;
 use bson_scalar::doubles::NUMBER_MESSAGE;
 use bson_tree::place::{Place, Reason};
 use std::alloc::Global;
@@ -177,7 +177,7 @@ fn advice_for_error(
 fn advice_for_syntax_error(alloc: Global, invocation: &Invocation, text: &[u8]) -> Option<Advice>
     ensures { IfSome result (IsSyntaxAdvice invocation.now text.now) }
 {
-    let Ok(json_error) = syntax_error_in(alloc, invocation.task.preprocessing.v1, text) else {
+    let Ok(json_error) = SyntaxError::of(alloc, invocation.task.preprocessing.v1, text) else {
         return None;
     };
     if json_error.rule == Rule::TrailingData && is_canonical(invocation.task.output) {
