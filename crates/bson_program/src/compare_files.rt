@@ -1,9 +1,12 @@
 //! A comparison of the values of two files.
+ghost use Rattle.std.specs.Prelude.{◌≡◌, IfOk, string_bytes};
+ghost use Rattle.bson_program.specs.Comparison.{difference_of_inputs, input_name_at};
+
 use crate::compare_outputs::{Difference, compare_outputs, difference_line};
 use crate::invocation::{Input, Invocation, STDIO};
 use crate::messages::show_name;
-use crate::progress::Progress;
-use crate::run::{RunFailure, check_input_file, run_file, total_size};
+use crate::progress::{Progress, total_size};
+use crate::run::{RunFailure, check_input_file, run_file};
 use crate::streams::{OutputTarget, OutputWriter};
 use bson_convert::error;
 use std::alloc::{AllocError, Global};
@@ -77,10 +80,13 @@ fn out_of_memory(alloc: Global, file_name: &str) -> RunFailure<'_> {
 }
 
 // Returns the name of the first file (0) or of the second (1).
-fn input_name_at(invocation: &Invocation, input_index: usize) -> &str {
-    match invocation.inputs.get(input_index) {
-        Some(file_name) => file_name.as_str(),
-        None => STDIO,
+fn input_name_at(invocation: &Invocation, input_index: usize) -> &str
+    ensures { result.now ≡ input_name_at invocation.now.inputs.items input_index }
+{
+    if input_index < invocation.inputs.len() {
+        invocation.inputs[input_index].as_str()
+    } else {
+        STDIO
     }
 }
 
@@ -89,7 +95,10 @@ pub fn difference_line_for(
     alloc: Global,
     invocation: &Invocation,
     difference: Difference,
-) -> Result<String, AllocError> {
+) -> Result<String, AllocError>
+    ensures { IfOk result
+        (λ line. string_bytes line ≡ difference_of_inputs invocation.now.inputs.items difference) }
+{
     let first_name = show_name(alloc, input_name_at(invocation, 0), "input")?;
     let second_name = show_name(alloc, input_name_at(invocation, 1), "input")?;
     difference_line(alloc, &first_name, &second_name, difference)
