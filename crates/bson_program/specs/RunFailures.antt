@@ -47,15 +47,15 @@ HappensAtInput invocation stop = (file_name : List ℕ)
     × Contains (map (λ input. string_bytes input) invocation.inputs.items) file_name × HappensAt invocation file_name stop
 
 -- the output can't be opened or finished, or bytes would go to a terminal
-abbrev pub IsOutputFailure : Invocation → RunFailure → Type 0
-IsOutputFailure invocation (Output failed_name error) = failed_name.now ≡ string_bytes invocation.output
-IsOutputFailure invocation failure.OutputIsTerminal =
+abbrev pub IsOutputFileFailure : Invocation → RunFailure → Type 0
+IsOutputFileFailure invocation (Output failed_name error) = failed_name.now ≡ string_bytes invocation.output
+IsOutputFileFailure invocation failure.OutputIsTerminal =
     (invocation.task.output ≡ output.Bytes) × (string_bytes invocation.output ≡ codes "-")
-IsOutputFailure invocation stop = ⊥
+IsOutputFileFailure invocation stop = ⊥
 
 -- why a run over all inputs stops
 abbrev pub IsRunFailure : Invocation → RunFailure → Type 0
-IsRunFailure invocation stop = IsOutputFailure invocation stop ⊎ HappensAtInput invocation stop
+IsRunFailure invocation stop = IsOutputFileFailure invocation stop ⊎ HappensAtInput invocation stop
 
 -- ---- writers
 
