@@ -1,13 +1,17 @@
 """Where bytes stop to be a JSON text (RFC 8259), and which rule they break there, as docs/PROGRAMS.md says it.
 
 A token is a bracket, a comma, a colon, a string, or a word: other characters up to a blank, a bracket, a comma or a
-colon. An error is at the first token that is not a token of JSON, or not allowed there.
+colon. An error is at the first token that is not a token of JSON, or not allowed there. Inside of brackets a number or
+a literal ends before the first character that is not a letter, a digit, or one of `._+-`.
 """
+import re
+
 from json_text import DEEPEST, NUMBER, NotJson, string
 
 BLANKS, MARKS = ' \t\n\r', '{}[],:'
 OPENING, CLOSING = ('{', '['), ('}', ']')
 LITERALS = ('null', 'true', 'false')
+WORD = re.compile('[A-Za-z0-9._+-]*')
 
 
 class Broken(Exception):
@@ -89,6 +93,9 @@ class Reader:
             raise Broken(at, string_rule(self.text, at))
         if is_key or first in "'`":
             raise Broken(at, 'Quotes')
+        word = WORD.match(self.text, at)
+        if before and (NUMBER.fullmatch(word[0]) or word[0] in LITERALS):
+            raise Broken(word.end(), 'Separator')
         raise Broken(at, 'Number' if first in '0123456789-+.' else 'ExpectedValue')
 
     def word_end(self, at):

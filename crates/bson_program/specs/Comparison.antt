@@ -1,10 +1,15 @@
 -- How the lines of two outputs differ.
-use Rattle.std.specs.Prelude.{◌≡◌, ◌≢◌, ◌+◌, ◌<◌, ◌++◌, ◌==◌, ℕ, Bool, true, false, min, List, [], Option, None, Some, codes}
-use Rattle.std.specs.Prelude.{get_or, length, take, if◌then◌else◌}
+use Rattle.std.specs.Prelude.{◌≡◌, ◌≢◌, ◌⊎◌, ◌+◌, ◌<◌, ◌++◌, ◌==◌, ℕ, Bool, true, false, min, List, [], Option, None, Some, codes}
+use Rattle.std.specs.Prelude.{get_or, length, map, string_bytes, take, String, if◌then◌else◌}
+use Rattle.std.specs.declared.alloc.Global.{Global}
 use Rattle.std.specs.Fmt.{decimal}
 use Rattle.std.specs.List.Sorted.{IsPermutation}
+use Rattle.bson_program.specs.Messages.{shown_name}
+use Rattle.bson_program.specs.RunFailures.{HappensAt, HappensAtInput}
 use Rattle.bson_program.specs.declared.compare_outputs.Difference.{Difference}
 use Rattle.bson_program.specs.declared.compare_outputs.Difference.TheVariants.{AtValue, UnequalCounts, EqualCounts}
+use Rattle.bson_program.specs.declared.invocation.Invocation.{Invocation}
+use Rattle.bson_program.specs.declared.run.RunFailure.{RunFailure}
 
 -- the lines at this place are the first that differ
 pub record FirstDifferenceAt (line_index : ℕ) (first_lines second_lines : List (List ℕ)) : Type 0 where
@@ -59,3 +64,25 @@ difference_message first_name second_name (UnequalCounts first_count second_coun
     ++ codes " has " ++ decimal second_count
 difference_message first_name second_name (EqualCounts count) =
     codes "bson: " ++ first_name ++ codes " and " ++ second_name ++ codes " differ: each has " ++ value_count_text count
+
+-- the name of the file at this index, or that of standard input if there is none
+abbrev pub input_name_at : (inputs : List (String Global)) → (input_index : ℕ) → List ℕ
+input_name_at inputs input_index = get_or (map (λ input. string_bytes input) inputs) input_index (codes "-")
+
+-- the line for the first two inputs
+abbrev pub difference_of_inputs : (inputs : List (String Global)) → Difference → List ℕ
+difference_of_inputs inputs difference =
+    difference_message (shown_name (input_name_at inputs 0) (codes "input"))
+    (shown_name (input_name_at inputs 1) (codes "input")) difference
+
+-- ---- failures
+
+-- the failure names the first or the second input, or an output
+abbrev pub HappensAtFirstTwo : Invocation → RunFailure → Type 0
+HappensAtFirstTwo invocation stop =
+    HappensAt invocation (input_name_at invocation.inputs.items 0) stop
+    ⊎ HappensAt invocation (input_name_at invocation.inputs.items 1) stop
+
+-- why a comparison stops
+abbrev pub IsComparisonFailure : Invocation → RunFailure → Type 0
+IsComparisonFailure invocation stop = HappensAtFirstTwo invocation stop ⊎ HappensAtInput invocation stop

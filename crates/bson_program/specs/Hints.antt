@@ -1,31 +1,29 @@
 -- The actual format of a rejected input, by its first bytes.
-use Rattle.std.specs.Prelude.{◌≡◌, ◌==◌, ◌||◌, ◌&&◌, ◌+◌, ◌-◌, ◌*◌, ℕ, Result, Ok, Err, Bool, true, false, not, List, [], ◌∷◌, ◌++◌, Option, None, Some}
+use Rattle.std.specs.Prelude.{◌≡◌, ◌⊎◌, ◌==◌, ◌||◌, ◌&&◌, ◌+◌, ◌-◌, ◌*◌, ℕ, Result, Err, Bool, true, false, not, List, [], ◌∷◌, ◌++◌, Option, None, Some}
 use Rattle.std.specs.Prelude.{if◌then◌else◌, codes, length, nat_eq, nat_le, nat_lt, slice_index, reverse, take, drop, is_some}
 use Rattle.std.specs.List.{find, starts_with}
+use Rattle.std.specs.Str.{bytes_eq}
 use Rattle.bson.specs.Doubles.{Doubles}
 use Rattle.bson.specs.Options.{Options}
 use Rattle.bson.specs.Doubles.TheVariants.{Finite, Special}
-use Rattle.bson.specs.KeyOrder.{KeyOrder}
-use Rattle.bson.specs.KeyOrder.TheVariants.{Ascending}
-use Rattle.bson_model.specs.declared.options.DuplicateKeys.{DuplicateKeys}
-use Rattle.bson_model.specs.declared.options.DuplicateKeys.TheVariants.{LastWins, Reject}
+use Rattle.bson_tree.specs.declared.place.Reason.{Reason}
+use Rattle.bson_tree.specs.declared.place.Reason.TheVariants.{BadObjectId, WrongShape}
 use Rattle.bson_codec.specs.declared.run_end.RunFault.{RunFault}
 use Rattle.bson_codec.specs.declared.run_end.RunFault.TheVariants as run_fault
 use Rattle.bson_convert.specs.Convert.{IsAccepted}
 use Rattle.bson_convert.specs.declared.encode_error.NoBytes.TheVariants.{NoDocument}
 use Rattle.bson_convert.specs.declared.error.Error.{Error}
 use Rattle.bson_convert.specs.declared.error.Error.TheVariants as error
-use Rattle.bson_run.specs.declared.lines.Counts.{Counts}
 use Rattle.bson_run.specs.ErrorMessages.{BreaksRule, IsSubslice, located_text}
 use Rattle.bson_run.specs.Preprocessed.{IsPreprocessedAs}
+use Rattle.bson_run.specs.declared.lines.Counts.{Counts}
 use Rattle.bson_run.specs.declared.task.Criterion.TheVariants as criterion
 use Rattle.bson_run.specs.declared.task.Preprocessing.{Preprocessing}
 use Rattle.bson_run.specs.declared.task.Output.{Output}
 use Rattle.bson_run.specs.declared.task.Output.TheVariants as output
 use Rattle.bson_run.specs.declared.rule.Rule.{Rule}
 use Rattle.bson_run.specs.declared.rule.Rule.TheVariants.{ControlCharacter, TrailingData, Utf8}
-use Rattle.bson_program.specs.Messages.{line_len, shown_name}
-use Rattle.bson_program.specs.Invocation.{mode_arg}
+use Rattle.bson_program.specs.Messages.{line_len}
 use Rattle.bson_program.specs.SingleText.{IsTextRejected}
 use Rattle.bson_program.specs.declared.advice.Advice.{Advice}
 use Rattle.bson_program.specs.declared.advice.Advice.TheVariants as advice
@@ -35,8 +33,6 @@ use Rattle.bson_program.specs.declared.hints.RejectedInput.{RejectedInput}
 use Rattle.bson_program.specs.declared.invocation.Input.{Input}
 use Rattle.bson_program.specs.declared.invocation.Input.TheVariants.{Text, Lines, Documents}
 use Rattle.bson_program.specs.declared.invocation.Invocation.{Invocation}
-use Rattle.bson_program.specs.declared.invocation.Purpose.{Purpose}
-use Rattle.bson_program.specs.declared.invocation.Purpose.TheVariants as purpose
 use Rattle.bson_program.specs.declared.run.RunFailure.{RunFailure}
 use Rattle.bson_program.specs.declared.run.RunFailure.TheVariants as failure
 
@@ -52,6 +48,14 @@ is_opening_bracket byte = (byte == 91) || (byte == 123)
 abbrev pub is_first_byte_opening : Option ℕ → Bool
 is_first_byte_opening None = false
 is_first_byte_opening (Some byte) = is_opening_bracket byte
+
+abbrev pub is_byte : (wanted_byte : ℕ) → Option ℕ → Bool
+is_byte wanted_byte None = false
+is_byte wanted_byte (Some byte) = byte == wanted_byte
+
+-- the first byte that is not blank opens an array
+abbrev pub starts_json_array : (first_bytes : List ℕ) → Bool
+starts_json_array first_bytes = is_byte 91 (find (λ byte. not (is_whitespace byte)) first_bytes)
 
 -- the first byte that is not blank opens an array or an object
 abbrev pub starts_json_text : (first_bytes : List ℕ) → Bool
@@ -130,11 +134,18 @@ is_utf16_big_endian first_bytes = if nat_lt (length first_bytes) 4 then false
     && (is_opening_bracket (slice_index first_bytes 1) && ((slice_index first_bytes 2 == 0)
     && not (slice_index first_bytes 3 == 0)))
 
+-- a byte order mark of UTF-16, or of UTF-8
+abbrev pub has_utf16_mark : (first_bytes : List ℕ) → Bool
+has_utf16_mark first_bytes =
+    starts_with nat_eq first_bytes (255 ∷ 254 ∷ []) || starts_with nat_eq first_bytes (254 ∷ 255 ∷ [])
+
+abbrev pub has_utf8_mark : (first_bytes : List ℕ) → Bool
+has_utf8_mark first_bytes = starts_with nat_eq first_bytes (239 ∷ 187 ∷ 191 ∷ [])
+
 -- how a text is encoded that is no UTF-8, or that it is no text
 abbrev pub hint_of_encoding : (first_bytes : List ℕ) → Option Hint
 hint_of_encoding first_bytes =
-    if starts_with nat_eq first_bytes (255 ∷ 254 ∷ []) || starts_with nat_eq first_bytes (254 ∷ 255 ∷ [])
-    then Some hint.Utf16
+    if has_utf16_mark first_bytes then Some hint.Utf16
     else (if is_utf16_little_endian first_bytes then Some hint.Utf16LittleEndian
     else (if is_utf16_big_endian first_bytes then Some hint.Utf16BigEndian
     else (if is_dump first_bytes then Some hint.BsonDocuments else None)))
@@ -220,9 +231,15 @@ IsReadWithV1 invocation text = (invocation.task.preprocessing.v1 ≡ false)
     × (is_canonical invocation.task.output ≡ false)
     × IsReadUpgraded invocation.options (record invocation.task.preprocessing { v1 = true }) text
 
+-- `NaN` or an infinity is not JSON, and the text has a value with `--v1`
+abbrev pub IsBareWordAdvice : Invocation → (text : List ℕ) → Advice → Type 0
+IsBareWordAdvice invocation text given_advice = (given_advice ≡ advice.NotFiniteV1)
+    × IsSyntaxAdvice invocation text advice.NotFinite × IsReadWithV1 invocation text
+
 -- what helps with a text that is rejected with the error
 abbrev pub IsAdviceFor : Invocation → Error → (text : List ℕ) → Advice → Type 0
-IsAdviceFor invocation error.NotJson text given_advice = IsSyntaxAdvice invocation text given_advice
+IsAdviceFor invocation error.NotJson text given_advice =
+    IsSyntaxAdvice invocation text given_advice ⊎ IsBareWordAdvice invocation text given_advice
 IsAdviceFor invocation (error.NotExtendedJson place) text given_advice =
     (given_advice ≡ advice.V1) × IsReadWithV1 invocation text
 IsAdviceFor invocation (error.NoBytes reason) text given_advice = (reason ≡ NoDocument)
@@ -238,6 +255,31 @@ IsAdvice invocation bytes given_advice = (fault : Error) × (text : List ℕ) ×
 abbrev pub IsSplit : (bytes text after_text : List ℕ) → Type 0
 IsSplit bytes text after_text = (separator : List ℕ) × (bytes ≡ text ++ separator ++ after_text)
 
+-- ---- numbers that are read without `--strict`
+
+-- a value is a number that is not a 64-bit integer
+abbrev pub is_number_reason : Reason → Bool
+is_number_reason (WrongShape expected) = bytes_eq expected.now (codes "not a 64-bit integer")
+is_number_reason (BadObjectId object_id_error) = false
+
+abbrev pub is_number_error : Error → Bool
+is_number_error (error.NotExtendedJson place) = is_number_reason place.reason
+is_number_error fault = false
+
+abbrev pub is_finite_double_fault : RunFault → Bool
+is_finite_double_fault run_fault.FiniteDouble = true
+is_finite_double_fault fault = false
+
+abbrev pub is_finite_double_failure : Result Counts RunFailure → Bool
+is_finite_double_failure (Err (failure.Text file_name line_number fault position_message)) = is_number_error fault
+is_finite_double_failure (Err (failure.Document file_name run_end)) = is_finite_double_fault run_end.fault
+is_finite_double_failure run_result = false
+
+-- a strict run ended at a finite double
+abbrev pub ends_at_finite_double : Doubles → Result Counts RunFailure → Bool
+ends_at_finite_double Finite run_result = false
+ends_at_finite_double Special run_result = is_finite_double_failure run_result
+
 -- ---- what helps
 
 abbrev pub advice_hint : Option Advice → Option Hint
@@ -247,22 +289,46 @@ advice_hint (Some given_advice) = Some (hint.Advised given_advice)
 -- where texts are expected
 abbrev pub hint_of_texts : RejectedInput → (first_bytes : List ℕ) → Option Hint
 hint_of_texts rejected_input first_bytes =
-    if rejected_input.is_standard_stream && starts_with nat_eq first_bytes (239 ∷ 187 ∷ 191 ∷ [])
-    then Some hint.ByteOrderMark
+    if rejected_input.is_standard_stream && has_utf8_mark first_bytes then Some hint.ByteOrderMark
+    else advice_hint rejected_input.advice
+
+-- an array begins where bytes are made of each line
+abbrev pub is_array_to_encode : RejectedInput → (first_bytes : List ℕ) → Bool
+is_array_to_encode rejected_input first_bytes = rejected_input.writes_bson_bytes && starts_json_array first_bytes
+
+abbrev pub hint_of_multiline_texts : RejectedInput → (first_bytes : List ℕ) → Hint
+hint_of_multiline_texts rejected_input first_bytes =
+    if is_array_to_encode rejected_input first_bytes then hint.ArrayToEncode
+    else (if rejected_input.writes_bson_bytes then hint.MultilineTextsToEncode else hint.MultilineTexts)
+
+-- no advice, or that the value is not a document
+abbrev pub says_no_more : Option Advice → Bool
+says_no_more None = true
+says_no_more (Some advice.NotADocument) = true
+says_no_more (Some given_advice) = false
+
+-- if the first line is the only one, it can be an array
+abbrev pub hint_of_one_line : RejectedInput → (first_bytes : List ℕ) → Option Hint
+hint_of_one_line rejected_input first_bytes =
+    if is_array_to_encode rejected_input first_bytes
+    && (not (has_non_whitespace (after_first_line first_bytes)) && says_no_more rejected_input.advice)
+    then Some hint.ArrayToEncode
     else advice_hint rejected_input.advice
 
 -- where a text per line is
 abbrev pub hint_of_lines : RejectedInput → (first_bytes : List ℕ) → Option Hint
 hint_of_lines rejected_input first_bytes =
     if opens_multiline_text (first_line first_bytes) && has_non_whitespace (after_first_line first_bytes)
-    then Some (if rejected_input.writes_bson_bytes then hint.MultilineTextsToEncode else hint.MultilineTexts)
-    else advice_hint rejected_input.advice
+    then Some (hint_of_multiline_texts rejected_input first_bytes)
+    else hint_of_one_line rejected_input first_bytes
 
 -- where documents of BSON are
 abbrev pub hint_of_dump : RejectedInput → (first_bytes : List ℕ) → Option Hint
 hint_of_dump rejected_input first_bytes =
-    if starts_json_text first_bytes && not (is_dump first_bytes) then Some hint.JsonText
-    else advice_hint rejected_input.advice
+    if is_dump first_bytes then advice_hint rejected_input.advice
+    else (if has_utf16_mark first_bytes then Some hint.Utf16
+    else (if starts_json_text first_bytes || has_utf8_mark first_bytes then Some hint.JsonText
+    else advice_hint rejected_input.advice))
 
 -- the first that exists
 abbrev pub or_else : (preferred otherwise : Option Hint) → Option Hint
@@ -279,112 +345,3 @@ hint_of_input Documents rejected_input first_bytes = hint_of_dump rejected_input
 abbrev pub hint_of : RejectedInput → (first_bytes : List ℕ) → Option Hint
 hint_of rejected_input first_bytes =
     or_else (compression_hint first_bytes) (hint_of_input rejected_input.input rejected_input first_bytes)
-
--- ---- the text of a hint
-
-abbrev pub advice_text : Advice → List ℕ
-advice_text advice.FiniteDoubles = codes "has numbers that are read without --strict"
-advice_text advice.SeveralTexts = codes "has several texts, which are read without --strict"
-advice_text advice.MongoShellValue =
-    codes "has values of the mongo shell, such as ObjectId(..) for {\"$oid\": ..}; EJSON.stringify writes Extended JSON"
-advice_text advice.NotFinite = codes "has NaN or Infinity, which JSON does not have; write {\"$numberDouble\": \"NaN\"}"
-advice_text advice.PythonOrJsLiterals = codes "has names of Python or JavaScript; JSON has true, false and null"
-advice_text advice.Comment = codes "has a comment, and JSON has none; remove it"
-advice_text advice.SeveralTextsOnOneLine = codes "has several texts on one line; write each on a line of its own"
-advice_text advice.ControlCharacter =
-    codes "has a control character in a string; write a tab as \\t, a newline as \\n, any other as \\u0001"
-advice_text advice.NotUtf8 = codes "is not UTF-8; if it is Latin-1, give it through 'iconv -f latin1 -t utf-8'"
-advice_text advice.V1 = codes "has Extended JSON v1, which is read with --v1"
-advice_text advice.NotADocument =
-    codes "has a value that is not a document, and encode makes bytes of documents alone"
-
--- what reads an input instead: the command has the mode and its options
-abbrev pub hint_text : Hint → (command : List ℕ) → List ℕ
-hint_text hint.Gzip command = codes "is compressed; give it through 'gzip -dc'"
-hint_text hint.Zstd command = codes "is compressed; give it through 'zstd -dc'"
-hint_text hint.Bzip2 command = codes "is compressed; give it through 'bzip2 -dc'"
-hint_text hint.Xz command = codes "is compressed; give it through 'xz -dc'"
-hint_text hint.MongodumpArchive command = codes "is an archive of mongodump; mongodump without '--archive' writes dumps"
-hint_text hint.BsonDocuments command = codes "holds BSON bytes, and no text; './bson decode' reads them"
-hint_text hint.JsonText command =
-    codes "holds text, and no BSON bytes; './bson lines " ++ command ++ codes "' reads a document per line"
-hint_text hint.Utf16 command = codes "is UTF-16, and JSON is UTF-8; give it through 'iconv -f UTF-16 -t UTF-8'"
-hint_text hint.Utf16LittleEndian command =
-    codes "is UTF-16, and JSON is UTF-8; give it through 'iconv -f UTF-16LE -t UTF-8'"
-hint_text hint.Utf16BigEndian command =
-    codes "is UTF-16, and JSON is UTF-8; give it through 'iconv -f UTF-16BE -t UTF-8'"
-hint_text hint.ByteOrderMark command = codes "begins with a byte order mark, which only a named file may"
-hint_text hint.MultilineTexts command =
-    codes "has texts over several lines; './bson " ++ command ++ codes "' reads them"
-hint_text hint.MultilineTextsToEncode command =
-    codes "has texts over several lines; './bson " ++ command ++ codes "' makes a line of each"
-hint_text (hint.Advised given_advice) command = advice_text given_advice
-
--- the mode of a command that reads the input; lines that become bytes are texts for `canonical`
-abbrev pub reading_mode : Input → Purpose → Output → List ℕ
-reading_mode Lines purpose output.Bytes = codes "canonical"
-reading_mode input purpose other_output = mode_arg purpose other_output
-
--- the option that sorts keys is set, and not another that sorts them
-abbrev pub sorts_keys : Purpose → Doubles → KeyOrder → Bool
-sorts_keys purpose.Output Finite Ascending = true
-sorts_keys purpose doubles key_order = false
-
-abbrev pub is_strict : Doubles → Bool
-is_strict Special = true
-is_strict Finite = false
-
-abbrev pub options_of_preprocessing : (reads_v1 : Bool) → DuplicateKeys → List ℕ
-options_of_preprocessing true LastWins = codes " --v1"
-options_of_preprocessing false Reject = codes " --no-double-keys"
-options_of_preprocessing true Reject = codes " --v1 --no-double-keys"
-options_of_preprocessing false LastWins = []
-
-abbrev pub preprocessing_options : Preprocessing → List ℕ
-preprocessing_options preprocessing = options_of_preprocessing preprocessing.v1 preprocessing.duplicate_keys
-
-abbrev pub option_if : (is_given : Bool) → (option : List ℕ) → List ℕ
-option_if is_given option = if is_given then option else []
-
--- the mode and the options of a command that reads the input
-abbrev pub reading_command : Invocation → List ℕ
-reading_command invocation = reading_mode invocation.input invocation.purpose invocation.task.output
-    ++ option_if (sorts_keys invocation.purpose invocation.options.doubles invocation.options.key_order)
-    (codes " --sort-keys")
-    ++ option_if (is_strict invocation.options.doubles) (codes " --strict") ++ preprocessing_options invocation.task.preprocessing
-
--- the line on standard error
-abbrev pub hint_line : (file_name : List ℕ) → Hint → (command : List ℕ) → List ℕ
-hint_line file_name given_hint command =
-    codes "bson: " ++ shown_name file_name (codes "input") ++ codes " " ++ hint_text given_hint command
-
--- the line helps with an input whose first bytes these are, and with whose text this does
-abbrev pub IsHelpFor : Invocation → (file_name first_bytes : List ℕ) → (given_advice : Option Advice) → (line : List ℕ)
-    → Type 0
-IsHelpFor invocation file_name first_bytes given_advice line = (rejected_input : RejectedInput) × (found_hint : Hint)
-    × (rejected_input.input ≡ invocation.input)
-    × (rejected_input.advice ≡ given_advice) × (hint_of rejected_input first_bytes ≡ Some found_hint)
-    × (line ≡ hint_line file_name found_hint (reading_command invocation))
-
--- ---- how a run ended
-
--- the error is that of a text
-abbrev pub is_text_error : Error → Bool
-is_text_error error.CannotRead = false
-is_text_error error.CannotWrite = false
-is_text_error error.OutOfMemory = false
-is_text_error fault = true
-
--- the error is that of a document
-abbrev pub is_document_error : RunFault → Bool
-is_document_error (run_fault.Malformed reason offset) = true
-is_document_error run_fault.FiniteDouble = true
-is_document_error fault = false
-
--- an input was rejected, or a part of it
-abbrev pub is_rejected : Result Counts RunFailure → Bool
-is_rejected (Ok counts) = nat_lt 0 counts.refused
-is_rejected (Err (failure.Text file_name line_number fault position_message)) = is_text_error fault
-is_rejected (Err (failure.Document file_name run_end)) = is_document_error run_end.fault
-is_rejected (Err (failure.NotArray file_name)) = true
-is_rejected (Err run_failure) = false

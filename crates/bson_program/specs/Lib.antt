@@ -7,6 +7,7 @@ pub mod RunFailures
 pub mod Dump
 pub mod SingleText
 pub mod Hints
+pub mod HintTexts
 pub mod TextErrors
 pub mod Texts
 pub mod Digests

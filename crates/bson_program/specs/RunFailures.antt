@@ -1,5 +1,5 @@
 -- Which writer stops a run over files, the settings of a run over documents, and the path of an output.
-use Rattle.std.specs.Prelude.{◌≡◌, ◌≢◌, ◌++◌, ℕ, List, Option, None, Some, codes, string_bytes, MatchOption, String, true}
+use Rattle.std.specs.Prelude.{◌≡◌, ◌≢◌, ◌⊎◌, ◌++◌, ℕ, List, Option, None, Some, codes, map, string_bytes, Contains, MatchOption, String, true}
 use Rattle.std.specs.Fmt.{decimal}
 use Rattle.std.specs.declared.alloc.Global.{Global}
 use Rattle.std.specs.declared.io.Error.{Error}
@@ -22,12 +22,40 @@ use Rattle.bson_program.specs.declared.invocation.Input.TheVariants.{Documents}
 use Rattle.bson_program.specs.declared.invocation.Invocation.{Invocation}
 use Rattle.bson_program.specs.declared.output.PartialFile.{PartialFile}
 use Rattle.bson_program.specs.declared.run.RunFailure.{RunFailure}
+use Rattle.bson_program.specs.declared.run.RunFailure.TheVariants as failure
 use Rattle.bson_program.specs.declared.run.RunFailure.TheVariants.{Input, Output}
 
 -- the file of this name can't be read
 abbrev pub IsInputFailure : (file_name : List ℕ) → RunFailure → Type 0
 IsInputFailure file_name (Input failed_name error) = failed_name.now ≡ file_name
 IsInputFailure file_name failure = ⊥
+
+-- the failure names the file of this name, or an output
+abbrev pub HappensAt : Invocation → (file_name : List ℕ) → RunFailure → Type 0
+HappensAt invocation file_name (Input failed_name error) = failed_name.now ≡ file_name
+HappensAt invocation file_name (Output failed_name error) =
+    (failed_name.now ≡ string_bytes invocation.output) ⊎ (failed_name.now ≡ codes "-")
+HappensAt invocation file_name (failure.InputIsOutput failed_name) = failed_name.now ≡ file_name
+HappensAt invocation file_name failure.OutputIsTerminal = ⊥
+HappensAt invocation file_name (failure.NotArray failed_name) = failed_name.now ≡ file_name
+HappensAt invocation file_name (failure.Text failed_name line_number fault position_message) = failed_name.now ≡ file_name
+HappensAt invocation file_name (failure.Document failed_name run_end) = failed_name.now ≡ file_name
+
+-- the same of one of the inputs
+abbrev pub HappensAtInput : Invocation → RunFailure → Type 0
+HappensAtInput invocation stop = (file_name : List ℕ)
+    × Contains (map (λ input. string_bytes input) invocation.inputs.items) file_name × HappensAt invocation file_name stop
+
+-- the output can't be opened or finished, or bytes would go to a terminal
+abbrev pub IsOutputFileFailure : Invocation → RunFailure → Type 0
+IsOutputFileFailure invocation (Output failed_name error) = failed_name.now ≡ string_bytes invocation.output
+IsOutputFileFailure invocation failure.OutputIsTerminal =
+    (invocation.task.output ≡ output.Bytes) × (string_bytes invocation.output ≡ codes "-")
+IsOutputFileFailure invocation stop = ⊥
+
+-- why a run over all inputs stops
+abbrev pub IsRunFailure : Invocation → RunFailure → Type 0
+IsRunFailure invocation stop = IsOutputFileFailure invocation stop ⊎ HappensAtInput invocation stop
 
 -- ---- writers
 

@@ -1,8 +1,9 @@
 //! Which mistake a rejected text makes, and what reads it.
-ghost use Rattle.std.specs.Prelude.{◌≡◌, ◌<◌, ◌⊎◌, IfSome, length, true};
+ghost use Rattle.std.specs.Prelude.{◌≡◌, ◌<◌, ◌⊎◌, ◌||◌, IfSome, length, true};
 ghost use Rattle.bson_run.specs.ErrorMessages.{IsSubslice};
 ghost use Rattle.bson_program.specs.Hints.{IsAdvice, IsAdviceFor, IsSyntaxAdvice, IsReadUpgraded, IsReadWithV1, IsSplit};
 ghost use Rattle.bson_program.specs.Hints.{advice_for_trailing_data, advice_for_bytes, advice_for_rule};
+ghost use Rattle.bson_program.specs.Hints.{ends_at_finite_double, is_number_error, is_number_reason};
 ghost use Rattle.bson_program.specs.Hints.{is_canonical, is_comment, is_python_or_js_literal, is_not_finite, is_shell_call, is_shell_value};
 
 use crate::hints::{has_non_whitespace, split_first_line, starts_json_text};
@@ -18,12 +19,12 @@ use bson_convert::encode_error::NoBytes;
 use bson_convert::error::Error;
 use bson_json::sequence::{Separator, split_text};
 use bson_run::lines::Counts;
-use bson_run::located::syntax_error_in;
 use bson_run::preprocessed::preprocess_text;
 use bson_run::rule::Rule;
+use bson_run::syntax_error::SyntaxError;
 use bson_run::task::{Criterion, Output, Preprocessing};
 use bson_scalar::doubles::NUMBER_MESSAGE;
-use bson_tree::place::{Place, Reason};
+use bson_tree::place::Reason;
 use std::alloc::Global;
 
 /// The advice for a text that was rejected.
@@ -37,6 +38,8 @@ pub enum Advice {
     MongoShellValue,
     /// `NaN` or an infinity, which are not JSON.
     NotFinite,
+    /// `NaN` or an infinity in a text that `--v1` reads.
+    NotFiniteV1,
     /// Names of Python or JavaScript for values of JSON.
     PythonOrJsLiterals,
     /// A comment.
@@ -62,7 +65,9 @@ pub fn advice_for(
     run_result: &Result<Counts, RunFailure<'_>>,
 ) -> Option<Advice>
     ensures { IfSome result
-        (λ advice. (advice ≡ Advice.FiniteDoubles) ⊎ IsAdvice invocation.now first_bytes.now advice) }
+        (λ advice. ((advice ≡ Advice.FiniteDoubles)
+        × (has_finite_double || ends_at_finite_double invocation.now.options.doubles run_result.now ≡ true))
+        ⊎ IsAdvice invocation.now first_bytes.now advice) }
 {
     if has_finite_double || ends_at_finite_double(invocation.options, run_result) {
         return Some(Advice::FiniteDoubles);
@@ -79,21 +84,34 @@ pub fn advice_for(
     }
 }
 
-// Whether a run ended at a finite double that is read without `--strict`.
-fn ends_at_finite_double(options: Options, run_result: &Result<Counts, RunFailure<'_>>) -> bool {
+// Returns whether a run ended at a finite double that is read without `--strict`.
+fn ends_at_finite_double(options: Options, run_result: &Result<Counts, RunFailure<'_>>) -> bool
+    ensures { result ≡ ends_at_finite_double options.doubles run_result.now }
+{
     if options.doubles == Doubles::Finite {
         return false;
     }
     match run_result {
-        Err(RunFailure::Text(_, _, Error::NotExtendedJson(place), _)) => is_number_error(place),
+        Err(RunFailure::Text(_, _, fault, _)) => is_number_error(fault),
         Err(RunFailure::Document(_, run_end)) => run_end.fault == RunFault::FiniteDouble,
         _ => false,
     }
 }
 
-// Whether a number is wrong only where the specification alone is read.
-fn is_number_error(place: &Place) -> bool {
-    match &place.reason {
+// Returns whether a value is a number that is not a 64-bit integer.
+fn is_number_error(fault: &Error) -> bool
+    ensures { result ≡ is_number_error fault.now }
+{
+    match fault {
+        Error::NotExtendedJson(place) => is_number_reason(&place.reason),
+        _ => false,
+    }
+}
+
+fn is_number_reason(reason: &Reason) -> bool
+    ensures { result ≡ is_number_reason reason.now }
+{
+    match reason {
         Reason::WrongShape(message) => *message == NUMBER_MESSAGE,
         Reason::BadObjectId(_) => false,
     }
@@ -166,7 +184,12 @@ fn advice_for_error(
     ensures { IfSome result (IsAdviceFor invocation.now fault.now text.now) }
 {
     match fault {
-        Error::NotJson => advice_for_syntax_error(alloc, invocation, text),
+        Error::NotJson => match advice_for_syntax_error(alloc, invocation, text) {
+            Some(Advice::NotFinite) if reads_with_v1(alloc, invocation, text) => {
+                Some(Advice::NotFiniteV1)
+            }
+            advice => advice,
+        },
         Error::NotExtendedJson(_) => advice_for_value_error(alloc, invocation, text),
         Error::NoBytes(NoBytes::NoDocument) => Some(Advice::NotADocument),
         _ => None,
@@ -177,7 +200,7 @@ fn advice_for_error(
 fn advice_for_syntax_error(alloc: Global, invocation: &Invocation, text: &[u8]) -> Option<Advice>
     ensures { IfSome result (IsSyntaxAdvice invocation.now text.now) }
 {
-    let Ok(json_error) = syntax_error_in(alloc, invocation.task.preprocessing.v1, text) else {
+    let Ok(json_error) = SyntaxError::of(alloc, invocation.task.preprocessing.v1, text) else {
         return None;
     };
     if json_error.rule == Rule::TrailingData && is_canonical(invocation.task.output) {
@@ -304,19 +327,26 @@ fn is_python_or_js_literal(remaining_bytes: &[u8]) -> bool
 fn advice_for_value_error(alloc: Global, invocation: &Invocation, text: &[u8]) -> Option<Advice>
     ensures { IfSome result (λ advice. (advice ≡ Advice.V1) × IsReadWithV1 invocation.now text.now) }
 {
+    if reads_with_v1(alloc, invocation, text) {
+        Some(Advice::V1)
+    } else {
+        None
+    }
+}
+
+// Returns whether `--v1` is not set, and the text has a value with it.
+fn reads_with_v1(alloc: Global, invocation: &Invocation, text: &[u8]) -> bool
+    ensures { result ≡ true → IsReadWithV1 invocation.now text.now }
+{
     let preprocessing = invocation.task.preprocessing;
     if preprocessing.v1 || is_canonical(invocation.task.output) {
-        return None;
+        return false;
     }
     let with_v1 = Preprocessing {
         v1: true,
         ..preprocessing
     };
-    if reads_upgraded(alloc, invocation.options, with_v1, text) {
-        Some(Advice::V1)
-    } else {
-        None
-    }
+    reads_upgraded(alloc, invocation.options, with_v1, text)
 }
 
 // Returns whether the text that is read instead has a value.

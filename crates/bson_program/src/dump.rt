@@ -5,7 +5,7 @@ ghost use Rattle.std.specs.Io.KnownBytes.{Appends};
 ghost use Rattle.bson_codec.specs.DumpRuns.{EndsAt, IsFaultOfDocument};
 ghost use Rattle.bson_codec.specs.Diagnostics.{diagnostic_of};
 ghost use Rattle.bson_program.specs.Dump.{IsDoneDump};
-ghost use Rattle.bson_program.specs.RunFailures.{document_line};
+ghost use Rattle.bson_program.specs.RunFailures.{HappensAt, document_line};
 
 use crate::invocation::Invocation;
 use crate::progress::{CountingReader, DiagnosticsWriter};
@@ -35,7 +35,9 @@ pub fn run_dump<'a>(
     reader: &mut CountingReader<'_, InputReader>,
     output_writer: &mut OutputWriter,
     diagnostics_writer: &mut DiagnosticsWriter<'_, Stderr>,
-) -> Result<Counts, RunFailure<'a>> {
+) -> Result<Counts, RunFailure<'a>>
+    ensures { IfErr result (HappensAt invocation.now file_name.now) }
+{
     match run_buffered(
         rt.alloc(),
         run_settings(invocation),

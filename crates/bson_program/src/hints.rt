@@ -3,8 +3,9 @@ ghost use Rattle.std.specs.Prelude.{◌≡◌, not, reverse};
 ghost use Rattle.std.specs.List.{find};
 ghost use Rattle.bson_program.specs.Hints.{advice_hint, after_first_line, compression_hint, hint_of_encoding, ends_in_zero_byte, first_line};
 ghost use Rattle.bson_program.specs.Hints.{hint_of, hint_of_dump, hint_of_lines, hint_of_texts, is_whitespace, is_dump};
-ghost use Rattle.bson_program.specs.Hints.{has_non_whitespace, is_utf16_big_endian, is_document_length, is_utf16_little_endian};
-ghost use Rattle.bson_program.specs.Hints.{is_opening_bracket, little_endian_number, opens_multiline_text, starts_json_text};
+ghost use Rattle.bson_program.specs.Hints.{has_non_whitespace, has_utf16_mark, has_utf8_mark, is_utf16_big_endian, is_document_length, is_utf16_little_endian};
+ghost use Rattle.bson_program.specs.Hints.{is_opening_bracket, little_endian_number, opens_multiline_text, starts_json_array, starts_json_text};
+ghost use Rattle.bson_program.specs.Hints.{hint_of_multiline_texts, hint_of_one_line, is_array_to_encode, says_no_more};
 
 use crate::advice::Advice;
 use crate::invocation::Input;
@@ -42,6 +43,8 @@ pub enum Hint {
     MultilineTexts,
     /// Texts over several lines, if bytes are made of each line.
     MultilineTextsToEncode,
+    /// One array, if bytes are made of each line.
+    ArrayToEncode,
     /// A mistake in a text.
     Advised(Advice),
 }
@@ -83,7 +86,7 @@ pub fn hint_for(rejected_input: RejectedInput, first_bytes: &[u8]) -> Option<Hin
 fn hint_for_texts(rejected_input: RejectedInput, first_bytes: &[u8]) -> Option<Hint>
     ensures { result ≡ hint_of_texts rejected_input first_bytes.now }
 {
-    if rejected_input.is_standard_stream && first_bytes.starts_with(b"\xef\xbb\xbf") {
+    if rejected_input.is_standard_stream && has_utf8_mark(first_bytes) {
         return Some(Hint::ByteOrderMark);
     }
     advice_hint(rejected_input.advice)
@@ -94,13 +97,53 @@ fn hint_for_lines(rejected_input: RejectedInput, first_bytes: &[u8]) -> Option<H
     ensures { result ≡ hint_of_lines rejected_input first_bytes.now }
 {
     let (line, other_lines) = split_first_line(first_bytes);
-    if !opens_multiline(line) || !has_non_whitespace(other_lines) {
-        return advice_hint(rejected_input.advice);
+    if opens_multiline(line) && has_non_whitespace(other_lines) {
+        return Some(multiline_hint(rejected_input, first_bytes));
+    }
+    hint_for_one_line(rejected_input, first_bytes)
+}
+
+// Returns the hint if a text per line is expected, and texts are over several lines.
+fn multiline_hint(rejected_input: RejectedInput, first_bytes: &[u8]) -> Hint
+    ensures { result ≡ hint_of_multiline_texts rejected_input first_bytes.now }
+{
+    if is_array_to_encode(rejected_input, first_bytes) {
+        return Hint::ArrayToEncode;
     }
     if rejected_input.writes_bson_bytes {
-        Some(Hint::MultilineTextsToEncode)
+        Hint::MultilineTextsToEncode
     } else {
-        Some(Hint::MultilineTexts)
+        Hint::MultilineTexts
+    }
+}
+
+// Returns the hint if a text per line is expected, and the first line may be one.
+fn hint_for_one_line(rejected_input: RejectedInput, first_bytes: &[u8]) -> Option<Hint>
+    ensures { result ≡ hint_of_one_line rejected_input first_bytes.now }
+{
+    let (_, other_lines) = split_first_line(first_bytes);
+    if is_array_to_encode(rejected_input, first_bytes)
+        && !has_non_whitespace(other_lines)
+        && says_no_more(rejected_input.advice)
+    {
+        return Some(Hint::ArrayToEncode);
+    }
+    advice_hint(rejected_input.advice)
+}
+
+fn is_array_to_encode(rejected_input: RejectedInput, first_bytes: &[u8]) -> bool
+    ensures { result ≡ is_array_to_encode rejected_input first_bytes.now }
+{
+    rejected_input.writes_bson_bytes && starts_json_array(first_bytes)
+}
+
+// Returns whether there is no advice, or only that the value is not a document.
+fn says_no_more(advice: Option<Advice>) -> bool
+    ensures { result ≡ says_no_more advice }
+{
+    match advice {
+        None | Some(Advice::NotADocument) => true,
+        Some(_) => false,
     }
 }
 
@@ -108,7 +151,13 @@ fn hint_for_lines(rejected_input: RejectedInput, first_bytes: &[u8]) -> Option<H
 fn hint_for_dump(rejected_input: RejectedInput, first_bytes: &[u8]) -> Option<Hint>
     ensures { result ≡ hint_of_dump rejected_input first_bytes.now }
 {
-    if starts_json_text(first_bytes) && !is_dump(first_bytes) {
+    if is_dump(first_bytes) {
+        return advice_hint(rejected_input.advice);
+    }
+    if has_utf16_mark(first_bytes) {
+        return Some(Hint::Utf16);
+    }
+    if starts_json_text(first_bytes) || has_utf8_mark(first_bytes) {
         return Some(Hint::JsonText);
     }
     advice_hint(rejected_input.advice)
@@ -149,7 +198,7 @@ fn compression_hint(first_bytes: &[u8]) -> Option<Hint>
 fn encoding_hint(first_bytes: &[u8]) -> Option<Hint>
     ensures { result ≡ hint_of_encoding first_bytes.now }
 {
-    if first_bytes.starts_with(b"\xff\xfe") || first_bytes.starts_with(b"\xfe\xff") {
+    if has_utf16_mark(first_bytes) {
         return Some(Hint::Utf16);
     }
     if is_utf16_little_endian(first_bytes) {
@@ -162,6 +211,20 @@ fn encoding_hint(first_bytes: &[u8]) -> Option<Hint>
         return Some(Hint::BsonDocuments);
     }
     None
+}
+
+// Whether the bytes begin with a byte order mark of UTF-16.
+fn has_utf16_mark(first_bytes: &[u8]) -> bool
+    ensures { result ≡ has_utf16_mark first_bytes.now }
+{
+    first_bytes.starts_with(b"\xff\xfe") || first_bytes.starts_with(b"\xfe\xff")
+}
+
+// Whether the bytes begin with a byte order mark of UTF-8.
+fn has_utf8_mark(first_bytes: &[u8]) -> bool
+    ensures { result ≡ has_utf8_mark first_bytes.now }
+{
+    first_bytes.starts_with(b"\xef\xbb\xbf")
 }
 
 // Whether a text begins there in UTF-16, the lower byte of each unit first.
@@ -237,6 +300,16 @@ fn ends_in_zero_byte(document_length: usize, first_bytes: &[u8]) -> bool
         return true;
     }
     first_bytes[document_length - 1] == 0
+}
+
+// Whether the first byte that is not blank opens an array.
+fn starts_json_array(first_bytes: &[u8]) -> bool
+    ensures { result ≡ starts_json_array first_bytes.now }
+{
+    match first_non_whitespace(first_bytes) {
+        Some(byte) => byte == b'[',
+        None => false,
+    }
 }
 
 /// Whether the first byte that is not blank opens an array or an object.

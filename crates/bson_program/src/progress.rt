@@ -3,13 +3,14 @@ ghost use Rattle.std.specs.Prelude.{◌≡◌, ◌==◌, count_by, OnOk};
 ghost use Rattle.std.specs.Io.KnownBytes.{Appends};
 ghost use Rattle.bson_program.specs.RunFailures.{diagnostics_of_file};
 
+use crate::invocation::{Invocation, STDIO};
 use crate::messages::add_file_name;
 use bson_codec::diagnostic::DiagnosticFormat;
 use std::alloc::Global;
 use std::cell::Cell;
-use std::io::{Read, Write};
+use std::io::{IsTerminal, Read, Write};
 use std::time::{Duration, Instant};
-use std::{io, str};
+use std::{fs, io, str};
 
 /// Milliseconds from one line to the next.
 const MIN_UPDATE_INTERVAL: u64 = 100;
@@ -96,6 +97,36 @@ impl<'a> Progress<'a> {
             self.last_shown.set(None);
             let _ = eprint!(self.rt; "{CLEAR_LINE}");
         }
+    }
+}
+
+/// Returns the total size of the inputs if progress is shown: standard error is a terminal to which no
+/// output goes, and all that is read is files.
+pub fn total_size(rt: &HostRuntime, invocation: &Invocation) -> Option<u64> {
+    let is_output_separate = invocation.output.as_str() != STDIO
+        || invocation.writes_nothing()
+        || !rt.stdout().is_terminal();
+    if !rt.stderr().is_terminal() || !is_output_separate {
+        return None;
+    }
+    let mut total_size = 0u64;
+    for file_name in invocation.inputs.iter() {
+        let file_name = file_name.as_str();
+        let file_name = if file_name == STDIO {
+            "/dev/stdin"
+        } else {
+            file_name
+        };
+        total_size = total_size.saturating_add(file_size(rt, file_name)?);
+    }
+    Some(total_size)
+}
+
+// How many bytes a file has.
+fn file_size(rt: &HostRuntime, file_name: &str) -> Option<u64> {
+    match fs::metadata(rt, file_name) {
+        Ok(metadata) if metadata.is_file() => Some(metadata.len()),
+        _ => None,
     }
 }
 

@@ -1,7 +1,7 @@
 //! The hint that follows the error of an input: what it contains instead, and what reads that.
 ghost use Rattle.std.specs.Prelude.{◌≡◌, IfOk, IfSome, string_bytes};
-ghost use Rattle.bson_program.specs.Hints.{IsHelpFor, advice_text, hint_line, is_rejected, is_strict, option_if, reading_mode, reading_command};
-ghost use Rattle.bson_program.specs.Hints.{sorts_keys, preprocessing_options, hint_text};
+ghost use Rattle.bson_program.specs.HintTexts.{IsHelpFor, advice_text, hint_line, is_rejected, is_strict, option_if, reading_mode, reading_command};
+ghost use Rattle.bson_program.specs.HintTexts.{sorts_keys, preprocessing_options, hint_text};
 
 use crate::advice::Advice;
 use crate::hints::{Hint, RejectedInput, hint_for};
@@ -34,6 +34,9 @@ const SHELL_VALUES_MESSAGE: &str =
 
 const NOT_FINITE_MESSAGE: &str =
     "has NaN or Infinity, which JSON does not have; write {\"$numberDouble\": \"NaN\"}";
+
+const NOT_FINITE_V1_MESSAGE: &str =
+    "has NaN or Infinity, which JSON does not have; they are read with --v1";
 
 const CONTROL_CHARACTER_MESSAGE: &str =
     "has a control character in a string; write a tab as \\t, a newline as \\n, any other as \\u0001";
@@ -179,15 +182,19 @@ fn write_hint(alloc: Global, hint: Hint, command: &str) -> Result<String, AllocE
     match hint {
         Hint::JsonText => {
             format!(in alloc;
-                "holds text, and no BSON bytes; './bson lines {command}' reads a document per line"
+                "holds text, and no BSON bytes; 'bson lines {command}' reads a document per line"
             )
         }
         Hint::MultilineTexts => {
-            format!(in alloc; "has texts over several lines; './bson {command}' reads them")
+            format!(in alloc; "has texts over several lines; 'bson {command}' reads them")
         }
         Hint::MultilineTextsToEncode => {
-            format!(in alloc;
-                "has texts over several lines; './bson {command}' makes a line of each"
+            format!(in alloc; "has texts over several lines; 'bson {command}' makes a line of each")
+        }
+        Hint::ArrayToEncode => {
+            String::from_str(
+                alloc,
+                "has a JSON array, whose documents are encoded with --array",
             )
         }
         Hint::Gzip => String::from_str(alloc, "is compressed; give it through 'gzip -dc'"),
@@ -197,7 +204,7 @@ fn write_hint(alloc: Global, hint: Hint, command: &str) -> Result<String, AllocE
         Hint::MongodumpArchive => String::from_str(alloc, ARCHIVE_MESSAGE),
         Hint::BsonDocuments => String::from_str(
             alloc,
-            "holds BSON bytes, and no text; './bson decode' reads them",
+            "holds BSON bytes, and no text; 'bson decode' reads them",
         ),
         Hint::Utf16 => String::from_str(alloc, UTF_16_MESSAGE),
         Hint::Utf16LittleEndian => String::from_str(alloc, UTF_16_LITTLE_ENDIAN_MESSAGE),
@@ -216,6 +223,7 @@ fn advice_text(advice: Advice) -> &'static str
         Advice::SeveralTexts => "has several texts, which are read without --strict",
         Advice::MongoShellValue => SHELL_VALUES_MESSAGE,
         Advice::NotFinite => NOT_FINITE_MESSAGE,
+        Advice::NotFiniteV1 => NOT_FINITE_V1_MESSAGE,
         Advice::PythonOrJsLiterals =>
             "has names of Python or JavaScript; JSON has true, false and null",
         Advice::Comment => "has a comment, and JSON has none; remove it",

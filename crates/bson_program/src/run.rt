@@ -3,7 +3,7 @@ ghost use Rattle.std.specs.Prelude.{◌≡◌, ◌⊎◌, [], IfErr, IfOk, strin
 ghost use Rattle.bson_run.specs.Diagnostic.{IsDiagnostic};
 ghost use Rattle.bson_run.specs.ErrorMessages.{IsPositionMessage};
 ghost use Rattle.bson_run.specs.Lines.{buffered_text, line_number_of};
-ghost use Rattle.bson_program.specs.RunFailures.{IsDiagnosticsPrefix, IsInputFailure, IsLineReport, IsWriterFailure};
+ghost use Rattle.bson_program.specs.RunFailures.{HappensAt, HappensAtInput, IsRunFailure, IsDiagnosticsPrefix, IsInputFailure, IsLineReport, IsWriterFailure};
 ghost use Rattle.bson_program.specs.RunFailures.{diagnostics_prefix};
 
 use crate::advice::advice_for;
@@ -12,7 +12,7 @@ use crate::dump::run_dump;
 use crate::invocation::{Input, Invocation, STDIO};
 use crate::messages::message_prefix;
 use crate::output::Output;
-use crate::progress::{CountingReader, DiagnosticsWriter, Progress};
+use crate::progress::{CountingReader, DiagnosticsWriter, Progress, total_size};
 use crate::rejection_hint::{is_rejected, rejection_help};
 use crate::streams::{InputReader, OutputWriter};
 use crate::texts::convert_texts;
@@ -56,7 +56,9 @@ pub fn run<'a>(
     rt: &HostRuntime,
     invocation: &'a Invocation,
     hints: &mut Vec<String>,
-) -> Result<Counts, RunFailure<'a>> {
+) -> Result<Counts, RunFailure<'a>>
+    ensures { IfErr result (IsRunFailure invocation.now) }
+{
     if invocation.writes_bson_bytes()
         && invocation.output.as_str() == STDIO
         && rt.stdout().is_terminal()
@@ -97,7 +99,9 @@ fn run_files<'a>(
     output_writer: &mut OutputWriter,
     progress: &Progress<'_>,
     hints: &mut Vec<String>,
-) -> Result<Counts, RunFailure<'a>> {
+) -> Result<Counts, RunFailure<'a>>
+    ensures { IfErr result (HappensAtInput invocation.now) }
+{
     let mut total_counts = Counts {
         lines: 0,
         refused: 0,
@@ -125,7 +129,9 @@ pub fn run_file<'a>(
     output_writer: &mut OutputWriter,
     progress: &Progress<'_>,
     hints: &mut Vec<String>,
-) -> Result<Counts, RunFailure<'a>> {
+) -> Result<Counts, RunFailure<'a>>
+    ensures { IfErr result (HappensAt invocation.now file_name.now) }
+{
     let mut reader = CountingReader {
         reader: open_input(rt, file_name)?,
         progress,
@@ -189,7 +195,9 @@ fn run_over_lines<'a>(
     reader: &mut CountingReader<'_, InputReader>,
     output_writer: &mut OutputWriter,
     diagnostics_writer: &mut DiagnosticsWriter<'_, Stderr>,
-) -> Result<Counts, RunFailure<'a>> {
+) -> Result<Counts, RunFailure<'a>>
+    ensures { IfErr result (HappensAt invocation.now file_name.now) }
+{
     let mut line_run = LineRun::new(rt.alloc(), invocation.task, invocation.on_refusal);
     line_run.options = invocation.options;
     match line_run.run(rt.alloc(), reader, output_writer, diagnostics_writer) {
@@ -259,7 +267,9 @@ fn run_text<'a>(
     file_name: &'a str,
     reader: &mut CountingReader<'_, InputReader>,
     output_writer: &mut OutputWriter,
-) -> Result<Counts, RunFailure<'a>> {
+) -> Result<Counts, RunFailure<'a>>
+    ensures { IfErr result (HappensAt invocation.now file_name.now) }
+{
     match convert_texts(rt.alloc(), invocation, file_name, reader, output_writer) {
         Ok(()) => Ok(Counts {
             lines: 1,
@@ -329,7 +339,9 @@ pub fn check_input_file<'a>(
     rt: &HostRuntime,
     invocation: &Invocation,
     file_name: &'a str,
-) -> Result<(), RunFailure<'a>> {
+) -> Result<(), RunFailure<'a>>
+    ensures { IfErr result (HappensAt invocation.now file_name.now) }
+{
     let is_stdin = file_name == STDIO;
     let input_metadata = match fs::metadata(rt, if is_stdin { "/dev/stdin" } else { file_name }) {
         Ok(input_metadata) => input_metadata,
@@ -363,35 +375,5 @@ fn is_same_file(rt: &HostRuntime, metadata: &Metadata, file_name: &str) -> bool 
                 && metadata.ino() == named_file.ino()
         }
         Err(_) => false,
-    }
-}
-
-/// Returns the total size of the inputs if progress is shown: standard error is a terminal to which no
-/// output goes, and all that is read is files.
-pub fn total_size(rt: &HostRuntime, invocation: &Invocation) -> Option<u64> {
-    let is_output_separate = invocation.output.as_str() != STDIO
-        || invocation.writes_nothing()
-        || !rt.stdout().is_terminal();
-    if !rt.stderr().is_terminal() || !is_output_separate {
-        return None;
-    }
-    let mut total_size = 0u64;
-    for file_name in invocation.inputs.iter() {
-        let file_name = file_name.as_str();
-        let file_name = if file_name == STDIO {
-            "/dev/stdin"
-        } else {
-            file_name
-        };
-        total_size = total_size.saturating_add(file_size(rt, file_name)?);
-    }
-    Some(total_size)
-}
-
-// How many bytes a file has.
-fn file_size(rt: &HostRuntime, file_name: &str) -> Option<u64> {
-    match fs::metadata(rt, file_name) {
-        Ok(metadata) if metadata.is_file() => Some(metadata.len()),
-        _ => None,
     }
 }

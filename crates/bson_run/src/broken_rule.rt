@@ -33,8 +33,7 @@ pub(crate) fn find_broken_rule(
             && !open_brackets.expects_colon
         {
             let expects_key = open_brackets.expects_key();
-            let rule = rule_at_invalid_token(text.as_bytes(), token_offset, expects_key);
-            return Ok((token_offset, rule));
+            return error_at_invalid_token(text, scratch, token_offset, expects_key);
         }
         if let Some(rule) = open_brackets.pass_token(token) {
             let next_offset = reader.offset();
@@ -156,6 +155,59 @@ impl OpenBrackets {
         self.object_bits >>= 1;
         None
     }
+}
+
+// Returns the offset and the rule of an error at bytes that are not a token. If they begin with a number or a
+// literal, and something is after it that continues no word, the error is there, unless no bracket is open.
+fn error_at_invalid_token(
+    text: &str,
+    scratch: &mut Scratch,
+    invalid_offset: usize,
+    expects_key: bool,
+) -> Result<(usize, Rule), AllocError>
+    ensures { IfOk result
+        (λ offset_and_rule. IsValueSyntaxRule offset_and_rule.1 × (offset_and_rule.1 ≢ Rule.Depth)) }
+{
+    let rule = rule_at_invalid_token(text.as_bytes(), invalid_offset, expects_key);
+    if matches!(rule, Rule::Number | Rule::ExpectedValue) {
+        let value_length = length_of_value(text.as_bytes(), invalid_offset, scratch)?;
+        if value_length > 0 {
+            return Ok((invalid_offset.saturating_add(value_length), Rule::Separator));
+        }
+    }
+    Ok((invalid_offset, rule))
+}
+
+// Returns the length of the number or literal at the offset, or 0 if there is none, or only blanks are before it.
+fn length_of_value(
+    bytes: &[u8],
+    offset: usize,
+    scratch: &mut Scratch,
+) -> Result<usize, AllocError> {
+    let (preceding_bytes, following_bytes) = bytes.split_at(offset.min(bytes.len()));
+    if preceding_bytes.trim_ascii_end().is_empty() {
+        return Ok(0);
+    }
+    let word_length = following_bytes
+        .iter()
+        .take_while(|byte| is_word_byte(**byte))
+        .count();
+    let Ok(word) = simdutf8::compat::from_utf8(
+        &following_bytes[..word_length.min(following_bytes.len())],
+    ) else {
+        return Ok(0);
+    };
+    let mut reader = Reader::new(word, scratch)?;
+    Ok(if reader.skip_value(MAX_DEPTH).is_ok() {
+        word.len()
+    } else {
+        0
+    })
+}
+
+// Returns whether a byte continues a number or a word.
+fn is_word_byte(byte: u8) -> bool {
+    byte.is_ascii_alphanumeric() || matches!(byte, b'.' | b'_' | b'+' | b'-')
 }
 
 // Returns the rule that is broken at bytes that are not a token, by the byte there and the last byte

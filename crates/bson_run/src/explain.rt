@@ -4,7 +4,6 @@ ghost use Rattle.bson_tree.specs.Place.{path_text, path_of, segment_of};
 ghost use Rattle.bson_run.specs.ErrorMessages.{IsExplanation, IsQuotedValue, IsQuotingMessage, IsPositionMessage, column_message, path_message, escaped_message};
 ghost use Rattle.bson_run.specs.ErrorMessages.{explanation_message, explanation_offset, explanation_path};
 
-use crate::located::syntax_error_in;
 use crate::preprocessed::{DUPLICATE_KEY, upgrade};
 use crate::quoted_value::{Occurrence, QuotedValue, quote_value_at};
 use crate::shorten::shorten;
@@ -209,7 +208,7 @@ fn explanation_in<'a>(
     ensures { IfOk result (λ explanation. IsExplanation v1 text.now fault.now explanation) }
 {
     match fault {
-        Error::NotJson => Ok(Explanation::Syntax(syntax_error_in(alloc, v1, text)?)),
+        Error::NotJson => Ok(Explanation::Syntax(SyntaxError::of(alloc, v1, text)?)),
         Error::NotExtendedJson(place) => {
             let value = value_at_place(alloc, place, text, upgraded)?;
             let reason = reason_text(alloc, &place.reason, value.quote.as_str())?;

@@ -6,7 +6,7 @@
 //! `accepted` (bytes that are freed before their output is written). Over lines:
 //! `task` (what is requested), `line_run_state` (the line that is read, and the output of those before it) and
 //! `lines` (the whole run). Messages for a rejected text: `syntax_error` (the offset at which bytes are not JSON)
-//! with `rule` (which of its rules they break, which `broken_rule` finds) and `located` (the same in texts of v1), and
+//! with `rule` (which of its rules they break, which `broken_rule` finds), and
 //! `explain` with `quoted_value` (the value at a path), `shorten` (a message, cut and escaped), `position` (lines and
 //! columns) and `diagnostic` (a message on a line, or a JSON object).
 #![tactic(auto)]
@@ -21,7 +21,6 @@ pub mod indented;
 pub mod laws;
 mod line_run_state;
 pub mod lines;
-pub mod located;
 pub mod position;
 pub mod preprocessed;
 mod quoted_value;

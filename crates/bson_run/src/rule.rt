@@ -6,7 +6,7 @@ ghost use Rattle.bson_run.specs.TaskNames.{rule_message};
 ///
 /// ```
 /// let text: &[u8] = b"[1, 2,]";
-/// let syntax_error = SyntaxError::of(alloc, text)?;
+/// let syntax_error = SyntaxError::of(alloc, false, text)?;
 /// println!(rt; "{}", syntax_error.rule.message())?; // expected an element after the comma
 /// ```
 #[derive(Clone, Copy, PartialEq, Eq, Debug)]

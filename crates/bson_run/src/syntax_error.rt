@@ -1,7 +1,7 @@
 //! The offset at which bytes are not JSON.
 ghost use Rattle.std.specs.Prelude.{◌≡◌, ◌↔◌, IfOk, IsTrue, false, string_bytes};
 ghost use Rattle.bson.specs.TextMeaning.{IsNotJsonText};
-ghost use Rattle.bson_run.specs.ErrorMessages.{BreaksRule, IsWellFormedJson, IsTextOfTree, column_and_rule, column_at, line_at};
+ghost use Rattle.bson_run.specs.ErrorMessages.{BreaksRule, IsWellFormedJson, IsTextOfTree, column_and_rule, column_at, line_at, located_text};
 
 use crate::broken_rule::{find_broken_rule, separator_before};
 use crate::position::{column_at, line_at};
@@ -10,6 +10,7 @@ use bson_model::options::KeyOrder;
 use bson_tokens::MAX_DEPTH;
 use bson_tokens::normalize::normalize_text;
 use bson_tokens::number::number;
+use bson_v1::bare_words::{WordForm, replace_words};
 use json::{Reader, Scratch, Token};
 use std::alloc::{AllocError, Global};
 
@@ -17,7 +18,7 @@ use std::alloc::{AllocError, Global};
 ///
 /// ```
 /// let text: &[u8] = b"[1,\n 2 3]";
-/// let syntax_error = SyntaxError::of(alloc, text)?;
+/// let syntax_error = SyntaxError::of(alloc, false, text)?;
 /// println!(rt; "{}:{}", syntax_error.line(text), syntax_error.column(text))?; // 2:4
 /// ```
 #[derive(Clone, Copy, Debug)]
@@ -31,7 +32,8 @@ pub struct SyntaxError {
 }
 
 impl SyntaxError {
-    /// Finds the place at which a text stops to be JSON, and the rule that it breaks there.
+    /// Finds the place at which a text stops to be JSON, and the rule that it breaks there. If `v1` is
+    /// true, the words `NaN`, `Infinity` and `-Infinity` outside of strings are numbers.
     ///
     /// It is the first byte that is not UTF-8. If all are, it is the first token, comma or colon that is not
     /// allowed there, or the bracket that nests deeper than 127. If the bytes have the grammar of JSON, it is
@@ -43,18 +45,23 @@ impl SyntaxError {
     /// # Errors
     ///
     /// Returns `AllocError` if a request for memory is refused.
-    pub fn of(alloc: Global, bytes: &[u8]) -> Result<SyntaxError, AllocError>
-        ensures grammar { IfOk result (λ syntax_error. IsTrue syntax_error.is_number ↔ IsWellFormedJson bytes.now
-            × IsNotJsonText bytes.now) }
-        ensures rule { IfOk result (λ syntax_error. BreaksRule bytes.now syntax_error.rule) }
+    ///
+    /// ```
+    /// let text: &[u8] = b"[NaN, 1 2]";
+    /// let syntax_error = SyntaxError::of(alloc, true, text)?;
+    /// println!(rt; "{}", syntax_error.column(text))?; // 9
+    /// ```
+    pub fn of(alloc: Global, v1: bool, bytes: &[u8]) -> Result<SyntaxError, AllocError>
+        ensures grammar { IfOk result (λ syntax_error. IsTrue syntax_error.is_number
+            ↔ IsWellFormedJson (located_text v1 bytes.now) × IsNotJsonText (located_text v1 bytes.now)) }
+        ensures rule { IfOk result (λ syntax_error. BreaksRule (located_text v1 bytes.now) syntax_error.rule) }
     {
-        match simdutf8::compat::from_utf8(bytes) {
-            Ok(text) => find_syntax_error(alloc, text),
-            Err(error) => Ok(SyntaxError {
-                offset: error.valid_up_to(),
-                is_number: false,
-                rule: Rule::Utf8,
-            }),
+        if !v1 {
+            return find_in_bytes(alloc, bytes);
+        }
+        match replace_words(alloc, WordForm::Digits, bytes)? {
+            Some(located) => find_in_bytes(alloc, &located),
+            None => find_in_bytes(alloc, bytes),
         }
     }
 
@@ -84,6 +91,22 @@ impl SyntaxError {
         let column = self.column(bytes);
         let rule = self.rule.message();
         format!(in alloc; " at column {column} ({rule})")
+    }
+}
+
+// Finds the offset at which the bytes are not JSON.
+fn find_in_bytes(alloc: Global, bytes: &[u8]) -> Result<SyntaxError, AllocError>
+    ensures grammar { IfOk result (λ syntax_error. IsTrue syntax_error.is_number ↔ IsWellFormedJson bytes.now
+        × IsNotJsonText bytes.now) }
+    ensures rule { IfOk result (λ syntax_error. BreaksRule bytes.now syntax_error.rule) }
+{
+    match simdutf8::compat::from_utf8(bytes) {
+        Ok(text) => find_syntax_error(alloc, text),
+        Err(error) => Ok(SyntaxError {
+            offset: error.valid_up_to(),
+            is_number: false,
+            rule: Rule::Utf8,
+        }),
     }
 }
 

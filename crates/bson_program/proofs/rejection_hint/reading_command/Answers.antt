@@ -1,6 +1,6 @@
 use Rattle.std.proofs.Common.{◌∙◌, ap, append_assoc}
 use Rattle.std.specs.Prelude.{codes}
-use Rattle.bson_program.specs.Hints.{option_if}
+use Rattle.bson_program.specs.HintTexts.{option_if}
 use Rattle.bson_program.proofs.Telling.{four}
 use Rattle.bson_program.proofs.rejection_hint.reading_command.Goals as goal
 

@@ -1,5 +1,5 @@
 use Rattle.std.proofs.Common.{ap, refl, sym, ◌∙◌}
-use Rattle.bson_program.specs.Hints.{hint_line}
+use Rattle.bson_program.specs.HintTexts.{hint_line}
 use Rattle.bson_program.proofs.rejection_hint.rejection_help.Goals as goal
 
 pub returns-in-Ok-hint_line : goal.returns-in-Ok-hint_line

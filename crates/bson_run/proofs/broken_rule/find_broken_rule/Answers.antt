@@ -3,6 +3,7 @@ use Rattle.std.proofs.lemmas.List.Sums.{sum_by_push}
 use Rattle.json.specs.Reads.{token_of}
 use Rattle.json.specs.Token.{bad}
 use Rattle.bson_run.specs.ErrorMessages.{closes, opens}
+use Rattle.bson_run.proofs.LinesLaws.{oks_with}
 use Rattle.bson_run.proofs.Rules.{at_bad, at_token}
 use Rattle.bson_run.proofs.broken_rule.find_broken_rule.Goals as goal
 
@@ -11,7 +12,8 @@ returns-in-Some c =
     let i = c.loop-token.invariant in
     let rest = c.next.new.self in
     let next : c.loop-token.reader ≡ bad ∷ rest = search rules in
-    at_bad c.args.text.now c.utf8.text c.requires c.rule_at_invalid_token-rule.result i.0 rest (i.1 ∙ ap (λ ts. i.0 ++ ts) next) c.rule_at_invalid_token-rule.ensures
+    oks_with c.error_at_invalid_token.result c.error_at_invalid_token.ensures
+    (λ error h. at_bad c.args.text.now c.utf8.text c.requires error.1 i.0 rest (i.1 ∙ ap (λ ts. i.0 ++ ts) next) h)
 
 pub returns-in-Some-pass_token : goal.returns-in-Some-pass_token
 returns-in-Some-pass_token c =
