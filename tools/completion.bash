@@ -26,6 +26,8 @@ _bson() {
         COMPREPLY=($(compgen -W "$options" -- "$word"))
     elif [[ -n $mode || $before == -o || $before == --output ]]; then
         mapfile -t COMPREPLY < <(compgen -f -- "$word")
+    elif [[ -n $own ]]; then
+        mapfile -t COMPREPLY < <(compgen -W "$modes" -- "$word"; compgen -f -- "$word")
     else
         COMPREPLY=($(compgen -W "$modes" -- "$word"))
     fi

@@ -8,4 +8,5 @@ mod Spaces
 mod Telling
 mod TextParts
 mod Verdicts
+mod Words
 mod Sequences

@@ -1,12 +1,13 @@
 -- The meaning of the arguments after the program's name, one after another.
-use Rattle.std.specs.Prelude.{◌≡◌, ◌==◌, ◌≢◌, ◌⊎◌, ◌<◌, ◌≤◌, ◌++◌, ℕ, Bool, true, false, List, [], ◌∷◌, Option, None, Some, codes}
-use Rattle.std.specs.Prelude.{bytes_eq, ◌||◌, slice_index, vec_len, if◌then◌else◌}
+use Rattle.std.specs.Prelude.{◌≡◌, ◌==◌, ◌⊎◌, ◌<◌, ◌≤◌, ◌++◌, ℕ, Bool, true, false, List, [], ◌∷◌, Option, None, Some, codes}
+use Rattle.std.specs.Prelude.{bytes_eq, map, slice_index, string_bytes, vec_len, if◌then◌else◌, String}
+use Rattle.std.specs.declared.alloc.Global.{Global}
 use Rattle.std.specs.Fmt.{decimal}
-use Rattle.std.specs.Option.{option_map_or}
 use Rattle.bson_convert.specs.declared.mode.Mode.TheVariants as modes
 use Rattle.bson_run.specs.TaskNames.{output_name}
 use Rattle.bson_codec.specs.declared.diagnostic.DiagnosticFormat.{DiagnosticFormat}
 use Rattle.bson_codec.specs.declared.diagnostic.DiagnosticFormat.TheVariants as format
+use Rattle.bson_run.specs.declared.task.Criterion.TheVariants.{Valid}
 use Rattle.bson_run.specs.declared.task.Output.{Output}
 use Rattle.bson_run.specs.declared.task.Output.TheVariants.{Bytes}
 use Rattle.bson_run.specs.declared.task.Output.TheVariants as output
@@ -17,73 +18,54 @@ use Rattle.bson_program.specs.declared.invocation.Flag.{Flag}
 use Rattle.bson_program.specs.declared.invocation.Flag.TheVariants as flag
 use Rattle.bson_program.specs.declared.invocation.Input.{Input}
 use Rattle.bson_program.specs.declared.invocation.Input.TheVariants.{Text, Lines, Documents}
-use Rattle.bson_program.specs.declared.invocation.UsageError.{UsageError}
 use Rattle.bson_program.specs.declared.invocation.UsageError.TheVariants as usage_error
 use Rattle.bson_program.specs.declared.invocation.Purpose.{Purpose}
 use Rattle.bson_program.specs.declared.invocation.Purpose.TheVariants as purpose
 use Rattle.bson_program.specs.declared.arguments.ArgsSoFar.{ArgsSoFar}
-use Rattle.bson_program.specs.declared.arguments.ParsedArg as arguments
-use Rattle.bson_program.specs.declared.arguments.ParsedArg.TheVariants as parsed
-use Rattle.bson_program.specs.declared.arguments.ExpectedArg.{ExpectedArg}
-use Rattle.bson_program.specs.declared.arguments.ExpectedArg.TheVariants.{AnyArg, OutputFile, IndentWidth, JobCount, FormatName, Operand}
+use Rattle.bson_program.specs.declared.meanings.ExpectedArg.{ExpectedArg}
+use Rattle.bson_program.specs.declared.meanings.ExpectedArg.TheVariants.{AnyArg, Value, Operand}
+use Rattle.bson_program.specs.declared.meanings.Meaning.{Meaning}
+use Rattle.bson_program.specs.declared.meanings.Meaning.TheVariants.{Help, Version, Fails, Expects, Sets, HasValue, Names, File}
+use Rattle.bson_program.specs.declared.meanings.ParsedArg.{ParsedArg}
+use Rattle.bson_program.specs.declared.meanings.ParsedArg.TheVariants as parsed
 
--- ---- arguments
+-- ---- the values of options
 
--- the argument has the option of the output and its file in it
-abbrev pub IsOutputOption : (file arg : List ℕ) → Type 0
-IsOutputOption file arg = (arg ≡ codes "--output=" ++ file) ⊎ (arg ≡ codes "-o" ++ file)
-
--- a number from 1 to the greatest, as it is written, is not the argument
-abbrev pub IsInvalidCount : (maximum : ℕ) → (arg : List ℕ) → Type 0
-IsInvalidCount maximum arg = (count : ℕ) → 0 < count → count ≤ maximum → arg ≡ decimal count → ⊥
+-- the number from 1 to the greatest that the text is, as it is written, or `None`
+abbrev pub IsCount : (maximum : ℕ) → (text : List ℕ) → Option ℕ → Type 0
+IsCount maximum text (Some count) = (text ≡ decimal count) × (0 < count) × (count ≤ maximum)
+IsCount maximum text None = (count : ℕ) → 0 < count → count ≤ maximum → text ≡ decimal count → ⊥
 
 -- the names of the formats of diagnostics
 abbrev pub format_name : DiagnosticFormat → List ℕ
 format_name format.Text = codes "text"
 format_name format.Json = codes "json"
 
-abbrev pub IsInvalidFormat : (arg : List ℕ) → Type 0
-IsInvalidFormat arg = (format : DiagnosticFormat) → arg ≡ format_name format → ⊥
+-- the format that the text names, or `None`
+abbrev pub IsFormat : (text : List ℕ) → Option DiagnosticFormat → Type 0
+IsFormat text (Some format) = text ≡ format_name format
+IsFormat text None = (format : DiagnosticFormat) → text ≡ format_name format → ⊥
 
--- the arguments that are options, each with its value in the argument or after it
-abbrev pub is_option : (arg : List ℕ) → Bool
-is_option arg = bytes_eq arg (codes "--sort-keys") || bytes_eq arg (codes "--strict") || bytes_eq arg (codes "--v1")
-    || bytes_eq arg (codes "--no-double-keys") || bytes_eq arg (codes "--canonical") || bytes_eq arg (codes "--unordered")
-    || bytes_eq arg (codes "--keep-going") || bytes_eq arg (codes "--indent")
-    || bytes_eq arg (codes "--array") || bytes_eq arg (codes "--diagnostics")
-    || bytes_eq arg (codes "--jobs") || bytes_eq arg (codes "-o") || bytes_eq arg (codes "--output")
-    || bytes_eq arg (codes "--help") || bytes_eq arg (codes "-h") || bytes_eq arg (codes "--version")
-    || bytes_eq arg (codes "-v") || bytes_eq arg (codes "--")
+-- the file that the text names
+abbrev pub IsFile : (text : List ℕ) → Option (String Global) → Type 0
+IsFile text (Some file) = string_bytes file ≡ text
+IsFile text None = ⊥
 
--- ---- modes
+-- the argument has an option and its value in it
+abbrev pub IsJoined : Flag → (value arg : List ℕ) → Type 0
+IsJoined flag.Indent value arg = arg ≡ codes "--indent=" ++ value
+IsJoined flag.Jobs value arg = arg ≡ codes "--jobs=" ++ value
+IsJoined flag.Diagnostics value arg = arg ≡ codes "--diagnostics=" ++ value
+IsJoined flag.Output value arg = (arg ≡ codes "--output=" ++ value) ⊎ (arg ≡ codes "-o" ++ value)
+IsJoined flag value arg = ⊥
+
+-- ---- modes and commands
 
 -- the argument that names a mode
 abbrev pub mode_arg : Purpose → Output → List ℕ
 mode_arg purpose.Output output = output_name output
 mode_arg purpose.Digests output = codes "hash"
 mode_arg purpose.Comparison output = codes "same"
-
--- digests and comparisons are of canonical text
-abbrev pub IsNamedKindFor : Purpose → (named_kind : Output) → Type 0
-IsNamedKindFor purpose.Output named_kind = Unit {0}
-IsNamedKindFor purpose named_kind = named_kind ≡ output.Text modes.Canonical
-
--- the argument names this mode
-abbrev pub NamesMode : (arg : List ℕ) → Purpose → (named_kind : Output) → Type 0
-NamesMode arg purpose named_kind = (arg ≡ mode_arg purpose named_kind) × IsNamedKindFor purpose named_kind
-
--- ---- commands
-
--- the input that a command names
-abbrev pub input_of_command : (arg : List ℕ) → Input → Input
-input_of_command arg input = if bytes_eq arg (codes "lines") then Lines
-    else (if bytes_eq arg (codes "decode") then Documents
-    else (if bytes_eq arg (codes "encode") then Lines else input))
-
--- no argument has named another
-abbrev pub is_text : Input → Bool
-is_text Text = true
-is_text input = false
 
 abbrev pub command_of : Input → Option Output → Command
 command_of Text None = command.AllCommands
@@ -92,61 +74,136 @@ command_of Documents named_kind = command.Decode
 command_of Lines (Some Bytes) = command.Encode
 command_of Lines named_kind = command.Lines
 
--- ---- the meaning of the arguments
+-- the output of the mode; `decode` without a mode is `relaxed`
+abbrev pub requested_kind : Input → Option Output → Option Output
+requested_kind Documents None = Some (output.Text modes.Relaxed)
+requested_kind input named_kind = named_kind
 
--- after a mode an argument is a file
-abbrev pub input_after_arg : (arg : List ℕ) → ArgsSoFar → Input
-input_after_arg arg args_so_far = option_map_or (λ named_kind. args_so_far.input) args_so_far.output_kind (input_of_command arg args_so_far.input)
+-- ---- the meaning of an argument
 
--- what an argument sets that is not the value of an option: each option and each command sets its own part, and any
--- other argument none of these
-abbrev pub set_flags : (arg : List ℕ) → (args_so_far : ArgsSoFar) → ArgsSoFar
-set_flags arg args_so_far = record args_so_far {
-  keeps_going = bytes_eq arg (codes "--keep-going") || args_so_far.keeps_going;
-  input = input_after_arg arg args_so_far;
-  sorts_keys = bytes_eq arg (codes "--sort-keys") || args_so_far.sorts_keys;
-  is_strict = bytes_eq arg (codes "--strict") || args_so_far.is_strict;
-  rejects_duplicates = bytes_eq arg (codes "--no-double-keys") || args_so_far.rejects_duplicates;
-  reads_v1 = bytes_eq arg (codes "--v1") || args_so_far.reads_v1;
-  is_canonical = bytes_eq arg (codes "--canonical") || args_so_far.is_canonical;
-  is_unordered = bytes_eq arg (codes "--unordered") || args_so_far.is_unordered;
-  reads_array = bytes_eq arg (codes "--array") || args_so_far.reads_array;
-  expected_arg = if bytes_eq arg (codes "--") then Operand
-      else (if bytes_eq arg (codes "-o") || bytes_eq arg (codes "--output") then OutputFile
-      else (if bytes_eq arg (codes "--indent") then IndentWidth
-      else (if bytes_eq arg (codes "--jobs") then JobCount
-      else (if bytes_eq arg (codes "--diagnostics") then FormatName else args_so_far.expected_arg))));
-}
+abbrev pub option_words : List (List ℕ × Meaning)
+option_words = (codes "--help", Help)
+    ∷ (codes "-h", Help)
+    ∷ (codes "--version", Version)
+    ∷ (codes "-v", Version)
+    ∷ (codes "--doubles", Fails usage_error.RemovedOption)
+    ∷ (codes "--keep-order", Fails usage_error.RemovedOption)
+    ∷ (codes "--", Expects Operand)
+    ∷ (codes "-o", Expects (Value flag.Output))
+    ∷ (codes "--output", Expects (Value flag.Output))
+    ∷ (codes "--indent", Expects (Value flag.Indent))
+    ∷ (codes "--jobs", Expects (Value flag.Jobs))
+    ∷ (codes "--diagnostics", Expects (Value flag.Diagnostics))
+    ∷ (codes "--keep-going", Sets flag.KeepGoing)
+    ∷ (codes "--sort-keys", Sets flag.SortKeys)
+    ∷ (codes "--strict", Sets flag.Strict)
+    ∷ (codes "--no-double-keys", Sets flag.NoDuplicateKeys)
+    ∷ (codes "--v1", Sets flag.V1)
+    ∷ (codes "--canonical", Sets flag.Canonical)
+    ∷ (codes "--unordered", Sets flag.Unordered)
+    ∷ (codes "--array", Sets flag.Array)
+    ∷ []
 
--- an argument that is an option sets what the table says; arguments for files, the mode, numbers and the format of diagnostics set
--- the rest
-abbrev pub SetsOption : (arg : List ℕ) → (old new : ArgsSoFar) → Type 0
-SetsOption arg old new = new ≡ record (set_flags arg old) {
-  output_kind = new.output_kind;
-  purpose = new.purpose;
-  diagnostics = new.diagnostics;
-  indent = new.indent;
-  jobs = new.jobs;
-  output = new.output;
-  inputs = new.inputs;
-}
+-- the modes, and the commands, which come first
+abbrev pub mode_words : Input → List (List ℕ × Meaning)
+mode_words input = (codes "canonical", Names input purpose.Output (Some (output.Text modes.Canonical)))
+    ∷ (codes "relaxed", Names input purpose.Output (Some (output.Text modes.Relaxed)))
+    ∷ (codes "show", Names input purpose.Output (Some (output.Text modes.Show)))
+    ∷ (codes "check", Names input purpose.Output (Some (output.Nothing Valid)))
+    ∷ (codes "hash", Names input purpose.Digests (Some (output.Text modes.Canonical)))
+    ∷ (codes "same", Names input purpose.Comparison (Some (output.Text modes.Canonical)))
+    ∷ []
 
--- the argument is the one that the argument before it expects
-abbrev pub AcceptsExpectedArg : ExpectedArg → (arg : List ℕ) → (old new : ArgsSoFar) → Type 0
-AcceptsExpectedArg AnyArg arg old new = SetsOption arg old new
-AcceptsExpectedArg OutputFile arg old new = new ≡ record old { expected_arg = AnyArg; output = new.output }
-AcceptsExpectedArg IndentWidth arg old new = new ≡ record old { expected_arg = AnyArg; indent = new.indent }
-AcceptsExpectedArg JobCount arg old new = new ≡ record old { expected_arg = AnyArg; jobs = new.jobs }
-AcceptsExpectedArg FormatName arg old new = new ≡ record old { expected_arg = AnyArg; diagnostics = new.diagnostics }
-AcceptsExpectedArg Operand arg old new = new ≡ record old {
-  output_kind = new.output_kind;
-  purpose = new.purpose;
-  input = input_after_arg arg old;
-  inputs = new.inputs;
-}
+abbrev pub command_words : Input → List (List ℕ × Meaning)
+command_words Text = (codes "lines", Names Lines purpose.Output None)
+    ∷ (codes "decode", Names Documents purpose.Output None)
+    ∷ (codes "encode", Names Lines purpose.Output (Some Bytes))
+    ∷ []
+command_words input = []
 
-abbrev pub AcceptsArg : (arg : List ℕ) → (old new : ArgsSoFar) → Type 0
-AcceptsArg arg old new = AcceptsExpectedArg old.expected_arg arg old new
+-- the meaning in the row of the argument, if it has one
+abbrev pub meaning_in : (words : List (List ℕ × Meaning)) → (arg : List ℕ) → (otherwise : Meaning) → Meaning
+meaning_in [] arg otherwise = otherwise
+meaning_in (row ∷ rows) arg otherwise = if bytes_eq arg row.0 then row.1 else meaning_in rows arg otherwise
+
+-- any other word is a file, if a mode is named or `decode` has its default
+abbrev pub file_meaning : Option Output → Meaning
+file_meaning (Some named_kind) = File named_kind
+file_meaning None = Fails usage_error.UnknownMode
+
+abbrev pub command_meaning : (arg : List ℕ) → Input → Meaning
+command_meaning arg input = meaning_in (command_words input) arg (file_meaning (requested_kind input None))
+
+abbrev pub mode_meaning : (arg : List ℕ) → Input → Meaning
+mode_meaning arg input = meaning_in (mode_words input) arg (command_meaning arg input)
+
+-- after a mode a word is a file
+abbrev pub operand_meaning : (arg : List ℕ) → Input → Option Output → Meaning
+operand_meaning arg input None = mode_meaning arg input
+operand_meaning arg input (Some named_kind) = File named_kind
+
+-- before a mode `help` requests help
+abbrev pub word_meaning : (arg : List ℕ) → Input → Option Output → Meaning
+word_meaning arg input None = if bytes_eq arg (codes "help") then Help else mode_meaning arg input
+word_meaning arg input (Some named_kind) = File named_kind
+
+abbrev pub any_meaning : (arg : List ℕ) → Input → Option Output → Meaning
+any_meaning arg input named_kind = meaning_in option_words arg
+    (if bytes_eq arg (codes "-") then operand_meaning arg input named_kind
+    else (if slice_index arg 0 == 45 then HasValue else word_meaning arg input named_kind))
+
+-- the meaning of an argument, if this kind is expected
+abbrev pub meaning_of : ExpectedArg → (arg : List ℕ) → Input → Option Output → Meaning
+meaning_of AnyArg arg input named_kind = any_meaning arg input named_kind
+meaning_of (Value flag) arg input named_kind = Sets flag
+meaning_of Operand arg input named_kind = operand_meaning arg input named_kind
+
+-- ---- what an argument changes
+
+-- the option is set to its value, and nothing else changes
+abbrev pub IsSet : Flag → (value : List ℕ) → (old new : ArgsSoFar) → Type 0
+IsSet flag.SortKeys value old new = new ≡ record old { sorts_keys = true }
+IsSet flag.Strict value old new = new ≡ record old { is_strict = true }
+IsSet flag.V1 value old new = new ≡ record old { reads_v1 = true }
+IsSet flag.NoDuplicateKeys value old new = new ≡ record old { rejects_duplicates = true }
+IsSet flag.Canonical value old new = new ≡ record old { is_canonical = true }
+IsSet flag.KeepGoing value old new = new ≡ record old { keeps_going = true }
+IsSet flag.Unordered value old new = new ≡ record old { is_unordered = true }
+IsSet flag.Array value old new = new ≡ record old { reads_array = true }
+IsSet flag.Indent value old new = (new ≡ record old { indent = new.indent }) × IsCount 16 value new.indent
+IsSet flag.Jobs value old new = (new ≡ record old { jobs = new.jobs }) × IsCount 9999 value new.jobs
+IsSet flag.Diagnostics value old new = (new ≡ record old { diagnostics = new.diagnostics }) × IsFormat value new.diagnostics
+IsSet flag.Output value old new = (new ≡ record old { output = new.output }) × IsFile value new.output
+
+-- the option was not set, and has one of its values now, or the result is what is wrong
+abbrev pub IsSetOnce : (is_set : Bool) → Flag → (value : List ℕ) → (old new : ArgsSoFar) → ParsedArg → Type 0
+IsSetOnce true flag value old new result = result ≡ parsed.InvalidUsage (usage_error.OptionTwice flag)
+IsSetOnce false flag value old new result = IsSet flag value old new
+    × (result ≡ (if has_flag flag new then parsed.AcceptedArg else parsed.InvalidUsage (usage_error.BadOptionValue flag)))
+
+-- the option and the value that the argument has, or the result for an unknown option
+abbrev pub IsValueSet : (arg : List ℕ) → (old new : ArgsSoFar) → ParsedArg → Type 0
+IsValueSet arg old new result =
+    ((flag : Flag) × (value : List ℕ) × IsJoined flag value arg × IsSetOnce (has_flag flag old) flag value old new result)
+    ⊎ (((flag : Flag) → (value : List ℕ) → IsJoined flag value arg → ⊥) × (result ≡ parsed.InvalidUsage usage_error.UnknownOption))
+
+-- what an argument with this meaning changes, and its result; the state counts only if the argument is accepted
+abbrev pub Changes : Meaning → (arg : List ℕ) → (old new : ArgsSoFar) → ParsedArg → Type 0
+Changes Help arg old new result = result ≡ parsed.Help
+Changes Version arg old new result = result ≡ parsed.Version
+Changes (Fails error_kind) arg old new result = result ≡ parsed.InvalidUsage error_kind
+Changes (Expects expected_arg) arg old new result = (result ≡ parsed.AcceptedArg) × (new ≡ record old { expected_arg = expected_arg })
+Changes (Sets flag) arg old new result = IsSetOnce (has_flag flag old) flag arg (record old { expected_arg = AnyArg }) new result
+Changes HasValue arg old new result = IsValueSet arg old new result
+Changes (Names input purpose output_kind) arg old new result = (result ≡ parsed.AcceptedArg)
+    × (new ≡ record old { input = input; purpose = purpose; output_kind = output_kind })
+Changes (File named_kind) arg old new result = (result ≡ parsed.AcceptedArg)
+    × (new ≡ record old { output_kind = Some named_kind; inputs = new.inputs })
+    × (map string_bytes new.inputs.items ≡ map string_bytes old.inputs.items ++ arg ∷ [])
+
+-- the result for an argument, and the state after it
+abbrev pub IsParsed : (arg : List ℕ) → (old new : ArgsSoFar) → ParsedArg → Type 0
+IsParsed arg old new result = Changes (meaning_of old.expected_arg arg old.input old.output_kind) arg old new result
 
 -- the state before the first argument
 abbrev pub IsInitialState : ArgsSoFar → Type 0
@@ -173,66 +230,5 @@ IsInitialState args_so_far = args_so_far ≡ record args_so_far {
 pub data AreParsed : (args : List (List ℕ)) → ArgsSoFar → Type 0 where
   no_args : (args_so_far : ArgsSoFar) → IsInitialState args_so_far → vec_len args_so_far.inputs ≡ 0 → AreParsed [] args_so_far
   one_more_arg : {args : List (List ℕ)} {old : ArgsSoFar} (arg : List ℕ) (new : ArgsSoFar) → AreParsed args old
-      → AcceptsArg arg old new
+      → IsParsed arg old new parsed.AcceptedArg
       → AreParsed (args ++ arg ∷ []) new
-
--- ---- arguments that are not accepted
-
--- the argument names a mode, or, as the first, a command
-abbrev pub IsModeOrCommand : Input → (arg : List ℕ) → Type 0
-IsModeOrCommand Text arg = ((purpose : Purpose) × (output : Output) × (arg ≡ mode_arg purpose output)) ⊎ (arg ≡ codes "lines")
-    ⊎ (arg ≡ codes "decode")
-IsModeOrCommand input arg = (purpose : Purpose) × (output : Output) × (output ≢ Bytes) × (arg ≡ mode_arg purpose output)
-
--- the argument, or the part after its option, is not the expected value
-abbrev pub HasInvalidValue : (IsInvalid : List ℕ → Type 0) → (option arg : List ℕ) → Type 0
-HasInvalidValue IsInvalid option arg = (text : List ℕ) × IsInvalid text × ((arg ≡ text) ⊎ (arg ≡ option ++ text))
-
--- the argument begins as an option
-abbrev pub StartsWithDash : (arg : List ℕ) → Type 0
-StartsWithDash arg = (slice_index arg 0 == 45) ≡ true
-
--- why the argument is not accepted after those before it
-abbrev pub IsUsageError : ArgsSoFar → (arg : List ℕ) → UsageError → Type 0
-IsUsageError args_so_far arg usage_error.UnknownOption = StartsWithDash arg × (is_option arg ≡ false)
-IsUsageError args_so_far arg usage_error.UnknownMode = (args_so_far.output_kind ≡ None)
-    × (IsModeOrCommand args_so_far.input arg → ⊥)
-IsUsageError args_so_far arg usage_error.RemovedOption = (arg ≡ codes "--doubles") ⊎ (arg ≡ codes "--keep-order")
-IsUsageError args_so_far arg (usage_error.OptionTwice flag) = has_flag flag args_so_far ≡ true
-IsUsageError args_so_far arg (usage_error.BadOptionValue flag.Indent) = HasInvalidValue (IsInvalidCount 16) (codes "--indent=") arg
-IsUsageError args_so_far arg (usage_error.BadOptionValue flag.Jobs) = HasInvalidValue (IsInvalidCount 9999) (codes "--jobs=") arg
-IsUsageError args_so_far arg (usage_error.BadOptionValue flag.Diagnostics) =
-    HasInvalidValue IsInvalidFormat (codes "--diagnostics=") arg
-IsUsageError args_so_far arg error_kind = ⊥
-
--- the argument requests help: `help` is a file after a mode
-abbrev pub RequestsHelp : ArgsSoFar → (arg : List ℕ) → Type 0
-RequestsHelp args_so_far arg = (arg ≡ codes "--help") ⊎ (arg ≡ codes "-h")
-    ⊎ ((arg ≡ codes "help") × (args_so_far.output_kind ≡ None))
-
--- the result for an argument after those before it
-abbrev pub IsParsed : ArgsSoFar → (arg : List ℕ) → arguments.ParsedArg → Type 0
-IsParsed args_so_far arg parsed.AcceptedArg = Unit {0}
-IsParsed args_so_far arg parsed.Help = RequestsHelp args_so_far arg
-IsParsed args_so_far arg parsed.Version = (arg ≡ codes "--version") ⊎ (arg ≡ codes "-v")
-IsParsed args_so_far arg (parsed.InvalidUsage error_kind) = IsUsageError args_so_far arg error_kind
-
--- ---- for private clauses
-
--- the value of an option is in the text, or the option occurs twice
-abbrev pub IsParsedValue : Flag → (IsInvalid : List ℕ → Type 0) → ArgsSoFar → (text : List ℕ) → arguments.ParsedArg → Type 0
-IsParsedValue flag IsInvalid args_so_far text parsed.AcceptedArg = Unit {0}
-IsParsedValue flag IsInvalid args_so_far text (parsed.InvalidUsage error_kind) =
-    ((error_kind ≡ usage_error.OptionTwice flag) × (has_flag flag args_so_far ≡ true))
-    ⊎ ((error_kind ≡ usage_error.BadOptionValue flag) × IsInvalid text)
-IsParsedValue flag IsInvalid args_so_far text parsed_arg = ⊥
-
-abbrev pub IsParsedOutputFile : ArgsSoFar → arguments.ParsedArg → Type 0
-IsParsedOutputFile args_so_far parsed.AcceptedArg = Unit {0}
-IsParsedOutputFile args_so_far (parsed.InvalidUsage (usage_error.OptionTwice flag.Output)) = has_flag flag.Output args_so_far ≡ true
-IsParsedOutputFile args_so_far parsed_arg = ⊥
-
--- the value of an option is in its argument, or the argument is not an option
-abbrev pub IsValueInArg : ArgsSoFar → (arg : List ℕ) → arguments.ParsedArg → Type 0
-IsValueInArg args_so_far arg parsed_arg = (parsed_arg ≡ parsed.InvalidUsage usage_error.UnknownOption)
-    ⊎ IsParsed args_so_far arg parsed_arg

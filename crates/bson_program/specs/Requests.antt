@@ -1,6 +1,6 @@
 -- What all arguments request.
 use Rattle.std.specs.Prelude.{◌≡◌, ◌≢◌, ◌⊎◌, ◌<◌, ℕ, Bool, true, false, List, [], ◌∷◌, Option, None, Some, codes}
-use Rattle.std.specs.Prelude.{Contains, get_or, length, map, string_bytes, take, vec_len, if◌then◌else◌, String, Vec}
+use Rattle.std.specs.Prelude.{get_or, length, map, string_bytes, take, vec_len, if◌then◌else◌, String, Vec}
 use Rattle.std.specs.declared.alloc.Global.{Global}
 use Rattle.std.specs.Option.{option_map_or}
 use Rattle.bson_convert.specs.declared.mode.Mode.TheVariants as modes
@@ -16,7 +16,7 @@ use Rattle.bson_run.specs.declared.task.Output.TheVariants as output
 use Rattle.bson_model.specs.declared.options.DuplicateKeys.{DuplicateKeys}
 use Rattle.bson_model.specs.declared.options.DuplicateKeys.TheVariants.{LastWins, Reject}
 use Rattle.bson_program.specs.Flags.{is_unsupported, requested_input}
-use Rattle.bson_program.specs.Invocation.{command_of, mode_arg, AreParsed, IsUsageError, RequestsHelp}
+use Rattle.bson_program.specs.Invocation.{command_of, requested_kind, AreParsed, IsParsed}
 use Rattle.bson_program.specs.declared.invocation.Request.{Request}
 use Rattle.bson_program.specs.declared.invocation.Request.TheVariants.{Run, Help, Version, InvalidUsage}
 use Rattle.bson_program.specs.declared.invocation.Command.{Command}
@@ -28,8 +28,10 @@ use Rattle.bson_program.specs.declared.invocation.Invocation.{Invocation}
 use Rattle.bson_program.specs.declared.invocation.Purpose.{Purpose}
 use Rattle.bson_program.specs.declared.invocation.Purpose.TheVariants as purpose
 use Rattle.bson_program.specs.declared.arguments.ArgsSoFar.{ArgsSoFar}
-use Rattle.bson_program.specs.declared.arguments.ExpectedArg.{ExpectedArg}
-use Rattle.bson_program.specs.declared.arguments.ExpectedArg.TheVariants.{OutputFile, IndentWidth, JobCount, FormatName}
+use Rattle.bson_program.specs.declared.meanings.ExpectedArg.{ExpectedArg}
+use Rattle.bson_program.specs.declared.meanings.ExpectedArg.TheVariants.{Value}
+use Rattle.bson_program.specs.declared.meanings.ParsedArg.{ParsedArg}
+use Rattle.bson_program.specs.declared.meanings.ParsedArg.TheVariants as parsed
 use Rattle.bson.specs.Doubles.{Doubles}
 use Rattle.bson.specs.Doubles.TheVariants.{Finite, Special}
 use Rattle.bson_scalar.specs.declared.form.Layout.{Layout}
@@ -127,10 +129,7 @@ IsOptionError args_so_far output error_kind = ⊥
 
 -- the option whose value is missing
 abbrev pub option_without_value : ExpectedArg → Option Flag
-option_without_value OutputFile = Some flag.Output
-option_without_value IndentWidth = Some flag.Indent
-option_without_value JobCount = Some flag.Jobs
-option_without_value FormatName = Some flag.Diagnostics
+option_without_value (Value flag) = Some flag
 option_without_value expected_arg = None
 
 -- ---- what is asked for
@@ -158,7 +157,7 @@ or_standard_input (name ∷ names) = name ∷ names
 -- the run that the arguments request
 pub record IsInvocationOf (args_so_far : ArgsSoFar) (invocation : Invocation) : Type 0 where
   pub named_kind : Output
-  pub is_named_kind : args_so_far.output_kind ≡ Some named_kind
+  pub is_named_kind : requested_kind args_so_far.input args_so_far.output_kind ≡ Some named_kind
   pub no_missing_value : option_without_value args_so_far.expected_arg ≡ None
   pub options_fit_mode : OptionsFitMode args_so_far (with_criterion args_so_far.is_canonical named_kind)
   pub task : invocation.task ≡ requested_task args_so_far named_kind
@@ -176,8 +175,9 @@ pub record IsInvocationOf (args_so_far : ArgsSoFar) (invocation : Invocation) : 
 -- what is wrong with all arguments, if each was accepted
 abbrev pub IsErrorOfAllArgs : ArgsSoFar → UsageError → Type 0
 IsErrorOfAllArgs args_so_far (usage_error.BadOptionValue flag) = option_without_value args_so_far.expected_arg ≡ Some flag
-IsErrorOfAllArgs args_so_far usage_error.NoMode = args_so_far.output_kind ≡ None
-IsErrorOfAllArgs args_so_far error_kind = (named_kind : Output) × (args_so_far.output_kind ≡ Some named_kind)
+IsErrorOfAllArgs args_so_far usage_error.NoMode = requested_kind args_so_far.input args_so_far.output_kind ≡ None
+IsErrorOfAllArgs args_so_far error_kind = (named_kind : Output)
+    × (requested_kind args_so_far.input args_so_far.output_kind ≡ Some named_kind)
     × IsOptionError args_so_far (with_criterion args_so_far.is_canonical named_kind) error_kind
 
 -- the result for all arguments, if no help was requested: a run, or what is wrong
@@ -187,29 +187,27 @@ IsRequestOf args_so_far (InvalidUsage invalid_usage) = IsErrorOfAllArgs args_so_
     × (invalid_usage.command ≡ command_of args_so_far.input args_so_far.output_kind)
 IsRequestOf args_so_far request = ⊥
 
--- the argument is among the arguments, and this is the state after those before it
-pub record IsArgAfter (args : List (List ℕ)) (args_so_far : ArgsSoFar) (arg : List ℕ) : Type 0 where
+-- the first argument that is not accepted, with its result and the command that those before it name
+pub record IsLastArg (args : List (List ℕ)) (arg : List ℕ) (command : Command) (result : ParsedArg) : Type 0 where
   pub arg_index : ℕ
   pub in_range : arg_index < length args
   pub is_arg : get_or args arg_index arg ≡ arg
-  pub parsed_before : AreParsed (take arg_index args) args_so_far
+  pub old : ArgsSoFar
+  pub new : ArgsSoFar
+  pub parsed_before : AreParsed (take arg_index args) old
+  pub is_result : IsParsed arg old new result
+  pub is_command : command ≡ command_of old.input old.output_kind
 
 -- what each request says of the arguments: a run is what all of them request, and any other request is that of the
--- first argument that requests help, or is not accepted, or that of all arguments
+-- first argument that is not accepted, as one for help, or that of all arguments
 abbrev pub IsRequestedBy : (args : List (List ℕ)) → Request → Type 0
-IsRequestedBy args (Run invocation) =
-    Contains args (mode_arg invocation.purpose invocation.task.output)
-    × IsOutputFor invocation.purpose invocation.options.key_order invocation.task.output
+IsRequestedBy args (Run invocation) = IsOutputFor invocation.purpose invocation.options.key_order invocation.task.output
     × ((args_so_far : ArgsSoFar) × AreParsed args args_so_far × IsInvocationOf args_so_far invocation)
-IsRequestedBy args (Help command) = (args_so_far : ArgsSoFar) × (arg : List ℕ) × IsArgAfter args args_so_far arg
-    × RequestsHelp args_so_far arg
-    × (command ≡ command_of args_so_far.input args_so_far.output_kind)
-IsRequestedBy args Version = Contains args (codes "--version") ⊎ Contains args (codes "-v")
-IsRequestedBy args (InvalidUsage invalid_usage) = (args_so_far : ArgsSoFar)
-    × (invalid_usage.command ≡ command_of args_so_far.input args_so_far.output_kind)
-    × ((AreParsed args args_so_far × IsErrorOfAllArgs args_so_far invalid_usage.usage_error)
-    ⊎ (IsArgAfter args args_so_far (string_bytes invalid_usage.arg)
-    × IsUsageError args_so_far (string_bytes invalid_usage.arg) invalid_usage.usage_error))
+IsRequestedBy args (Help command) = (arg : List ℕ) × IsLastArg args arg command parsed.Help
+IsRequestedBy args Version = (arg : List ℕ) × (command : Command) × IsLastArg args arg command parsed.Version
+IsRequestedBy args (InvalidUsage invalid_usage) =
+    ((args_so_far : ArgsSoFar) × AreParsed args args_so_far × IsRequestOf args_so_far (InvalidUsage invalid_usage))
+    ⊎ IsLastArg args (string_bytes invalid_usage.arg) invalid_usage.command (parsed.InvalidUsage invalid_usage.usage_error)
 
 -- ---- for private clauses
 

@@ -30,7 +30,7 @@ pub fn usage_of(command: Command) -> &'static str {
        bson lines same [OPTION ..] FILE FILE"
         }
         Command::Decode => {
-            "usage: bson decode canonical|relaxed|show|check|hash [OPTION ..] [FILE ..]
+            "usage: bson decode [canonical|relaxed|show|check|hash] [OPTION ..] [FILE ..]
        bson decode same [OPTION ..] FILE FILE"
         }
         Command::Encode => "usage: bson encode [OPTION ..] [FILE ..]",
@@ -40,7 +40,7 @@ pub fn usage_of(command: Command) -> &'static str {
 /// The usage of all commands.
 pub const USAGE: &str = "usage: bson canonical|relaxed|show|check|hash [OPTION ..] [FILE ..]
        bson lines canonical|relaxed|show|check|hash [OPTION ..] [FILE ..]
-       bson decode canonical|relaxed|show|check|hash [OPTION ..] [FILE ..]
+       bson decode [canonical|relaxed|show|check|hash] [OPTION ..] [FILE ..]
        bson same|lines same|decode same [OPTION ..] FILE FILE
        bson encode [OPTION ..] [FILE ..]";
 
@@ -95,13 +95,14 @@ files, and reports the first difference. Blank lines are counted, and write noth
 
 /// The help of `decode`.
 const DECODE_HELP: &str =
-    "usage: bson decode canonical|relaxed|show|check|hash [OPTION ..] [FILE ..]
+    "usage: bson decode [canonical|relaxed|show|check|hash] [OPTION ..] [FILE ..]
        bson decode same [OPTION ..] FILE FILE
 
-Reads concatenated documents of BSON 1.1, as in a dump, and writes a line for each. It needs the memory of the largest
-document, which may nest 100 levels deep. `check` only checks the bytes. `hash` writes the SHA-256 digest of each canonical
-form with sorted keys. `same` compares the documents of two files, and reports the first difference. A rejected document is
-reported with its number, its offset in the file, and the offset of the error in it.
+Reads concatenated documents of BSON 1.1, as in a dump, and writes a line for each. Without a mode it is `relaxed`, and
+`./show` is a file with the name of a mode. It needs the memory of the largest document, which may nest 100 levels deep.
+`check` only checks the bytes. `hash` writes the SHA-256 digest of each canonical form with sorted keys. `same` compares
+the documents of two files, and reports the first difference. A rejected document is reported with its number, its offset
+in the file, and the offset of the error in it.
 
   --sort-keys             (canonical, relaxed) writes keys in ascending order at every depth
   --strict                (not show, check) rejects finite doubles other than zeros; keys are written in ascending order
@@ -137,7 +138,7 @@ than 2^31 bytes. Bytes are not written to a terminal.
 /// The help of all commands.
 pub const HELP: &str = "usage: bson canonical|relaxed|show|check|hash [OPTION ..] [FILE ..]
        bson lines canonical|relaxed|show|check|hash [OPTION ..] [FILE ..]
-       bson decode canonical|relaxed|show|check|hash [OPTION ..] [FILE ..]
+       bson decode [canonical|relaxed|show|check|hash] [OPTION ..] [FILE ..]
        bson same|lines same|decode same [OPTION ..] FILE FILE
        bson encode [OPTION ..] [FILE ..]
 
@@ -162,8 +163,8 @@ Input is rejected, with one line on standard error, if it is not JSON. It is als
 reported as FILE:LINE:, or with its number for standard input. `check` writes only these reports.
 
 `decode` reads concatenated documents of BSON 1.1, as in a dump. It writes a line for each, in the memory of the largest
-document. `check` only checks the bytes. A rejected document is reported with its number, its offset in the file, and
-the offset of the error in it.
+document, and `bson decode FILE` writes relaxed lines. `check` only checks the bytes. A rejected document is reported
+with its number, its offset in the file, and the offset of the error in it.
 
 `encode` reads one document per line, as `lines` does, and writes their bytes (BSON 1.1) without anything in between.
 `decode canonical` reads this dump as the same lines. A line is rejected if its value is not a document, or if a key or

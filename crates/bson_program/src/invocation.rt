@@ -3,7 +3,8 @@ ghost use Rattle.std.specs.Prelude.{◌≡◌, ◌⊎◌, ◌↔◌, IfOk, IsTru
 ghost use Rattle.bson_program.specs.Requests.{IsRequestedBy};
 ghost use Rattle.bson_run.specs.declared.task.Criterion.{Criterion};
 
-use crate::arguments::{ArgsSoFar, ParsedArg};
+use crate::arguments::ArgsSoFar;
+use crate::meanings::ParsedArg;
 use crate::request::into_request;
 use bson::extjson::Options;
 use bson_run::task::{OnRefusal, Output, Task};

@@ -1,8 +1,8 @@
 //! The program that `./bson` runs. It converts texts, the lines of files, and dumps, and it writes
 //! dumps, as its arguments request.
 //!
-//! The library `bson_run` converts. This crate has the arguments (`invocation`, `arguments`, `option_values`,
-//! `option_effects`, `allowed_options`, `request`), the files (`run`, `streams`, `output`; `texts` for JSON texts with
+//! The library `bson_run` converts. This crate has the arguments (`invocation`, `arguments`, `meanings`,
+//! `option_values`, `option_effects`, `allowed_options`, `request`), the files (`run`, `streams`, `output`; `texts` for JSON texts with
 //! `single_text` for each and `text_errors` for the position of an error, `dump` for BSON documents), digests of lines
 //! (`digests`), comparisons (`compare_files`, `compare_outputs`), the line of progress (`progress`), the lines on standard
 //! error (`messages`, `failure_json`, `usage_error`, `hints`,
@@ -20,6 +20,7 @@ mod failure_json;
 mod help_text;
 mod hints;
 mod invocation;
+mod meanings;
 mod messages;
 mod option_effects;
 mod option_values;

@@ -1,40 +1,24 @@
 //! The effects of the options: the output, the preprocessing, the input, which doubles have a text, the order
-//! of keys, the layout, the format of diagnostics, and that an option occurs once.
-ghost use Rattle.std.specs.Prelude.{◌≡◌, true, if◌then◌else◌};
+//! of keys, the layout, and the format of diagnostics.
+ghost use Rattle.std.specs.Prelude.{◌≡◌};
 ghost use Rattle.bson_program.specs.Flags.{requested_input};
 ghost use Rattle.bson_program.specs.Requests.{option_without_value, accepted_doubles, with_criterion};
 ghost use Rattle.bson_program.specs.Requests.{requested_diagnostics, requested_key_order, requested_layout, requested_preprocessing};
 
-use crate::arguments::{ExpectedArg, ParsedArg};
-use crate::invocation::{Flag, Input, Purpose, UsageError};
+use crate::invocation::{Flag, Input, Purpose};
+use crate::meanings::ExpectedArg;
 use bson::extjson::{Doubles, KeyOrder};
 use bson_codec::diagnostic::DiagnosticFormat;
 use bson_model::options::DuplicateKeys;
 use bson_run::task::{Criterion, Output, Preprocessing};
 use bson_scalar::form::Layout;
 
-/// Sets what an option sets, unless it occurs twice.
-pub fn set_flag(is_set: &mut bool, flag: Flag) -> ParsedArg
-    ensures parsed { result
-        ≡ (if is_set.old then ParsedArg.InvalidUsage (UsageError.OptionTwice flag) else ParsedArg.AcceptedArg) }
-    ensures sets_flag { is_set.new ≡ true }
-{
-    if *is_set {
-        return ParsedArg::InvalidUsage(UsageError::OptionTwice(flag));
-    }
-    *is_set = true;
-    ParsedArg::AcceptedArg
-}
-
 /// Returns the option that waits for its value.
 pub fn option_without_value(expected_arg: ExpectedArg) -> Option<Flag>
     ensures { result ≡ option_without_value expected_arg }
 {
     match expected_arg {
-        ExpectedArg::OutputFile => Some(Flag::Output),
-        ExpectedArg::IndentWidth => Some(Flag::Indent),
-        ExpectedArg::JobCount => Some(Flag::Jobs),
-        ExpectedArg::FormatName => Some(Flag::Diagnostics),
+        ExpectedArg::Value(flag) => Some(flag),
         ExpectedArg::AnyArg | ExpectedArg::Operand => None,
     }
 }

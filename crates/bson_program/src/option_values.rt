@@ -1,10 +1,9 @@
 //! The values of options, and the files.
-ghost use Rattle.std.specs.Prelude.{◌≡◌, ◌<◌, ◌≤◌, ◌==◌, ◌||◌, ℕ, List, None, IfOk, IfSome, map, string_bytes, slice_index};
-ghost use Rattle.std.specs.Fmt.{decimal};
-ghost use Rattle.bson_program.specs.Invocation.{format_name, IsInvalidCount, IsInvalidFormat, IsOutputOption};
+ghost use Rattle.std.specs.Prelude.{◌≡◌, ◌==◌, ◌||◌, ℕ, List, None, IfOk, IfSome, map, string_bytes, slice_index};
+ghost use Rattle.bson_program.specs.Invocation.{IsCount, IsFormat, IsJoined};
 ghost use Rattle.bson_program.specs.Requests.{or_standard_input};
 
-use crate::invocation::STDIO;
+use crate::invocation::{Flag, STDIO};
 use bson_codec::diagnostic::DiagnosticFormat;
 use std::alloc::{AllocError, Global};
 
@@ -21,8 +20,7 @@ pub fn input_files(alloc: Global, mut file_names: Vec<String>) -> Result<Vec<Str
 
 /// Parses a number from 1 to the maximum, with no sign and no zero before it.
 pub fn parse_count(arg: &str, maximum: usize) -> Option<usize>
-    ensures some { IfSome result (λ count. (arg.now ≡ decimal count) × (0 < count) × (count ≤ maximum)) }
-    ensures none { result ≡ None → IsInvalidCount maximum arg.now }
+    ensures { IsCount maximum arg.now result }
 {
     if starts_with_sign_or_zero(arg) {
         return None;
@@ -42,8 +40,7 @@ fn starts_with_sign_or_zero(arg: &str) -> bool
 
 /// Parses the name of a format of diagnostics.
 pub fn parse_format(arg: &str) -> Option<DiagnosticFormat>
-    ensures some { IfSome result (λ format. arg.now ≡ format_name format) }
-    ensures none { result ≡ None → IsInvalidFormat arg.now }
+    ensures { IsFormat arg.now result }
 {
     match arg {
         "text" => Some(DiagnosticFormat::Text),
@@ -61,8 +58,8 @@ pub fn starts_as_option(arg: &str) -> bool
 
 /// Returns the file in an argument that has its option too.
 pub fn output_file_in(arg: &str) -> Option<&str>
-    ensures some { IfSome result (λ file. IsOutputOption file.now arg.now) }
-    ensures none { result ≡ None → (file : List ℕ) → IsOutputOption file arg.now → ⊥ }
+    ensures some { IfSome result (λ file. IsJoined Flag.Output file.now arg.now) }
+    ensures none { result ≡ None → (file : List ℕ) → IsJoined Flag.Output file arg.now → ⊥ }
 {
     if let Some(file_name) = arg.strip_prefix("--output=") {
         return Some(file_name);

@@ -5,6 +5,7 @@ ghost use Rattle.bson_program.specs.Requests.{IsInvalidUsageRequest, IsRequestOf
 use crate::allowed_options::find_option_error;
 use crate::arguments::ArgsSoFar;
 use crate::invocation::{Command, InvalidUsage, Invocation, Request, STDIO, UsageError};
+use crate::meanings::requested_kind;
 use crate::option_effects::{
     accepted_doubles, option_without_value, requested_diagnostics, requested_input,
     requested_key_order, requested_layout, requested_preprocessing, with_criterion,
@@ -23,7 +24,7 @@ pub fn into_request(args_so_far: ArgsSoFar) -> Result<Request, AllocError>
         let usage_error = UsageError::BadOptionValue(flag);
         return Ok(invalid_usage_request(args_so_far.alloc, usage_error, command));
     }
-    let Some(named_kind) = args_so_far.output_kind else {
+    let Some(named_kind) = requested_kind(args_so_far.input, args_so_far.output_kind) else {
         return Ok(invalid_usage_request(args_so_far.alloc, UsageError::NoMode, command));
     };
     let output_kind = with_criterion(args_so_far.is_canonical, named_kind);

@@ -1,10 +1,6 @@
-use Rattle.std.specs.Prelude.{IfSome, map, string_bytes, take}
+use Rattle.std.specs.Prelude.{map, string_bytes, take}
 use Rattle.bson_program.specs.Invocation.{AreParsed}
-use Rattle.bson_program.proofs.Asking.{IsThere}
 use Rattle.bson_program.proofs.invocation.parse_arguments.Given as goal
 
 abbrev pub invariant-loop-arg : goal.invariant-loop-arg
-invariant-loop-arg l = record {
-  args_so_far : AreParsed (take l.arg-index (map string_bytes l.fn.args.items)) l.args_so_far;
-  named_kind : IfSome l.args_so_far.output_kind (IsThere (map string_bytes l.fn.args.items) l.args_so_far.purpose);
-}
+invariant-loop-arg l = AreParsed (take l.arg-index (map string_bytes l.fn.args.items)) l.args_so_far
