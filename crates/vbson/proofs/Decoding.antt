@@ -1,29 +1,19 @@
--- What the status of a document says: of its bytes, where they gave no text, and of its text, where that gave no bytes.
+-- What the status of a document says of its bytes, where they gave no text.
 use Rattle.std.proofs.Common.{◌≡◌, ◌⊎◌, inl, inr, ℕ, List, Some, true, true≢false, refl, sym, ap, subst, ◌∙◌, arith, rules}
-use Rattle.std.specs.Prelude.{IsUtf8}
-use Rattle.serde_json.specs.Data.{Data}
-use Rattle.serde_json.specs.Read.{read}
 use Rattle.bson.specs.Doubles.{Doubles}
 use Rattle.bson.specs.Doubles.TheVariants.{Special, Finite}
 use Rattle.bson.specs.Form.{Form}
 use Rattle.bson.specs.Form.TheVariants as form
 use Rattle.bson_scalar.specs.Forms.{form_in}
-use Rattle.bson.specs.OrderedTexts.{HasMeaningInOrder}
-use Rattle.bson.specs.TextMeaning.{HasTextMeaningIn}
-use Rattle.bson.specs.TextMeaning as meaning
 use Rattle.bson.specs.Texts.{IsTextInKeyOrder, IsTextInOrder}
 use Rattle.bson.specs.View.{bson_view, document_view}
 use Rattle.bson.specs.declared.bson.Bson.{the_lemmas}
 use Rattle.bson.specs.declared.bson.Bson.TheVariants.{Document as held}
 use Rattle.bson.specs.declared.document.Document.{Document}
 use Rattle.bson_model.specs.declared.options.Options.{Options}
-use Rattle.bson.specs.OrderedTrees.{read_in_order}
-use Rattle.bson.specs.MeansInOrder.{MeansInOrder}
 use Rattle.bson_bytes.specs.ReadDocuments.{IsReadAsDocumentIn}
 use Rattle.bson_codec.specs.DocumentText.{IsDocumentTextOf}
-use Rattle.bson_model.specs.Means.{MeansIn}
 use Rattle.bson_model.specs.Normal.{writable_in}
-use Rattle.bson_model.specs.Sorted.{sorted}
 use Rattle.bson_model.specs.Value.{Value, Pairs, document}
 use Rattle.bson_convert.specs.declared.mode.Mode.{Mode}
 use Rattle.bson_convert.specs.declared.mode.Mode.TheVariants.{Canonical, Relaxed, Show}
@@ -129,35 +119,8 @@ pub directly : (keys : DuplicateKeys) (o : Options) (mode : Mode) (f : Form) (by
 directly Reject o mode f bytes text given it = absurd cc
 directly LastWins o mode f bytes text given it = by_options o o.key_order o.doubles mode f bytes text refl refl given it
 
--- ---- texts
+-- ---- values
 
 -- a document as a value is seen as the pairs of the document
 pub document_seen : (d : Document) → bson_view (held d) ≡ document (document_view d)
 document_seen d = search (rules, the_lemmas)
-
--- a text means no two documents
-pub means_one : (D : Doubles) (bytes : List ℕ) (tree : Data) (ps qs : Pairs) → meaning.IsTextOf bytes tree
-    → MeansIn D tree (document ps) → HasTextMeaningIn D bytes (document qs) → ps ≡ qs
-means_one D bytes tree ps qs text means it =
-    let a : read bytes ≡ Some tree = text.tree_read in
-    let b : read bytes ≡ Some it.tree = it.text.tree_read in
-    let same : tree ≡ it.tree = cc in
-    let one : document ps ≡ document qs = it.meaning.one (document ps) (subst (λ t. MeansIn D t (document ps)) same means) in
-    cc
-
--- nor two in order
-pub means_one_in_order : (D : Doubles) (bytes : List ℕ) (ps qs : Pairs) → HasMeaningInOrder D bytes (document ps)
-    → HasMeaningInOrder D bytes (document qs) → ps ≡ qs
-means_one_in_order D bytes ps qs it also =
-    let a : read_in_order bytes ≡ Some it.tree = it.tree_read in
-    let b : read_in_order bytes ≡ Some also.tree = also.tree_read in
-    let same : it.tree ≡ also.tree = cc in
-    let one : document ps ≡ document qs =
-    also.one (document ps) (subst (λ t. MeansInOrder D t (document ps)) same it.means) in
-    cc
-
--- what means a value in order means one by default
-pub means_by_default : (D : Doubles) (bytes : List ℕ) (v : Value) → IsUtf8 bytes → HasMeaningInOrder D bytes v
-    → (tree : Data) × (w : Value) × meaning.IsTextOf bytes tree × MeansIn D tree w
-means_by_default D bytes v utf8 it =
-    (it.by_default.0, sorted v, record { utf8 = utf8; tree_read = it.by_default.1 }, it.by_default.2.means)

@@ -59,8 +59,8 @@ pub extern "C" fn vbson_decode_nonnull(
     status::OK
 }
 
-// The text in the mode of the document that the bytes are, and a newline; or the status. If duplicate
-// keys are rejected, it needs a document in memory.
+// The text in the mode of the document that the bytes are, and a newline; or the status. If the text needs
+// a document in memory, or duplicate keys are rejected, the document is read first.
 fn decode_document(
     alloc: Global,
     keys: DuplicateKeys,
@@ -74,30 +74,17 @@ fn decode_document(
 {
     match streaming_form(keys, options, mode) {
         Some(form) => decode_streaming(alloc, options.layout.form(form), bytes),
-        None => decode_by_value(alloc, keys, options, mode, bytes),
-    }
-}
-
-// The text in the mode, through a document in memory.
-fn decode_by_value(
-    alloc: Global,
-    keys: DuplicateKeys,
-    options: Options,
-    mode: Mode,
-    bytes: &[u8],
-) -> Result<Vec<u8>, u32>
-    ensures ok { IfOk result (λ line. (text : List ℕ) × Decodes keys options mode bytes.now text × IsUtf8 text
-        × (line.items ≡ text ++ newline)) }
-    ensures error_status { IfErr result (λ status. IsDecodeFailure keys options mode status bytes.now) }
-{
-    let read_options = ReadOptions {
-        depth: DEPTH,
-        duplicate_keys: keys,
-    };
-    match from_bytes(alloc, read_options, bytes) {
-        Ok(document) => write_document(alloc, options, mode, document),
-        Err(Error::Malformed { .. }) => Err(status::NOT_A_DOCUMENT),
-        Err(Error::OutOfMemory) => Err(status::OUT_OF_MEMORY),
+        None => {
+            let read_options = ReadOptions {
+                depth: DEPTH,
+                duplicate_keys: keys,
+            };
+            match from_bytes(alloc, read_options, bytes) {
+                Ok(document) => write_document(alloc, options, mode, document),
+                Err(Error::Malformed { .. }) => Err(status::NOT_A_DOCUMENT),
+                Err(Error::OutOfMemory) => Err(status::OUT_OF_MEMORY),
+            }
+        }
     }
 }
 
