@@ -5,7 +5,6 @@ use crate::finite_doubles::read_text;
 use crate::row_error::{RowError, RowResult};
 use crate::row_output::RowOutput;
 use crate::value_steps;
-use bson::Bson;
 use bson::extjson::{Form, KeyOrder, Options};
 
 /// `canonical STEPS` and `relaxed STEPS`: the value that the steps make is written. `read TEXT`, and

@@ -1,5 +1,5 @@
 -- What the status of a fault says of a text.
-use Rattle.std.proofs.Common.{◌≡◌, ◌≤◌, inl, inr, ℕ, List, arith, subst}
+use Rattle.std.proofs.Common.{◌≡◌, ◌≤◌, inr, ℕ, List, arith, subst}
 use Rattle.serde_json.specs.Data.{Data}
 use Rattle.bson.specs.TextMeaning.{IsNotJsonText, IsTextOf}
 use Rattle.bson_tree.specs.Faults.{Fault as TreeFault}

@@ -17,7 +17,7 @@ use Rattle.bson_model.specs.Normal.{writable_in}
 use Rattle.bson_model.specs.Value.{Value, Pairs, document}
 use Rattle.bson_convert.specs.declared.mode.Mode.{Mode}
 use Rattle.bson_convert.specs.declared.mode.Mode.TheVariants.{Canonical, Relaxed, Show}
-use Rattle.vbson.specs.Documents.{Decodes, PairsHaveNoTextIn, IsOneDocument, IsDecodeFailure, depth, streaming_form, streaming_form_in_order, form_of_mode}
+use Rattle.vbson.specs.Documents.{Decodes, PairsHaveNoTextIn, IsOneDocument, IsDecodeFailure, IsTextOfDocument, depth, streaming_form, streaming_form_in_order, form_of_mode}
 use Rattle.bson_model.specs.declared.options.DuplicateKeys.{DuplicateKeys}
 use Rattle.bson_model.specs.declared.options.DuplicateKeys.TheVariants.{LastWins, Reject}
 use Rattle.bson_model.specs.declared.options.KeyOrder.{KeyOrder}
@@ -82,29 +82,30 @@ pub unread_directly : (keys : DuplicateKeys) (o : Options) (mode : Mode) (f : Fo
 unread_directly Reject o mode f status bytes given h = absurd cc
 unread_directly LastWins o mode f status bytes given h = unread LastWins o mode status bytes h
 
+-- a text in the form of the mode is the document's
+pub text_of_mode : (o : Options) (mode : Mode) (f : Form) (ps : Pairs) (text : List ℕ) → form_of_mode mode ≡ Some f
+    → IsTextInKeyOrder o.key_order o.doubles (form_in o.layout f) (document ps) text → IsTextOfDocument o mode ps text
+text_of_mode o Canonical f ps text is h =
+    let same : f ≡ form.Canonical = cc in
+    subst (λ g. IsTextInKeyOrder o.key_order o.doubles (form_in o.layout g) (document ps) text) same h
+text_of_mode o Relaxed f ps text is h =
+    let same : f ≡ form.Relaxed = cc in
+    subst (λ g. IsTextInKeyOrder o.key_order o.doubles (form_in o.layout g) (document ps) text) same h
+text_of_mode o Show f ps text is h = absurd cc
+
 -- the text that is written while the bytes are read is that of the document
 module _ (o : Options) (bytes text : List ℕ) (given : o.key_order ≡ AsGiven) (finite : o.doubles ≡ Finite) where
   under_options : (f : Form) (v : Value) → IsTextInOrder Finite f v text → IsTextInKeyOrder o.key_order o.doubles f v text
   under_options f v is =
       subst (λ k. IsTextInKeyOrder k o.doubles f v text) (sym given) (subst (λ D. IsTextInOrder D f v text) (sym finite) is)
 
-  as_form : (f g : Form) → f ≡ g → IsDocumentTextOf (form_in o.layout f) depth bytes text
-      → (pairs : Pairs) × IsReadAsDocumentIn LastWins depth bytes pairs
-      × IsTextInKeyOrder o.key_order o.doubles (form_in o.layout g) (document pairs) text
-  as_form f g same it = (
-    it.pairs,
-    it.read,
-    under_options (form_in o.layout g) (document it.pairs)
-        (subst (λ h. IsTextInOrder Finite (form_in o.layout h) (document it.pairs) text) same it.text_in_order),
-  )
-
   in_form : (mode : Mode) (f : Form) → form_of_mode mode ≡ Some f
       → IsDocumentTextOf (form_in o.layout f) depth bytes text → Decodes LastWins o mode bytes text
-  in_form Canonical f is it =
-      let (pairs, read, written) = as_form f form.Canonical (cc) it in record { pairs = pairs; read = read; written = written }
-  in_form Relaxed f is it =
-      let (pairs, read, written) = as_form f form.Relaxed (cc) it in record { pairs = pairs; read = read; written = written }
-  in_form Show f is it = absurd cc
+  in_form mode f is it = record {
+    pairs = it.pairs;
+    read = it.read;
+    written = text_of_mode o mode f it.pairs text is (under_options (form_in o.layout f) (document it.pairs) it.text_in_order);
+  }
 
 by_options : (o : Options) (order : KeyOrder) (D : Doubles) (mode : Mode) (f : Form) (bytes text : List ℕ)
     → o.key_order ≡ order → o.doubles ≡ D → streaming_form_in_order order D mode ≡ Some f

@@ -1,5 +1,5 @@
 //! The value that options read from a text, or from the bytes of a document.
-ghost use Rattle.std.specs.Prelude.{◌≡◌, ◌⊎◌, IfOk, IfErr};
+ghost use Rattle.std.specs.Prelude.{◌≡◌, IfOk, IfErr};
 ghost use Rattle.bson.specs.View.{bson_view};
 ghost use Rattle.bson_model.specs.Value.{Value};
 ghost use Rattle.bson_run.specs.Preprocessed.{IsPreprocessedAs, preprocessed_of};

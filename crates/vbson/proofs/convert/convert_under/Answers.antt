@@ -4,7 +4,7 @@ use Rattle.bson_convert.specs.InOrder.{ConvertsBy}
 use Rattle.vbson.proofs.Causes.{rejected}
 use Rattle.vbson.proofs.Converted.{line_under}
 use Rattle.vbson.proofs.Preprocessed.{of_under, read_by, unread}
-use Rattle.vbson.specs.Convert.{preprocessing_of, status_of}
+use Rattle.vbson.specs.Convert.{status_of}
 use Rattle.vbson.specs.Reading.{IsTextReadFailure}
 use Rattle.vbson.proofs.convert.convert_under.Goals as goal
 

@@ -1,8 +1,7 @@
-use Rattle.std.proofs.Common.{◌≡◌, ◌⊎◌, ◌++◌, List, ℕ, Some, IsUtf8, subst}
+use Rattle.std.proofs.Common.{◌≡◌, ◌⊎◌, Some, IsUtf8, subst}
 use Rattle.std.proofs.lemmas.Result.{IfErr-weaker, IfOk-weaker}
 use Rattle.bson.specs.View.{document_view}
 use Rattle.bson_codec.specs.DocumentText.{IsDocumentTextOf}
-use Rattle.bson_convert.specs.Convert.{newline}
 use Rattle.bson_model.specs.declared.options.DuplicateKeys.TheVariants.{LastWins}
 use Rattle.vbson.proofs.Decoding.{directly, no_document, undecoded, unread_directly}
 use Rattle.vbson.specs.Documents.{Decodes, IsOneDocument, IsDecodeFailure, PairsHaveNoTextIn, depth, streaming_form}
@@ -18,9 +17,9 @@ returns-in-Some c =
     let given : streaming_form keys o mode ≡ Some f = cc in
     record {
       ok = IfOk-weaker c.decode_streaming.result
-          (λ line. (text : List ℕ) × IsDocumentTextOf c.form.result depth bytes text × IsUtf8 text × (line.items ≡ text ++ newline))
-          (λ line. (text : List ℕ) × Decodes keys o mode bytes text × IsUtf8 text × (line.items ≡ text ++ newline))
-          (λ line is. (is.0, directly keys o mode f bytes is.0 given (subst (λ g. IsDocumentTextOf g depth bytes is.0) c.form.ensures is.1), is.2, is.3))
+          (λ text. IsDocumentTextOf c.form.result depth bytes text.items × IsUtf8 text.items)
+          (λ text. Decodes keys o mode bytes text.items × IsUtf8 text.items)
+          (λ text is. (directly keys o mode f bytes text.items given (subst (λ g. IsDocumentTextOf g depth bytes text.items) c.form.ensures is.0), is.1))
           c.decode_streaming.ensures.ok;
       error_status = IfErr-weaker c.decode_streaming.result (λ status. (status ≡ 5) ⊎ ((status ≡ 10) × (IsOneDocument LastWins bytes → ⊥)))
           (λ status. IsDecodeFailure keys o mode status bytes) (λ status h. unread_directly keys o mode f status bytes given h)

@@ -4,7 +4,7 @@ use Rattle.bson_model.specs.Value.{document}
 use Rattle.bson_run.specs.Encode.{Encodes}
 use Rattle.vbson.proofs.Causes.{unencoded}
 use Rattle.vbson.proofs.Preprocessed.{no_value, of_under, read_by, under, unread}
-use Rattle.vbson.specs.Convert.{preprocessing_of, status_of}
+use Rattle.vbson.specs.Convert.{status_of}
 use Rattle.vbson.specs.Reading.{IsTextEncodeFailure}
 use Rattle.vbson.proofs.encode.encode_under.Goals as goal
 

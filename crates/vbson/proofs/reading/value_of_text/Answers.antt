@@ -2,7 +2,7 @@ use Rattle.std.proofs.Common.{◌∙◌, ap, refl, subst, sym}
 use Rattle.bson.specs.View.{bson_view}
 use Rattle.vbson.proofs.Causes.{rejected}
 use Rattle.vbson.proofs.Preprocessed.{meant, means_under, one_meaning, read_by, unread}
-use Rattle.vbson.specs.Convert.{preprocessing_of, status_of}
+use Rattle.vbson.specs.Convert.{status_of}
 use Rattle.vbson.specs.Reading.{IsTextReadFailure}
 use Rattle.vbson.proofs.reading.value_of_text.Goals as goal
 
