@@ -1,21 +1,16 @@
 //! Parses the arguments of a row.
 use crate::row_error::RowError;
+use hex::FromHex;
 use std::alloc::Global;
 
 /// Returns the text up to the first space, and the rest after it.
 pub(crate) fn split_at_space(text: &str) -> (&str, &str) {
-    match text.split_once(' ') {
-        Some(word_and_rest) => word_and_rest,
-        None => (text, ""),
-    }
+    text.split_once(' ').unwrap_or((text, ""))
 }
 
 /// Returns the text up to the first colon, and the rest after it.
 pub(crate) fn split_at_colon(text: &str) -> (&str, &str) {
-    match text.split_once(':') {
-        Some(word_and_rest) => word_and_rest,
-        None => (text, ""),
-    }
+    text.split_once(':').unwrap_or((text, ""))
 }
 
 /// Parses bytes from hexadecimal digits.
@@ -27,10 +22,9 @@ pub(crate) fn parse_bytes(alloc: Global, text: &str) -> Result<Vec<u8>, RowError
     }
 }
 
-/// Parses 16 bytes from hexadecimal digits.
-pub(crate) fn parse_16_bytes(text: &str) -> Result<[u8; 16], RowError> {
-    use hex::FromHex;
-    match <[u8; 16] as FromHex>::from_hex(text) {
+/// Parses so many bytes from hexadecimal digits.
+pub(crate) fn parse_sized_bytes<const N: usize>(text: &str) -> Result<[u8; N], RowError> {
+    match <[u8; N] as FromHex>::from_hex(text) {
         Ok(bytes) => Ok(bytes),
         Err(_) => Err(RowError::InvalidRow),
     }
@@ -38,20 +32,12 @@ pub(crate) fn parse_16_bytes(text: &str) -> Result<[u8; 16], RowError> {
 
 /// Parses 16 hexadecimal digits as the 64 bits of a double.
 pub(crate) fn parse_double_bits(text: &str) -> Result<u64, RowError> {
-    use hex::FromHex;
-    match <[u8; 8] as FromHex>::from_hex(text) {
-        Ok(bytes) => Ok(u64::from_be_bytes(bytes)),
-        Err(_) => Err(RowError::InvalidRow),
-    }
+    Ok(u64::from_be_bytes(parse_sized_bytes::<8>(text)?))
 }
 
 /// Parses a byte from two hexadecimal digits.
 pub(crate) fn parse_byte(text: &str) -> Result<u8, RowError> {
-    use hex::FromHex;
-    match <[u8; 1] as FromHex>::from_hex(text) {
-        Ok(bytes) => Ok(bytes[0]),
-        Err(_) => Err(RowError::InvalidRow),
-    }
+    Ok(parse_sized_bytes::<1>(text)?[0])
 }
 
 /// Parses an integer.

@@ -1,5 +1,5 @@
 //! `uuid CALL ARGS` and `binary CALL ARGS`: UUIDs, base64, and binaries that hold UUIDs.
-use crate::arguments::{parse_16_bytes, parse_byte, parse_bytes, split_at_space};
+use crate::arguments::{parse_byte, parse_bytes, parse_sized_bytes, split_at_space};
 use crate::row_error::{CallError, RowError, RowResult};
 use crate::row_output::RowOutput;
 use bson::Bson;
@@ -9,22 +9,21 @@ use bson::uuid::{self, Uuid, UuidRepresentation};
 use std::alloc::Global;
 
 /// `uuid parse TEXT`, `uuid to ORDER UUID`, `uuid from ORDER SUBTYPE BYTES`, `uuid value UUID`.
-pub(crate) fn run_uuid_call(
-    alloc: Global,
-    remaining_args: &str,
-    output_line: &mut RowOutput,
-) -> RowResult {
+pub(crate) fn run_uuid_call(remaining_args: &str, output_line: &mut RowOutput) -> RowResult {
+    let alloc = output_line.alloc;
     let (call_name, text) = split_at_space(remaining_args);
     match call_name {
-        "parse" => {
-            write_uuid(&Uuid::parse_str(text), output_line);
-            Ok(())
-        }
-        "to" => write_uuid_binary(alloc, text, output_line),
-        "from" => write_uuid_of_binary(alloc, text, output_line),
-        "value" => write_uuid_value(alloc, text, output_line),
-        _ => Err(RowError::InvalidRow),
+        "parse" => write_uuid(&Uuid::parse_str(text), output_line),
+        "to" => write_uuid_binary(text, output_line)?,
+        "from" => write_uuid_of_binary(text, output_line)?,
+        "value" => output_line.write_result(Bson::from_uuid(alloc, parse_uuid(text)?)),
+        _ => return Err(RowError::InvalidRow),
     }
+    Ok(())
+}
+
+fn parse_uuid(text: &str) -> Result<Uuid, RowError> {
+    Ok(Uuid::from_bytes(parse_sized_bytes::<16>(text)?))
 }
 
 /// Writes the UUID's text, and its bytes.
@@ -52,9 +51,10 @@ pub(crate) fn parse_representation(
 }
 
 /// Writes the subtype and the bytes of the binary. `plain` calls `from_uuid`.
-fn write_uuid_binary(alloc: Global, text: &str, output_line: &mut RowOutput) -> RowResult {
+fn write_uuid_binary(text: &str, output_line: &mut RowOutput) -> RowResult {
+    let alloc = output_line.alloc;
     let (representation_name, bytes) = split_at_space(text);
-    let id = Uuid::from_bytes(parse_16_bytes(bytes)?);
+    let id = parse_uuid(bytes)?;
     if representation_name == "plain" {
         write_binary(Binary::from_uuid(alloc, id), output_line);
     } else {
@@ -80,9 +80,9 @@ pub(crate) fn write_binary<E: CallError>(created: Result<Binary, E>, output_line
 }
 
 /// Writes the UUID of a binary with the subtype's byte and these bytes. `plain` calls `to_uuid`.
-fn write_uuid_of_binary(alloc: Global, text: &str, output_line: &mut RowOutput) -> RowResult {
+fn write_uuid_of_binary(text: &str, output_line: &mut RowOutput) -> RowResult {
     let (representation_name, remaining_args) = split_at_space(text);
-    let binary = parse_binary(alloc, remaining_args)?;
+    let binary = parse_binary(output_line.alloc, remaining_args)?;
     if representation_name == "plain" {
         write_uuid(&binary.to_uuid(), output_line);
     } else {
@@ -103,56 +103,24 @@ pub(crate) fn parse_binary(alloc: Global, text: &str) -> Result<Binary, RowError
     Ok(Binary { subtype, bytes })
 }
 
-fn write_uuid_value(alloc: Global, text: &str, output_line: &mut RowOutput) -> RowResult {
-    let id = Uuid::from_bytes(parse_16_bytes(text)?);
-    output_line.write_result(Bson::from_uuid(alloc, id));
-    Ok(())
-}
-
 /// `binary base64 TEXT`, `binary base64_as SUBTYPE TEXT`, `binary shown SUBTYPE BYTES`, `binary
 /// clone SUBTYPE BYTES`.
-pub(crate) fn run_call(
-    alloc: Global,
-    remaining_args: &str,
-    output_line: &mut RowOutput,
-) -> RowResult {
+pub(crate) fn run_call(remaining_args: &str, output_line: &mut RowOutput) -> RowResult {
+    let alloc = output_line.alloc;
     let (call_name, text) = split_at_space(remaining_args);
     match call_name {
-        "shown" => write_binary_display(alloc, text, output_line),
-        "clone" => write_binary_copy(alloc, text, output_line),
-        "base64" => decode_base64(alloc, None, text, output_line),
-        "base64_as" => decode_base64_as(alloc, text, output_line),
-        _ => Err(RowError::InvalidRow),
+        "shown" => output_line.write_value(&parse_binary(alloc, text)?),
+        "clone" => {
+            let binary = parse_binary(alloc, text)?;
+            output_line.write_copy(&binary, binary.clone(alloc));
+        }
+        "base64" => write_binary(Binary::from_base64(alloc, text, None), output_line),
+        "base64_as" => {
+            let (subtype, text) = split_at_space(text);
+            let subtype = BinarySubtype::from(parse_byte(subtype)?);
+            write_binary(Binary::from_base64(alloc, text, Some(subtype)), output_line);
+        }
+        _ => return Err(RowError::InvalidRow),
     }
-}
-
-fn decode_base64(
-    alloc: Global,
-    subtype: Option<BinarySubtype>,
-    text: &str,
-    output_line: &mut RowOutput,
-) -> RowResult {
-    write_binary(Binary::from_base64(alloc, text, subtype), output_line);
-    Ok(())
-}
-
-fn decode_base64_as(alloc: Global, text: &str, output_line: &mut RowOutput) -> RowResult {
-    let (subtype, text) = split_at_space(text);
-    decode_base64(
-        alloc,
-        Some(BinarySubtype::from(parse_byte(subtype)?)),
-        text,
-        output_line,
-    )
-}
-
-fn write_binary_display(alloc: Global, text: &str, output_line: &mut RowOutput) -> RowResult {
-    output_line.write_value(&parse_binary(alloc, text)?);
-    Ok(())
-}
-
-fn write_binary_copy(alloc: Global, text: &str, output_line: &mut RowOutput) -> RowResult {
-    let binary = parse_binary(alloc, text)?;
-    output_line.write_copy(&binary, binary.clone(alloc));
     Ok(())
 }

@@ -10,10 +10,8 @@ use bson_codec::de::{
 };
 use bson_codec::documents::{Line, Run, run_documents};
 use bson_codec::run_end::RunFault;
-use bson_codec::ser::Result as WriteOutcome;
 use bson_codec::stream::{from_reader, to_writer};
 use bson_codec::{from_bytes, from_slice, front, front_of_bytes, to_vec};
-use std::alloc::Global;
 
 /// Of a writer, so that it needs no memory.
 const WRITER_CAPACITY: usize = 4096;
@@ -22,42 +20,22 @@ const WRITER_CAPACITY: usize = 4096;
 /// once BYTES`, `bytes once_nested DEPTH BYTES`, `bytes once_front BYTES`, `bytes once_again BYTES`,
 /// `bytes check BYTES`, `bytes canonical BYTES`, `bytes from BYTES`, `bytes run BYTES`, `bytes
 /// run_on BYTES`, `bytes dump LINE BYTES`, `bytes write DOCUMENT`, `bytes to DOCUMENT`.
-pub(crate) fn run_call(
-    alloc: Global,
-    remaining_args: &str,
-    output_line: &mut RowOutput,
-) -> RowResult {
+pub(crate) fn run_call(remaining_args: &str, output_line: &mut RowOutput) -> RowResult {
+    let alloc = output_line.alloc;
     let (call_name, text) = split_at_space(remaining_args);
     match call_name {
-        "write" => write_document_bytes(alloc, text, output_line),
-        "to" => write_to_writer(alloc, text, output_line),
-        "nested" | "once_nested" => read_nested(alloc, call_name, text, output_line),
-        "dump" => write_dump(alloc, text, output_line),
-        _ => run_call_on_bytes(alloc, call_name, parse_bytes(alloc, text)?, output_line),
+        "write" => write_reencoding(Ok(parse_document(alloc, text)?), output_line),
+        "to" => write_to_writer(text, output_line)?,
+        "nested" | "once_nested" => read_nested(call_name, text, output_line)?,
+        "dump" => write_dump(text, output_line)?,
+        _ => run_call_on_bytes(call_name, parse_bytes(alloc, text)?, output_line)?,
     }
-}
-
-/// The bytes of the document that the text names.
-fn write_document_bytes(alloc: Global, text: &str, output_line: &mut RowOutput) -> RowResult {
-    let document = parse_document(alloc, text)?;
-    write_encoding(to_vec(alloc, &document), output_line);
     Ok(())
 }
 
-fn write_encoding(encoding: WriteOutcome<Vec<u8>>, output_line: &mut RowOutput) {
-    match encoding {
-        Ok(bytes) => output_line.write_hex(bytes.as_slice()),
-        Err(error) => output_line.write_error(&error),
-    }
-}
-
 /// `DEPTH BYTES`: the document, in which so many levels are allowed.
-fn read_nested(
-    alloc: Global,
-    call_name: &str,
-    text: &str,
-    output_line: &mut RowOutput,
-) -> RowResult {
+fn read_nested(call_name: &str, text: &str, output_line: &mut RowOutput) -> RowResult {
+    let alloc = output_line.alloc;
     let (depth, bytes) = split_at_space(text);
     let depth = parse_number::<usize>(depth)?;
     let bytes = parse_bytes(alloc, bytes)?;
@@ -82,36 +60,22 @@ fn options_rejecting_duplicates() -> ReadOptions {
     }
 }
 
-fn run_call_on_bytes(
-    alloc: Global,
-    call_name: &str,
-    bytes: Vec<u8>,
-    output_line: &mut RowOutput,
-) -> RowResult {
+fn run_call_on_bytes(call_name: &str, bytes: Vec<u8>, output_line: &mut RowOutput) -> RowResult {
+    let alloc = output_line.alloc;
     let bytes = bytes.as_slice();
+    let once = options_rejecting_duplicates();
     match call_name {
         "read" => output_line.write_result(from_slice(alloc, bytes, DEPTH)),
         "front" => write_front(front(alloc, bytes, DEPTH), output_line),
-        "again" => write_reencoding(alloc, from_slice(alloc, bytes, DEPTH), output_line),
-        "once" => output_line.write_result(from_bytes(
-            alloc,
-            options_rejecting_duplicates(),
-            bytes,
-        )),
-        "once_front" => write_front(
-            front_of_bytes(alloc, options_rejecting_duplicates(), bytes),
-            output_line,
-        ),
-        "once_again" => write_reencoding(
-            alloc,
-            from_bytes(alloc, options_rejecting_duplicates(), bytes),
-            output_line,
-        ),
+        "again" => write_reencoding(from_slice(alloc, bytes, DEPTH), output_line),
+        "once" => output_line.write_result(from_bytes(alloc, once, bytes)),
+        "once_front" => write_front(front_of_bytes(alloc, once, bytes), output_line),
+        "once_again" => write_reencoding(from_bytes(alloc, once, bytes), output_line),
         "check" => write_check_result(is_document(bytes, DEPTH), output_line),
         "canonical" => output_line.write_result(is_canonical(alloc, bytes, DEPTH)),
-        "from" => read_from_reader(alloc, bytes, output_line),
-        "run" => return write_run(alloc, Run::default(), bytes, output_line),
-        "run_on" => return write_run(alloc, keep_going_run(), bytes, output_line),
+        "from" => read_from_reader(bytes, output_line),
+        "run" => return write_run(Run::default(), bytes, output_line),
+        "run_on" => return write_run(keep_going_run(), bytes, output_line),
         _ => return Err(RowError::InvalidRow),
     }
     Ok(())
@@ -125,7 +89,8 @@ fn write_check_result(check_result: ReadResult<()>, output_line: &mut RowOutput)
 }
 
 /// Writes the document that is read from a reader of the bytes, and after a `+` the bytes that remain.
-fn read_from_reader(alloc: Global, bytes: &[u8], output_line: &mut RowOutput) {
+fn read_from_reader(bytes: &[u8], output_line: &mut RowOutput) {
+    let alloc = output_line.alloc;
     let mut reader = bytes;
     output_line.write_result(from_reader(alloc, &mut reader, DEPTH));
     output_line.write_word("+");
@@ -133,7 +98,8 @@ fn read_from_reader(alloc: Global, bytes: &[u8], output_line: &mut RowOutput) {
 }
 
 /// The bytes that a writer is given of the document, or why it was given none.
-fn write_to_writer(alloc: Global, text: &str, output_line: &mut RowOutput) -> RowResult {
+fn write_to_writer(text: &str, output_line: &mut RowOutput) -> RowResult {
+    let alloc = output_line.alloc;
     let document = parse_document(alloc, text)?;
     let mut written_bytes = Vec::with_capacity(alloc, WRITER_CAPACITY)?;
     match to_writer(alloc, &document, &mut written_bytes) {
@@ -152,7 +118,7 @@ fn keep_going_run() -> Run {
 
 /// `LINE BYTES`: a run that goes on, with finite doubles, and writes this of each document. It rejects
 /// duplicate keys if the line ends in `_once`.
-fn write_dump(alloc: Global, text: &str, output_line: &mut RowOutput) -> RowResult {
+fn write_dump(text: &str, output_line: &mut RowOutput) -> RowResult {
     let (line, bytes) = split_at_space(text);
     let (line, duplicate_keys) = match line.strip_suffix("_once") {
         Some(line) => (line, DuplicateKeys::Reject),
@@ -184,12 +150,13 @@ fn write_dump(alloc: Global, text: &str, output_line: &mut RowOutput) -> RowResu
         line,
         ..keep_going_run()
     };
-    let bytes = parse_bytes(alloc, bytes)?;
-    write_run(alloc, run_settings, bytes.as_slice(), output_line)
+    let bytes = parse_bytes(output_line.alloc, bytes)?;
+    write_run(run_settings, bytes.as_slice(), output_line)
 }
 
 /// Writes the output and the diagnostics of a run over the documents, and how it ended.
-fn write_run(alloc: Global, run: Run, bytes: &[u8], output_line: &mut RowOutput) -> RowResult {
+fn write_run(run: Run, bytes: &[u8], output_line: &mut RowOutput) -> RowResult {
+    let alloc = output_line.alloc;
     let mut reader = bytes;
     let mut written_bytes = Vec::with_capacity(alloc, WRITER_CAPACITY)?;
     let mut diagnostics_text = Vec::with_capacity(alloc, WRITER_CAPACITY)?;
@@ -226,9 +193,12 @@ fn write_front(read_result: ReadResult<(Document, &[u8])>, output_line: &mut Row
 }
 
 /// Writes the bytes that the document is written as.
-fn write_reencoding(alloc: Global, read_result: ReadResult<Document>, output_line: &mut RowOutput) {
+fn write_reencoding(read_result: ReadResult<Document>, output_line: &mut RowOutput) {
     match read_result {
-        Ok(document) => write_encoding(to_vec(alloc, &document), output_line),
+        Ok(document) => match to_vec(output_line.alloc, &document) {
+            Ok(bytes) => output_line.write_hex(bytes.as_slice()),
+            Err(error) => output_line.write_error(&error),
+        },
         Err(error) => output_line.write_error(&error),
     }
 }

@@ -1,30 +1,27 @@
 //! `from KIND ARG`: the value that a conversion makes, by its element type and as it is shown.
-use crate::arguments::{parse_16_bytes, parse_number, split_at_space};
+use crate::arguments::{parse_number, parse_sized_bytes, split_at_space};
 use crate::row_error::{RowError, RowResult};
 use crate::row_output::RowOutput;
 use crate::row_values::{parse_document, parse_value};
-use bson::{Array, Bson, DateTime, Decimal128, JavaScriptCodeWithScope, Regex};
+use bson::{Bson, DateTime, Decimal128, JavaScriptCodeWithScope, Regex};
 use std::alloc::{AllocError, Global};
 
-pub(crate) fn run_call(
-    alloc: Global,
-    remaining_args: &str,
-    output_line: &mut RowOutput,
-) -> RowResult {
+pub(crate) fn run_call(remaining_args: &str, output_line: &mut RowOutput) -> RowResult {
     let (call_name, text) = split_at_space(remaining_args);
+    let alloc = output_line.alloc;
     match call_name {
-        "list" | "slice" | "values" => convert_list(alloc, call_name, text, output_line),
-        "document" | "code" => convert_document(alloc, call_name, text, output_line),
-        "option" | "clone" => convert_value(alloc, call_name, text, output_line),
-        "binary" | "pointer" | "id" | "bytes" | "timestamp" => convert_content(
-            alloc,
-            call_name,
-            text,
-            output_line,
-        ),
+        "list" | "slice" | "values" => convert_list(call_name, text, output_line),
+        "document" | "code" => convert_document(call_name, text, output_line),
+        "option" | "clone" => convert_value(call_name, text, output_line),
+        "binary" | "pointer" | "id" | "bytes" | "timestamp" => {
+            write_converted(
+                convert_content(call_name, parse_value(alloc, text)?)?,
+                output_line,
+            )
+        }
         "string" => write_created(Bson::string(alloc, text), output_line),
-        "regex" => convert_regex(alloc, text, output_line),
-        _ => convert_argument(alloc, call_name, text, output_line),
+        "regex" => convert_regex(text, output_line),
+        _ => write_converted(convert_argument(alloc, call_name, text)?, output_line),
     }
 }
 
@@ -42,46 +39,26 @@ fn write_created(created: Result<Bson, AllocError>, output_line: &mut RowOutput)
     Ok(())
 }
 
-fn convert_argument(
-    alloc: Global,
-    call_name: &str,
-    text: &str,
-    output_line: &mut RowOutput,
-) -> RowResult {
+fn convert_argument(alloc: Global, call_name: &str, text: &str) -> Result<Bson, RowError> {
     match call_name {
-        "i32" => write_converted(Bson::from(parse_number::<i32>(text)?), output_line),
-        "i64" => write_converted(Bson::from(parse_number::<i64>(text)?), output_line),
-        "u32" => write_converted(Bson::from(parse_number::<u32>(text)?), output_line),
-        "bool" => write_converted(Bson::from(text == "true"), output_line),
-        "date" => write_converted(
-            Bson::from(DateTime::from_millis(parse_number::<i64>(text)?)),
-            output_line,
-        ),
-        "decimal" => write_converted(
-            Bson::from(Decimal128::from_bytes(parse_16_bytes(text)?)),
-            output_line,
-        ),
-        "String" => write_converted(Bson::from(String::from_str(alloc, text)?), output_line),
-        "nothing" => write_converted(Bson::from_option(None), output_line),
-        "default" => write_converted(Bson::default(), output_line),
+        "i32" => Ok(Bson::from(parse_number::<i32>(text)?)),
+        "i64" => Ok(Bson::from(parse_number::<i64>(text)?)),
+        "u32" => Ok(Bson::from(parse_number::<u32>(text)?)),
+        "bool" => Ok(Bson::from(text == "true")),
+        "date" => Ok(Bson::from(DateTime::from_millis(parse_number::<i64>(text)?))),
+        "decimal" => Ok(Bson::from(Decimal128::from_bytes(parse_sized_bytes::<16>(text)?))),
+        "String" => Ok(Bson::from(String::from_str(alloc, text)?)),
+        "nothing" => Ok(Bson::from_option(None)),
+        "default" => Ok(Bson::default()),
         _ => Err(RowError::InvalidRow),
     }
 }
 
-fn parse_array(alloc: Global, text: &str) -> Result<Array, RowError> {
-    match parse_value(alloc, text)? {
-        Bson::Array(list) => Ok(list),
-        _ => Err(RowError::InvalidRow),
-    }
-}
-
-fn convert_list(
-    alloc: Global,
-    call_name: &str,
-    text: &str,
-    output_line: &mut RowOutput,
-) -> RowResult {
-    let list = parse_array(alloc, text)?;
+fn convert_list(call_name: &str, text: &str, output_line: &mut RowOutput) -> RowResult {
+    let alloc = output_line.alloc;
+    let Bson::Array(list) = parse_value(alloc, text)? else {
+        return Err(RowError::InvalidRow);
+    };
     match call_name {
         "list" => write_converted(Bson::from(list), output_line),
         "slice" => write_created(Bson::from_slice(alloc, list.as_slice()), output_line),
@@ -94,12 +71,8 @@ fn convert_list(
 }
 
 /// A document, or code `f` with it as the scope, by a copy.
-fn convert_document(
-    alloc: Global,
-    call_name: &str,
-    text: &str,
-    output_line: &mut RowOutput,
-) -> RowResult {
+fn convert_document(call_name: &str, text: &str, output_line: &mut RowOutput) -> RowResult {
+    let alloc = output_line.alloc;
     let scope = parse_document(alloc, text)?;
     if call_name == "document" {
         return write_converted(Bson::from(scope), output_line);
@@ -111,12 +84,8 @@ fn convert_document(
 }
 
 /// An option that contains the value, or a copy of the value.
-fn convert_value(
-    alloc: Global,
-    call_name: &str,
-    text: &str,
-    output_line: &mut RowOutput,
-) -> RowResult {
+fn convert_value(call_name: &str, text: &str, output_line: &mut RowOutput) -> RowResult {
+    let alloc = output_line.alloc;
     let value = parse_value(alloc, text)?;
     if call_name == "option" {
         return write_converted(Bson::from_option(Some(value)), output_line);
@@ -126,7 +95,8 @@ fn convert_value(
 }
 
 /// `PATTERN OPTIONS`, by `Regex::new`, and a copy of it.
-fn convert_regex(alloc: Global, text: &str, output_line: &mut RowOutput) -> RowResult {
+fn convert_regex(text: &str, output_line: &mut RowOutput) -> RowResult {
+    let alloc = output_line.alloc;
     let (pattern, options) = split_at_space(text);
     match Regex::new(alloc, pattern, options) {
         Ok(created) => {
@@ -158,21 +128,13 @@ where
 }
 
 /// The value of the content of another value.
-fn convert_content(
-    alloc: Global,
-    call_name: &str,
-    text: &str,
-    output_line: &mut RowOutput,
-) -> RowResult {
-    match (call_name, parse_value(alloc, text)?) {
-        ("binary", Bson::Binary(binary)) => write_converted(Bson::from(binary), output_line),
-        ("pointer", Bson::DbPointer(pointer)) => write_converted(Bson::from(pointer), output_line),
-        ("id", Bson::ObjectId(id)) => write_converted(Bson::from(id), output_line),
-        ("bytes", Bson::ObjectId(id)) => write_converted(Bson::from(id.bytes()), output_line),
-        ("timestamp", Bson::Timestamp(timestamp)) => write_converted(
-            Bson::from(timestamp),
-            output_line,
-        ),
+fn convert_content(call_name: &str, value: Bson) -> Result<Bson, RowError> {
+    match (call_name, value) {
+        ("binary", Bson::Binary(binary)) => Ok(Bson::from(binary)),
+        ("pointer", Bson::DbPointer(pointer)) => Ok(Bson::from(pointer)),
+        ("id", Bson::ObjectId(id)) => Ok(Bson::from(id)),
+        ("bytes", Bson::ObjectId(id)) => Ok(Bson::from(id.bytes())),
+        ("timestamp", Bson::Timestamp(timestamp)) => Ok(Bson::from(timestamp)),
         _ => Err(RowError::InvalidRow),
     }
 }

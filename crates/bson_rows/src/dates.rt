@@ -4,19 +4,14 @@ use crate::row_error::{RowError, RowResult};
 use crate::row_output::RowOutput;
 use bson::DateTime;
 use bson::datetime::{DateTimeBuilder, Day, Month, Year};
-use std::alloc::Global;
 use std::time::Duration;
 
-pub(crate) fn run_call(
-    alloc: Global,
-    remaining_args: &str,
-    output_line: &mut RowOutput,
-) -> RowResult {
+pub(crate) fn run_call(remaining_args: &str, output_line: &mut RowOutput) -> RowResult {
     let (call_name, text) = split_at_space(remaining_args);
     match call_name {
         "read" => write_date_time(DateTime::parse_rfc3339_str(text), output_line),
         "build" => build_date_time(text, output_line),
-        _ => run_call_on_date(alloc, call_name, text, output_line),
+        _ => run_call_on_date(call_name, text, output_line),
     }
 }
 
@@ -40,12 +35,8 @@ fn write_date_time(
 }
 
 /// The calls on a moment.
-fn run_call_on_date(
-    alloc: Global,
-    call_name: &str,
-    text: &str,
-    output_line: &mut RowOutput,
-) -> RowResult {
+fn run_call_on_date(call_name: &str, text: &str, output_line: &mut RowOutput) -> RowResult {
+    let alloc = output_line.alloc;
     let (date_time, remaining_args) = split_at_space(text);
     let date_time = parse_date_time(date_time)?;
     match call_name {

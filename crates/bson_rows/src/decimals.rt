@@ -1,5 +1,5 @@
 //! `decimal read TEXT`, `decimal bits TEXT`, `decimal print BYTES`: decimals of 128 bits.
-use crate::arguments::{parse_16_bytes, split_at_space};
+use crate::arguments::{parse_sized_bytes, split_at_space};
 use crate::row_error::{RowError, RowResult};
 use crate::row_output::RowOutput;
 use bson::Decimal128;
@@ -25,7 +25,7 @@ fn write_decimal_bytes(text: &str, output_line: &mut RowOutput) {
 
 /// What the 16 bytes print as.
 fn print_decimal(text: &str, output_line: &mut RowOutput) -> RowResult {
-    let bytes = parse_16_bytes(text)?;
+    let bytes = parse_sized_bytes::<16>(text)?;
     let decimal = Decimal128::from_bytes(bytes);
     if decimal.bytes() != bytes {
         output_line.write_str("other bytes ");

@@ -9,28 +9,20 @@
 use crate::arguments::{parse_number, split_at_colon};
 use crate::row_error::{RowError, RowResult};
 use crate::row_output::RowOutput;
-use bson::document::Entry;
 use bson::store::Pair;
 use bson::{Bson, Document};
-use std::alloc::Global;
+use std::alloc::AllocError;
 
-pub(crate) fn run_call(
-    alloc: Global,
-    remaining_args: &str,
-    output_line: &mut RowOutput,
-) -> RowResult {
-    let mut document = Document::new(alloc);
-    let run_result = run_commands(alloc, &mut document, remaining_args, output_line);
+pub(crate) fn run_call(remaining_args: &str, output_line: &mut RowOutput) -> RowResult {
+    let mut document = Document::new(output_line.alloc);
+    let run_result = run_commands(&mut document, remaining_args, output_line);
     output_line.write_word("-> ");
     output_line.write_value(&document);
     run_result
 }
 
-pub(crate) fn write_entries(
-    alloc: Global,
-    remaining_args: &str,
-    output_line: &mut RowOutput,
-) -> RowResult {
+pub(crate) fn write_entries(remaining_args: &str, output_line: &mut RowOutput) -> RowResult {
+    let alloc = output_line.alloc;
     let mut entries = Vec::new(alloc);
     for entry_text in remaining_args.split_whitespace() {
         let (key, value) = split_at_colon(entry_text);
@@ -48,23 +40,17 @@ pub(crate) fn write_entries(
 }
 
 fn run_commands(
-    alloc: Global,
     document: &mut Document,
     remaining_args: &str,
     output_line: &mut RowOutput,
 ) -> RowResult {
     for command in remaining_args.split_whitespace() {
-        run_command(alloc, document, command, output_line)?;
+        run_command(document, command, output_line)?;
     }
     Ok(())
 }
 
-fn run_command(
-    alloc: Global,
-    document: &mut Document,
-    command: &str,
-    output_line: &mut RowOutput,
-) -> RowResult {
+fn run_command(document: &mut Document, command: &str, output_line: &mut RowOutput) -> RowResult {
     let (command_name, remaining_args) = split_at_colon(command);
     match command_name {
         "remove" => output_line.write_option(document.remove(remaining_args)),
@@ -74,53 +60,41 @@ fn run_command(
         "keys" => write_keys(document, output_line),
         "values" => write_values(document, output_line),
         "clone" => write_document_copy(document, output_line),
-        _ => return run_with_number(alloc, document, command_name, remaining_args, output_line),
+        _ => return run_with_number(document, command_name, remaining_args, output_line),
     }
     Ok(())
 }
 
 /// Runs a command that has a number.
 fn run_with_number(
-    alloc: Global,
     document: &mut Document,
     command_name: &str,
     remaining_args: &str,
     output_line: &mut RowOutput,
 ) -> RowResult {
     let (key, value) = split_at_colon(remaining_args);
+    let value = parse_number::<i32>(value);
     match command_name {
-        "insert" => insert_value(
-            alloc,
-            document,
-            key,
-            parse_number::<i32>(value)?,
-            output_line,
-        ),
-        "write" => write_value_of_key(document, key, parse_number::<i32>(value)?, output_line),
-        "place" => write_value_at_place(
-            document,
-            parse_number::<usize>(key)?,
-            parse_number::<i32>(value)?,
-            output_line,
-        ),
+        "insert" => insert_value(document, key, value?, output_line),
+        "write" => write_value_of_key(document, key, value?, output_line),
+        "place" => write_value_at_place(document, parse_number::<usize>(key)?, value?, output_line),
         "write_at" => write_value_at_index(
             document,
             parse_number::<usize>(key)?,
-            parse_number::<i32>(value)?,
+            value?,
             output_line,
         ),
-        _ => run_entry_command(alloc, document, command_name, key, value, output_line),
+        _ => run_entry_command(document, command_name, key, value, output_line),
     }
 }
 
 fn insert_value(
-    alloc: Global,
     document: &mut Document,
     key: &str,
     value: i32,
     output_line: &mut RowOutput,
 ) -> RowResult {
-    let key = String::from_str(alloc, key)?;
+    let key = String::from_str(output_line.alloc, key)?;
     match document.insert(key, Bson::Int32(value)) {
         Ok(old_value) => output_line.write_option(old_value),
         Err(error) => output_line.write_error(&error),
@@ -179,40 +153,33 @@ fn write_value_at_place(
 
 /// The commands of an entry: what it lends is the reply, or its key.
 fn run_entry_command(
-    alloc: Global,
     document: &mut Document,
     command_name: &str,
     key: &str,
-    value: &str,
+    value: Result<i32, RowError>,
     output_line: &mut RowOutput,
 ) -> RowResult {
-    let key = String::from_str(alloc, key)?;
+    let key = String::from_str(output_line.alloc, key)?;
     match command_name {
         "key" => output_line.write_word(document.entry(key).key()),
-        "entry" => insert_entry(
-            document.entry(key),
-            parse_number::<i32>(value)?,
-            output_line,
-        ),
-        "entry_with" => insert_entry_with(
-            document.entry(key),
-            parse_number::<i32>(value)?,
-            output_line,
-        ),
+        "entry" => {
+            let value = Bson::Int32(value?);
+            write_place(document.entry(key).or_insert(value), output_line);
+        }
+        "entry_with" => {
+            let value = value?;
+            write_place(
+                document.entry(key).or_insert_with(|| Bson::Int32(value)),
+                output_line,
+            );
+        }
         _ => return Err(RowError::InvalidRow),
     }
     Ok(())
 }
 
-fn insert_entry(entry: Entry<'_>, value: i32, output_line: &mut RowOutput) {
-    match entry.or_insert(Bson::Int32(value)) {
-        Ok(place) => output_line.write_item(place),
-        Err(error) => output_line.write_error(&error),
-    }
-}
-
-fn insert_entry_with(entry: Entry<'_>, value: i32, output_line: &mut RowOutput) {
-    match entry.or_insert_with(|| Bson::Int32(value)) {
+fn write_place(place: Result<&mut Bson, AllocError>, output_line: &mut RowOutput) {
+    match place {
         Ok(place) => output_line.write_item(place),
         Err(error) => output_line.write_error(&error),
     }

@@ -4,15 +4,11 @@ use crate::row_error::{RowError, RowResult};
 use crate::row_output::RowOutput;
 use crate::row_values::parse_value;
 use bson::Bson;
-use std::alloc::Global;
 use std::hash::{Hash, Hasher};
 
 /// Whether the values are equal, and whether they feed a hasher alike.
-pub(crate) fn write_equality(
-    alloc: Global,
-    remaining_args: &str,
-    output_line: &mut RowOutput,
-) -> RowResult {
+pub(crate) fn write_equality(remaining_args: &str, output_line: &mut RowOutput) -> RowResult {
+    let alloc = output_line.alloc;
     let Some((first_value, second_value)) = remaining_args.split_once(" and ") else {
         return Err(RowError::InvalidRow);
     };
@@ -42,12 +38,8 @@ fn hash_of(value: &Bson) -> u64 {
 }
 
 /// What FNV-1a makes of the bytes that the value feeds it.
-pub(crate) fn write_hash(
-    alloc: Global,
-    remaining_args: &str,
-    output_line: &mut RowOutput,
-) -> RowResult {
-    let value = parse_value(alloc, remaining_args)?;
+pub(crate) fn write_hash(remaining_args: &str, output_line: &mut RowOutput) -> RowResult {
+    let value = parse_value(output_line.alloc, remaining_args)?;
     output_line.write_hex(&hash_of(&value).to_be_bytes());
     Ok(())
 }

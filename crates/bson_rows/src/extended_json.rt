@@ -6,39 +6,30 @@ use crate::row_output::{RowOutput, Style};
 use crate::row_values::{parse_tree, parse_value};
 use crate::value_steps;
 use bson::extjson::WriteError;
-use bson::extjson::de::{Error, Result as ReadResult, TextError};
+use bson::extjson::de::{Error, TextError};
 use bson::{Bson, Document};
 use serde_json::Value;
-use std::alloc::{AllocError, Global};
+use std::alloc::AllocError;
 
 /// `FORM VALUE`: the value is read or made, and written. An error shows which step failed.
-pub(crate) fn run_call(
-    alloc: Global,
-    form: &str,
-    remaining_args: &str,
-    output_line: &mut RowOutput,
-) -> RowResult {
+pub(crate) fn run_call(form: &str, remaining_args: &str, output_line: &mut RowOutput) -> RowResult {
+    let alloc = output_line.alloc;
     match remaining_args.strip_prefix("made ") {
         Some(made_steps) => write_in_form(
-            alloc,
             form,
             value_steps::make_value(alloc, made_steps)?,
             output_line,
         ),
         None => match Bson::try_from_value(alloc, parse_tree(alloc, remaining_args)?) {
-            Ok(value) => write_in_form(alloc, form, value, output_line),
-            Err(error) => write_rejected_tree(alloc, remaining_args, error, output_line),
+            Ok(value) => write_in_form(form, value, output_line),
+            Err(error) => write_rejected_tree(remaining_args, error, output_line),
         },
     }
 }
 
 /// Writes why the text's tree is not valid Extended JSON. The reader of texts must return the same message.
-fn write_rejected_tree(
-    alloc: Global,
-    text: &str,
-    error: Error,
-    output_line: &mut RowOutput,
-) -> RowResult {
+fn write_rejected_tree(text: &str, error: Error, output_line: &mut RowOutput) -> RowResult {
+    let alloc = output_line.alloc;
     let message = format!(in alloc; "{error}")?;
     write_tree_error(error, output_line)?;
     match Bson::try_from_text(alloc, text.as_bytes()) {
@@ -57,32 +48,20 @@ fn write_rejected_tree(
 
 /// `map FORM MAP`: the map is read as the value that it means. `map own MAP`: as a document,
 /// whatever its own keys are, and written canonically.
-pub(crate) fn write_map(
-    alloc: Global,
-    remaining_args: &str,
-    output_line: &mut RowOutput,
-) -> RowResult {
+pub(crate) fn write_map(remaining_args: &str, output_line: &mut RowOutput) -> RowResult {
+    let alloc = output_line.alloc;
     let (form, text) = split_at_space(remaining_args);
     let Value::Object(map) = parse_tree(alloc, text)? else {
         return Err(RowError::InvalidRow);
     };
     if form != "own" {
-        return write_read_result(alloc, form, Bson::try_from_map(alloc, map), output_line);
+        return match Bson::try_from_map(alloc, map) {
+            Ok(value) => write_in_form(form, value, output_line),
+            Err(error) => write_tree_error(error, output_line),
+        };
     }
     match Document::try_from_map(alloc, map) {
-        Ok(document) => write_canonical(alloc, Bson::Document(document), output_line),
-        Err(error) => write_tree_error(error, output_line),
-    }
-}
-
-fn write_read_result(
-    alloc: Global,
-    form: &str,
-    read_result: ReadResult<Bson>,
-    output_line: &mut RowOutput,
-) -> RowResult {
-    match read_result {
-        Ok(value) => write_in_form(alloc, form, value, output_line),
+        Ok(document) => write_canonical(Bson::Document(document), output_line),
         Err(error) => write_tree_error(error, output_line),
     }
 }
@@ -98,10 +77,10 @@ fn write_tree_error(error: Error, output_line: &mut RowOutput) -> RowResult {
     Ok(())
 }
 
-fn write_in_form(alloc: Global, form: &str, value: Bson, output_line: &mut RowOutput) -> RowResult {
+fn write_in_form(form: &str, value: Bson, output_line: &mut RowOutput) -> RowResult {
     match form {
-        "canonical" => write_canonical(alloc, value, output_line),
-        "relaxed" => write_relaxed(alloc, value, output_line),
+        "canonical" => write_canonical(value, output_line),
+        "relaxed" => write_relaxed(value, output_line),
         _ => {
             output_line.write_value(&value);
             Ok(())
@@ -109,59 +88,35 @@ fn write_in_form(alloc: Global, form: &str, value: Bson, output_line: &mut RowOu
     }
 }
 
-fn write_canonical(alloc: Global, value: Bson, output_line: &mut RowOutput) -> RowResult {
+fn write_canonical(value: Bson, output_line: &mut RowOutput) -> RowResult {
+    let alloc = output_line.alloc;
     let text_by_reference = value.to_canonical_text(alloc);
-    let tree = canonical_tree(alloc, &value);
-    write_equal_outputs(
-        value.into_canonical_text(alloc),
-        text_by_reference,
-        tree,
-        output_line,
-    )
+    let tree = value.clone(alloc)?.into_canonical_extjson(alloc);
+    let text = value.into_canonical_text(alloc);
+    write_equal_outputs(text, text_by_reference, tree, output_line)
 }
 
-fn write_relaxed(alloc: Global, value: Bson, output_line: &mut RowOutput) -> RowResult {
+fn write_relaxed(value: Bson, output_line: &mut RowOutput) -> RowResult {
+    let alloc = output_line.alloc;
     let text_by_reference = value.to_relaxed_text(alloc);
-    let tree = relaxed_tree(alloc, &value);
-    write_equal_outputs(
-        value.into_relaxed_text(alloc),
-        text_by_reference,
-        tree,
-        output_line,
-    )
+    let tree = value.clone(alloc)?.into_relaxed_extjson(alloc);
+    let text = value.into_relaxed_text(alloc);
+    write_equal_outputs(text, text_by_reference, tree, output_line)
 }
 
-pub(crate) type WriteOutcome = Result<String, WriteError>;
-
-fn canonical_tree(alloc: Global, value: &Bson) -> Result<WriteOutcome, RowError> {
-    let copy = value.clone(alloc)?;
-    tree_text(alloc, copy.into_canonical_extjson(alloc))
-}
-
-fn relaxed_tree(alloc: Global, value: &Bson) -> Result<WriteOutcome, RowError> {
-    let copy = value.clone(alloc)?;
-    tree_text(alloc, copy.into_relaxed_extjson(alloc))
-}
-
-/// The text of the tree.
-pub(crate) fn tree_text(
-    alloc: Global,
-    tree: Result<Value, WriteError>,
-) -> Result<WriteOutcome, RowError> {
-    match tree {
-        Ok(tree) => Ok(Ok(tree.to_string(alloc)?)),
-        Err(error) => Ok(Err(error)),
-    }
-}
+type WriteOutcome = Result<String, WriteError>;
 
 /// Writes the output of the three calls, which must be equal.
 pub(crate) fn write_equal_outputs(
     text: WriteOutcome,
     text_by_reference: WriteOutcome,
-    tree: Result<WriteOutcome, RowError>,
+    tree: Result<Value, WriteError>,
     output_line: &mut RowOutput,
 ) -> RowResult {
-    let tree = tree?;
+    let tree = match tree {
+        Ok(tree) => Ok(tree.to_string(output_line.alloc)?),
+        Err(error) => Err(error),
+    };
     let are_equal = text == text_by_reference && text == tree;
     output_line.write_result(text);
     if !are_equal {
@@ -173,30 +128,20 @@ pub(crate) fn write_equal_outputs(
     Ok(())
 }
 
-/// `pretty N VALUE`: the text on several lines at the indent.
-pub(crate) fn write_pretty_text(
-    alloc: Global,
-    remaining_args: &str,
-    output_line: &mut RowOutput,
-) -> RowResult {
+/// `pretty N VALUE`: the text on several lines at the indent. A document by itself must have the same.
+pub(crate) fn write_pretty_text(remaining_args: &str, output_line: &mut RowOutput) -> RowResult {
     let (indent, text) = split_at_space(remaining_args);
     let indent = parse_number::<usize>(indent)?;
-    let value = parse_value(alloc, text)?;
-    write_pretty_value(alloc, &value, indent, output_line);
-    Ok(())
-}
-
-/// Writes the value's text. A document by itself must have the same.
-fn write_pretty_value(alloc: Global, value: &Bson, indent: usize, output_line: &mut RowOutput) {
-    let pretty_text = value.to_pretty_string(alloc, indent);
-    match value {
-        Bson::Document(document) => write_equal_texts(
-            pretty_text,
-            document.to_pretty_string(indent),
-            output_line,
-        ),
+    let value = parse_value(output_line.alloc, text)?;
+    let pretty_text = value.to_pretty_string(output_line.alloc, indent);
+    match &value {
+        Bson::Document(document) => {
+            let document_text = document.to_pretty_string(indent);
+            write_equal_texts(pretty_text, document_text, output_line);
+        }
         _ => output_line.write_result(pretty_text),
     }
+    Ok(())
 }
 
 fn write_equal_texts(

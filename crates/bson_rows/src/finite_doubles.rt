@@ -1,7 +1,7 @@
 //! `finite CALL VALUE`: trees and texts that are read, and values that are written, where finite
 //! doubles are.
 use crate::arguments::split_at_space;
-use crate::extended_json::{tree_text, write_equal_outputs};
+use crate::extended_json::write_equal_outputs;
 use crate::row_error::{RowError, RowResult};
 use crate::row_output::RowOutput;
 use crate::row_values::parse_tree;
@@ -12,7 +12,6 @@ use bson::{Bson, Document};
 use bson_convert::convert::convert_text;
 use bson_convert::mode::Mode;
 use serde_json::Value;
-use std::alloc::Global;
 
 /// Returns the default options with finite doubles.
 pub(crate) fn finite_doubles_options() -> Options {
@@ -25,32 +24,22 @@ pub(crate) fn finite_doubles_options() -> Options {
 /// `canonical VALUE` and `relaxed VALUE`: the value is read or made, and written. `read TEXT`: what
 /// the text means. `converted TEXT`: the relaxed text of that. `map MAP` and `own MAP`, as the call
 /// `map` has them.
-pub(crate) fn run_call(
-    alloc: Global,
-    remaining_args: &str,
-    output_line: &mut RowOutput,
-) -> RowResult {
+pub(crate) fn run_call(remaining_args: &str, output_line: &mut RowOutput) -> RowResult {
     let (call_name, remaining_args) = split_at_space(remaining_args);
     match call_name {
-        "canonical" => write_tree_or_steps(alloc, Form::Canonical, remaining_args, output_line),
-        "relaxed" => write_tree_or_steps(alloc, Form::Relaxed, remaining_args, output_line),
-        "read" => read_text(alloc, remaining_args, output_line),
-        "converted" => convert_to_relaxed(alloc, remaining_args, output_line),
-        "map" => write_map(alloc, remaining_args, output_line),
-        "own" => write_own_document(alloc, remaining_args, output_line),
+        "canonical" => write_tree_or_steps(Form::Canonical, remaining_args, output_line),
+        "relaxed" => write_tree_or_steps(Form::Relaxed, remaining_args, output_line),
+        "read" => read_text(finite_doubles_options(), remaining_args, output_line),
+        "converted" => convert_to_relaxed(remaining_args, output_line),
+        "map" | "own" => write_map(call_name, remaining_args, output_line),
         _ => Err(RowError::InvalidRow),
     }
 }
 
-fn write_tree_or_steps(
-    alloc: Global,
-    form: Form,
-    remaining_args: &str,
-    output_line: &mut RowOutput,
-) -> RowResult {
+fn write_tree_or_steps(form: Form, remaining_args: &str, output_line: &mut RowOutput) -> RowResult {
+    let alloc = output_line.alloc;
     match remaining_args.strip_prefix("made ") {
         Some(made_steps) => write_in_form(
-            alloc,
             form,
             value_steps::make_value(alloc, made_steps)?,
             output_line,
@@ -58,7 +47,6 @@ fn write_tree_or_steps(
         None => {
             let tree = parse_tree(alloc, remaining_args)?;
             write_read_result(
-                alloc,
                 form,
                 Bson::from_tree(alloc, Doubles::Finite, tree),
                 output_line,
@@ -68,13 +56,12 @@ fn write_tree_or_steps(
 }
 
 fn write_read_result(
-    alloc: Global,
     form: Form,
     read_result: ReadResult<Bson>,
     output_line: &mut RowOutput,
 ) -> RowResult {
     match read_result {
-        Ok(value) => write_in_form(alloc, form, value, output_line),
+        Ok(value) => write_in_form(form, value, output_line),
         Err(error) => {
             output_line.write_error(&error);
             Ok(())
@@ -82,28 +69,19 @@ fn write_read_result(
     }
 }
 
-fn write_in_form(alloc: Global, form: Form, value: Bson, output_line: &mut RowOutput) -> RowResult {
+fn write_in_form(form: Form, value: Bson, output_line: &mut RowOutput) -> RowResult {
+    let alloc = output_line.alloc;
     let text_by_reference = value.to_text(alloc, finite_doubles_options(), form);
-    let copy = value.clone(alloc)?;
-    let tree = tree_text(alloc, copy.into_extjson(alloc, Doubles::Finite, form));
-    write_equal_outputs(
-        value.into_text(alloc, finite_doubles_options(), form),
-        text_by_reference,
-        tree,
-        output_line,
-    )
+    let tree = value
+        .clone(alloc)?
+        .into_extjson(alloc, Doubles::Finite, form);
+    let text = value.into_text(alloc, finite_doubles_options(), form);
+    write_equal_outputs(text, text_by_reference, tree, output_line)
 }
 
-fn write_text_error(fault: TextError, output_line: &mut RowOutput) -> RowResult {
-    if let TextError::OutOfMemory = fault {
-        return Err(RowError::OutOfMemory);
-    }
-    output_line.write_display(&fault);
-    Ok(())
-}
-
-fn read_text(alloc: Global, text: &str, output_line: &mut RowOutput) -> RowResult {
-    let read_result = Bson::from_text(alloc, finite_doubles_options(), text.as_bytes());
+/// Writes what the text means, by the options.
+pub(crate) fn read_text(options: Options, text: &str, output_line: &mut RowOutput) -> RowResult {
+    let read_result = Bson::from_text(output_line.alloc, options, text.as_bytes());
     write_text_result(read_result, output_line)
 }
 
@@ -114,14 +92,15 @@ pub(crate) fn write_text_result(
 ) -> RowResult {
     match read_result {
         Ok(value) => output_line.write_value(&value),
-        Err(fault) => return write_text_error(fault, output_line),
+        Err(TextError::OutOfMemory) => return Err(RowError::OutOfMemory),
+        Err(fault) => output_line.write_display(&fault),
     }
     Ok(())
 }
 
-fn convert_to_relaxed(alloc: Global, text: &str, output_line: &mut RowOutput) -> RowResult {
+fn convert_to_relaxed(text: &str, output_line: &mut RowOutput) -> RowResult {
     match convert_text(
-        alloc,
+        output_line.alloc,
         finite_doubles_options(),
         Mode::Relaxed,
         text.as_bytes(),
@@ -137,32 +116,17 @@ fn convert_to_relaxed(alloc: Global, text: &str, output_line: &mut RowOutput) ->
     Ok(())
 }
 
-fn write_map(alloc: Global, text: &str, output_line: &mut RowOutput) -> RowResult {
+fn write_map(call_name: &str, text: &str, output_line: &mut RowOutput) -> RowResult {
+    let alloc = output_line.alloc;
     let Value::Object(map) = parse_tree(alloc, text)? else {
         return Err(RowError::InvalidRow);
     };
-    write_read_result(
-        alloc,
-        Form::Canonical,
-        Bson::from_tree(alloc, Doubles::Finite, Value::Object(map)),
-        output_line,
-    )
-}
-
-fn write_own_document(alloc: Global, text: &str, output_line: &mut RowOutput) -> RowResult {
-    let Value::Object(map) = parse_tree(alloc, text)? else {
-        return Err(RowError::InvalidRow);
+    let read_result = match call_name {
+        "map" => Bson::from_tree(alloc, Doubles::Finite, Value::Object(map)),
+        _ => match Document::from_members(alloc, Doubles::Finite, map) {
+            Ok(document) => Ok(Bson::Document(document)),
+            Err(error) => Err(error),
+        },
     };
-    match Document::from_members(alloc, Doubles::Finite, map) {
-        Ok(document) => write_in_form(
-            alloc,
-            Form::Canonical,
-            Bson::Document(document),
-            output_line,
-        ),
-        Err(error) => {
-            output_line.write_error(&error);
-            Ok(())
-        }
-    }
+    write_read_result(Form::Canonical, read_result, output_line)
 }

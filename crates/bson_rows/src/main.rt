@@ -45,9 +45,9 @@ const OUTPUT_CAPACITY: usize = 1 << 20;
 fn main(rt: HostRuntime) -> io::Result<()> {
     let alloc = rt.alloc();
     let rows = io::read_to_string(alloc, rt.reader())?;
-    let mut row_output = RowOutput::new(String::with_capacity(alloc, OUTPUT_CAPACITY)?);
+    let mut row_output = RowOutput::new(alloc, String::with_capacity(alloc, OUTPUT_CAPACITY)?);
     for row in rows.as_str().lines() {
-        run_row(alloc, row, &mut row_output);
+        run_row(row, &mut row_output);
         write_line(&rt, row_output.line())?;
     }
     Ok(())

@@ -8,15 +8,11 @@ use bson::Bson;
 use bson::extjson::{Form, KeyOrder, Options};
 use bson_convert::convert::convert_text;
 use bson_convert::mode::Mode;
-use std::alloc::Global;
 
 /// `canonical VALUE` and `relaxed VALUE`: the value is read or made, and written. Keys are in the order of
 /// the text, or with `sorted_canonical` and `sorted_relaxed` in ascending order.
-pub(crate) fn run_call(
-    alloc: Global,
-    remaining_args: &str,
-    output_line: &mut RowOutput,
-) -> RowResult {
+pub(crate) fn run_call(remaining_args: &str, output_line: &mut RowOutput) -> RowResult {
+    let alloc = output_line.alloc;
     let (form, text) = split_at_space(remaining_args);
     let (form, options) = match form.strip_prefix("sorted_") {
         Some(form) => (form, sorted_options()),
@@ -29,13 +25,13 @@ pub(crate) fn run_call(
     };
     if let Some(made_steps) = text.strip_prefix("made ") {
         let value = value_steps::make_value(alloc, made_steps)?;
-        write_value(alloc, options, form, value, output_line);
+        write_value(options, form, value, output_line);
         return Ok(());
     }
     match Bson::from_text(alloc, options, text.as_bytes()) {
         Ok(value) => {
-            write_value(alloc, options, form, value, output_line);
-            write_conversion(alloc, options, mode, text, output_line)
+            write_value(options, form, value, output_line);
+            write_conversion(options, mode, text, output_line)
         }
         rejected_text => write_text_result(rejected_text, output_line),
     }
@@ -49,16 +45,11 @@ fn sorted_options() -> Options {
 }
 
 /// Writes the text of the value, and the texts of the other calls if they are not equal.
-fn write_value(
-    alloc: Global,
-    options: Options,
-    form: Form,
-    value: Bson,
-    output_line: &mut RowOutput,
-) {
+fn write_value(options: Options, form: Form, value: Bson, output_line: &mut RowOutput) {
+    let alloc = output_line.alloc;
     output_line.write_result(value.to_text(alloc, options, form));
     if options.key_order == KeyOrder::AsGiven {
-        write_appended_text(alloc, options, form, &value, output_line);
+        write_appended_text(options, form, &value, output_line);
     }
     match value.into_text(alloc, options, form) {
         Ok(text) => write_other_text(" and moved ", text.as_str(), output_line),
@@ -67,13 +58,8 @@ fn write_value(
 }
 
 /// Writes the text that is appended to an empty vector, if it is not equal.
-fn write_appended_text(
-    alloc: Global,
-    options: Options,
-    form: Form,
-    value: &Bson,
-    output_line: &mut RowOutput,
-) {
+fn write_appended_text(options: Options, form: Form, value: &Bson, output_line: &mut RowOutput) {
+    let alloc = output_line.alloc;
     let mut appended_bytes = Vec::new(alloc);
     match value.write_text_into(alloc, options, form, &mut appended_bytes) {
         Ok(()) => {
@@ -87,13 +73,12 @@ fn write_appended_text(
 
 /// Writes the text that is written without a value, if it is not equal.
 fn write_conversion(
-    alloc: Global,
     options: Options,
     mode: Mode,
     text: &str,
     output_line: &mut RowOutput,
 ) -> RowResult {
-    match convert_text(alloc, options, mode, text.as_bytes()) {
+    match convert_text(output_line.alloc, options, mode, text.as_bytes()) {
         Ok(line) => {
             if let Ok(line) = std::str::from_utf8(&line) {
                 write_other_text(" and converted ", line.trim_end(), output_line);

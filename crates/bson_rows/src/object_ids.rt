@@ -1,46 +1,38 @@
 //! `id CALL ARGS`: object ids.
-use crate::arguments::{parse_bytes, parse_number, split_at_space};
+use crate::arguments::{parse_bytes, parse_number, parse_sized_bytes, split_at_space};
 use crate::row_error::{RowError, RowResult};
 use crate::row_output::RowOutput;
 use bson::{DbPointer, ObjectId};
-use std::alloc::Global;
 
-pub(crate) fn run_call(
-    alloc: Global,
-    remaining_args: &str,
-    output_line: &mut RowOutput,
-) -> RowResult {
+pub(crate) fn run_call(remaining_args: &str, output_line: &mut RowOutput) -> RowResult {
+    let alloc = output_line.alloc;
     let (call_name, text) = split_at_space(remaining_args);
     match call_name {
-        "parse" => {
-            output_line.write_result(ObjectId::parse_str(alloc, text));
-            Ok(())
+        "parse" => output_line.write_result(ObjectId::parse_str(alloc, text)),
+        "pointer" => write_pointer(text, output_line)?,
+        "hex" => output_line.write_result(parse_object_id(text)?.to_hex(alloc)),
+        "parts" => write_id_of_parts(text, output_line)?,
+        "timestamp" => {
+            let date_time = parse_object_id(text)?.timestamp();
+            output_line.write_display(&date_time.timestamp_millis());
+            output_line.write_item(&date_time);
         }
-        "pointer" => write_pointer(alloc, text, output_line),
-        "hex" => write_hex(alloc, text, output_line),
-        "parts" => write_id_of_parts(alloc, text, output_line),
-        "timestamp" => write_timestamp(text, output_line),
-        "order" => write_order(text, output_line),
-        _ => Err(RowError::InvalidRow),
+        "order" => {
+            let (first_id, second_id) = split_at_space(text);
+            output_line.write_ordering(parse_object_id(first_id)?, parse_object_id(second_id)?);
+        }
+        _ => return Err(RowError::InvalidRow),
     }
-}
-
-fn parse_object_id(text: &str) -> Result<ObjectId, RowError> {
-    use hex::FromHex;
-    match <[u8; 12] as FromHex>::from_hex(text) {
-        Ok(bytes) => Ok(ObjectId::from_bytes(bytes)),
-        Err(_) => Err(RowError::InvalidRow),
-    }
-}
-
-/// The text of the 12 bytes, by `to_hex`.
-fn write_hex(alloc: Global, text: &str, output_line: &mut RowOutput) -> RowResult {
-    output_line.write_result(parse_object_id(text)?.to_hex(alloc));
     Ok(())
 }
 
+fn parse_object_id(text: &str) -> Result<ObjectId, RowError> {
+    Ok(ObjectId::from_bytes(parse_sized_bytes::<12>(text)?))
+}
+
 /// `SECONDS PROCESS COUNTER`: a number, five bytes and three.
-fn write_id_of_parts(alloc: Global, text: &str, output_line: &mut RowOutput) -> RowResult {
+fn write_id_of_parts(text: &str, output_line: &mut RowOutput) -> RowResult {
+    let alloc = output_line.alloc;
     let (seconds, remaining_args) = split_at_space(text);
     let seconds = parse_number::<u32>(seconds)?;
     let (process, counter) = split_at_space(remaining_args);
@@ -59,22 +51,9 @@ fn write_id_of_parts(alloc: Global, text: &str, output_line: &mut RowOutput) -> 
     }
 }
 
-/// The moment, in milliseconds, and as it is shown.
-fn write_timestamp(text: &str, output_line: &mut RowOutput) -> RowResult {
-    let date_time = parse_object_id(text)?.timestamp();
-    output_line.write_display(&date_time.timestamp_millis());
-    output_line.write_item(&date_time);
-    Ok(())
-}
-
-fn write_order(text: &str, output_line: &mut RowOutput) -> RowResult {
-    let (first_id, second_id) = split_at_space(text);
-    output_line.write_ordering(parse_object_id(first_id)?, parse_object_id(second_id)?);
-    Ok(())
-}
-
 /// `NAMESPACE BYTES`: a copy of the pointer, and its parts.
-fn write_pointer(alloc: Global, text: &str, output_line: &mut RowOutput) -> RowResult {
+fn write_pointer(text: &str, output_line: &mut RowOutput) -> RowResult {
+    let alloc = output_line.alloc;
     let (namespace, id) = split_at_space(text);
     let id = parse_object_id(id)?;
     let pointer = DbPointer::new(String::from_str(alloc, namespace)?, id);

@@ -1,27 +1,21 @@
 //! `in_order FORM STEPS` and `in_order read TEXT`: values that are written in each document's own
 //! order of keys, and read in the order of the text.
 use crate::arguments::split_at_space;
-use crate::finite_doubles::write_text_result;
+use crate::finite_doubles::read_text;
 use crate::row_error::{RowError, RowResult};
 use crate::row_output::RowOutput;
 use crate::value_steps;
-use bson::Bson;
 use bson::extjson::{Form, KeyOrder, Options};
-use std::alloc::Global;
 
 /// `canonical STEPS` and `relaxed STEPS`: the value that the steps make is written. `read TEXT`, and
 /// `read_finite TEXT` with finite doubles: what the text means.
-pub(crate) fn run_call(
-    alloc: Global,
-    remaining_args: &str,
-    output_line: &mut RowOutput,
-) -> RowResult {
+pub(crate) fn run_call(remaining_args: &str, output_line: &mut RowOutput) -> RowResult {
     let (call_name, steps_or_text) = split_at_space(remaining_args);
     match call_name {
-        "canonical" => write_made_value(alloc, Form::Canonical, steps_or_text, output_line),
-        "relaxed" => write_made_value(alloc, Form::Relaxed, steps_or_text, output_line),
-        "read" => read_in_order(alloc, special_doubles_options(), steps_or_text, output_line),
-        "read_finite" => read_in_order(alloc, Options::mongodb(), steps_or_text, output_line),
+        "canonical" => write_made_value(Form::Canonical, steps_or_text, output_line),
+        "relaxed" => write_made_value(Form::Relaxed, steps_or_text, output_line),
+        "read" => read_text(special_doubles_options(), steps_or_text, output_line),
+        "read_finite" => read_text(Options::mongodb(), steps_or_text, output_line),
         _ => Err(RowError::InvalidRow),
     }
 }
@@ -34,12 +28,8 @@ fn special_doubles_options() -> Options {
 }
 
 /// Writes the output of the two calls, which must be equal.
-fn write_made_value(
-    alloc: Global,
-    form: Form,
-    steps: &str,
-    output_line: &mut RowOutput,
-) -> RowResult {
+fn write_made_value(form: Form, steps: &str, output_line: &mut RowOutput) -> RowResult {
+    let alloc = output_line.alloc;
     let options = special_doubles_options();
     let value = value_steps::make_value(alloc, steps)?;
     let text_by_reference = value.to_text(alloc, options, form);
@@ -51,15 +41,4 @@ fn write_made_value(
         output_line.write_result(text_by_reference);
     }
     Ok(())
-}
-
-/// Writes what the text means, its keys in the order of the text.
-fn read_in_order(
-    alloc: Global,
-    options: Options,
-    text: &str,
-    output_line: &mut RowOutput,
-) -> RowResult {
-    let read_result = Bson::from_text(alloc, options, text.as_bytes());
-    write_text_result(read_result, output_line)
 }

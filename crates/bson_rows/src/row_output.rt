@@ -1,7 +1,7 @@
 //! The output line of a row.
 use crate::row_error::{CallError, RowError};
 use bson::spec::BinarySubtype;
-use std::alloc::AllocError;
+use std::alloc::{AllocError, Global};
 use std::fmt::{Debug, Display};
 
 /// How the result of a call is written.
@@ -17,9 +17,10 @@ pub enum Style {
     Pretty,
 }
 
-/// The output line of a row, as far as it is written.
+/// The output line of a row, as far as it is written, and the allocator of its call.
 #[derive(Drop)]
 pub struct RowOutput {
+    pub(crate) alloc: Global,
     text: String,
     style: Style,
     error: Option<RowError>,
@@ -27,8 +28,9 @@ pub struct RowOutput {
 
 impl RowOutput {
     /// Returns an empty output. Output that fits the capacity of the string allocates no memory.
-    pub(crate) fn new(text: String) -> RowOutput {
+    pub(crate) fn new(alloc: Global, text: String) -> RowOutput {
         RowOutput {
+            alloc,
             text,
             style: Style::Plain,
             error: None,

@@ -6,20 +6,26 @@ use crate::row_error::{RowError, RowResult};
 use crate::row_output::RowOutput;
 use crate::row_values::parse_document;
 use bson::{JavaScriptCodeWithScope, Regex, Timestamp};
-use std::alloc::Global;
 
 pub(crate) fn run_call(
-    alloc: Global,
     call_name: &str,
     remaining_args: &str,
     output_line: &mut RowOutput,
 ) -> RowResult {
     match call_name {
         "timestamp" => output_line.write_value(&parse_timestamp(remaining_args)?),
-        "timestamp_order" => return write_timestamp_order(remaining_args, output_line),
-        "regex" => write_regex(alloc, remaining_args, output_line),
+        "timestamp_order" => {
+            let (first_timestamp, second_timestamp) = split_at_space(remaining_args);
+            let first_timestamp = parse_timestamp(first_timestamp)?;
+            output_line.write_ordering(first_timestamp, parse_timestamp(second_timestamp)?);
+        }
+        "regex" => {
+            let (pattern, options) = split_at_space(remaining_args);
+            let regex = Regex::new(output_line.alloc, pattern, options);
+            output_line.write_result(regex);
+        }
         "representation" => output_line.write_debug_value(&parse_representation(remaining_args)?),
-        "code" => return write_code_with_scope(alloc, remaining_args, output_line),
+        "code" => return write_code_with_scope(remaining_args, output_line),
         _ => return Err(RowError::InvalidRow),
     }
     Ok(())
@@ -34,27 +40,8 @@ fn parse_timestamp(text: &str) -> Result<Timestamp, RowError> {
     Ok(Timestamp { time, increment })
 }
 
-/// By time, then by increment.
-fn write_timestamp_order(remaining_args: &str, output_line: &mut RowOutput) -> RowResult {
-    let (first_timestamp, second_timestamp) = split_at_space(remaining_args);
-    output_line.write_ordering(
-        parse_timestamp(first_timestamp)?,
-        parse_timestamp(second_timestamp)?,
-    );
-    Ok(())
-}
-
-/// By `Regex::new`.
-fn write_regex(alloc: Global, remaining_args: &str, output_line: &mut RowOutput) {
-    let (pattern, options) = split_at_space(remaining_args);
-    output_line.write_result(Regex::new(alloc, pattern, options));
-}
-
-fn write_code_with_scope(
-    alloc: Global,
-    remaining_args: &str,
-    output_line: &mut RowOutput,
-) -> RowResult {
+fn write_code_with_scope(remaining_args: &str, output_line: &mut RowOutput) -> RowResult {
+    let alloc = output_line.alloc;
     let (code, scope) = split_at_space(remaining_args);
     let code = String::from_str(alloc, code)?;
     let scope = parse_document(alloc, scope)?;

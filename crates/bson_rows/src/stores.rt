@@ -11,81 +11,50 @@ use bson_store::by_key;
 use bson_store::order::next_above;
 use std::alloc::Global;
 
-pub(crate) fn run_call(
-    alloc: Global,
-    remaining_args: &str,
-    output_line: &mut RowOutput,
-) -> RowResult {
+pub(crate) fn run_call(remaining_args: &str, output_line: &mut RowOutput) -> RowResult {
+    let alloc = output_line.alloc;
     let (store_name, remaining_args) = split_at_space(remaining_args);
     match store_name {
-        "small" => run_commands(
-            alloc,
-            &mut SmallPairs::new(alloc),
-            remaining_args,
-            output_line,
-        ),
-        "indexed" => run_commands(
-            alloc,
-            &mut IndexedPairs::new(alloc),
-            remaining_args,
-            output_line,
-        ),
-        "replay_small" => run_replay(
-            alloc,
-            &mut SmallPairs::new(alloc),
-            remaining_args,
-            output_line,
-        ),
-        "replay_indexed" => run_replay(
-            alloc,
-            &mut IndexedPairs::new(alloc),
-            remaining_args,
-            output_line,
-        ),
+        "small" => run_commands(&mut SmallPairs::new(alloc), remaining_args, output_line),
+        "indexed" => run_commands(&mut IndexedPairs::new(alloc), remaining_args, output_line),
+        "replay_small" => run_replay(&mut SmallPairs::new(alloc), remaining_args, output_line),
+        "replay_indexed" => run_replay(&mut IndexedPairs::new(alloc), remaining_args, output_line),
         _ => Err(RowError::InvalidRow),
     }
 }
 
 fn run_commands<S: PairStore<i32>>(
-    alloc: Global,
     store: &mut S,
     commands: &str,
     output_line: &mut RowOutput,
 ) -> RowResult {
     for command in commands.split_whitespace() {
-        run_command(alloc, store, command, output_line)?;
+        run_command(store, command, output_line)?;
     }
     write_pairs(store, output_line);
     Ok(())
 }
 
 fn run_command<S: PairStore<i32>>(
-    alloc: Global,
     store: &mut S,
     command: &str,
     output_line: &mut RowOutput,
 ) -> RowResult {
     let (command_name, remaining_args) = split_at_colon(command);
     match command_name {
-        "put" | "push" => run_put_or_push(alloc, store, command_name, remaining_args, output_line),
-        "take" => {
-            output_line.write_option(by_key::take(store, remaining_args));
-            Ok(())
-        }
-        "clear" => {
-            store.clear();
-            Ok(())
-        }
+        "put" | "push" => run_put_or_push(store, command_name, remaining_args, output_line)?,
+        "take" => output_line.write_option(by_key::take(store, remaining_args)),
+        "clear" => store.clear(),
         "find" => write_index(store.find(remaining_args), output_line),
         "above" => write_index(next_above(store, Some(remaining_args)), output_line),
         "first" => write_index(next_above(store, None), output_line),
-        _ => run_index_command(store, command_name, remaining_args, output_line),
+        _ => run_index_command(store, command_name, remaining_args, output_line)?,
     }
+    Ok(())
 }
 
 /// The row is invalid if a pushed key exists already.
 fn run_put_or_push<S: PairStore<i32>>(
-    alloc: Global,
     store: &mut S,
     command_name: &str,
     remaining_args: &str,
@@ -93,17 +62,15 @@ fn run_put_or_push<S: PairStore<i32>>(
 ) -> RowResult {
     let (key, value) = split_at_colon(remaining_args);
     let value = parse_number::<i32>(value)?;
-    let key = String::from_str(alloc, key)?;
+    let key = String::from_str(output_line.alloc, key)?;
     if command_name == "push" {
         return push_value(store, key, value);
     }
     match by_key::put(store, key, value) {
-        Ok(old_value) => {
-            output_line.write_option(old_value);
-            Ok(())
-        }
-        Err(_) => Err(RowError::OutOfMemory),
+        Ok(old_value) => output_line.write_option(old_value),
+        Err(_) => return Err(RowError::OutOfMemory),
     }
+    Ok(())
 }
 
 fn push_value<S: PairStore<i32>>(store: &mut S, key: String, value: i32) -> RowResult {
@@ -155,13 +122,12 @@ fn set_pair_value(pair: (&String, &mut i32), value: i32, output_line: &mut RowOu
     output_line.write_item(key);
 }
 
-fn write_index(found_index: Option<usize>, output_line: &mut RowOutput) -> RowResult {
+fn write_index(found_index: Option<usize>, output_line: &mut RowOutput) {
     output_line.write_word("@");
     match found_index {
         Some(pair_index) => output_line.write_display(&pair_index),
         None => output_line.write_str("None"),
     }
-    Ok(())
 }
 
 fn write_key_and_value(key: &String, value: i32, output_line: &mut RowOutput) {
@@ -187,11 +153,11 @@ fn write_pairs<S: PairStore<i32>>(store: &S, output_line: &mut RowOutput) {
 
 /// The same commands by `replay`.
 fn run_replay<S: PairStore<i32>>(
-    alloc: Global,
     store: &mut S,
     text: &str,
     output_line: &mut RowOutput,
 ) -> RowResult {
+    let alloc = output_line.alloc;
     let mut commands = Vec::new(alloc);
     for command_text in text.split_whitespace() {
         commands.push(parse_command(alloc, command_text)?)?;

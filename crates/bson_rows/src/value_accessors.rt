@@ -4,14 +4,9 @@ use crate::row_output::RowOutput;
 use crate::row_values::parse_value;
 use crate::type_tags::write_element_type;
 use bson::Bson;
-use std::alloc::Global;
 
-pub(crate) fn run_call(
-    alloc: Global,
-    remaining_args: &str,
-    output_line: &mut RowOutput,
-) -> RowResult {
-    let mut value = parse_value(alloc, remaining_args)?;
+pub(crate) fn run_call(remaining_args: &str, output_line: &mut RowOutput) -> RowResult {
+    let mut value = parse_value(output_line.alloc, remaining_args)?;
     write_element_type(value.element_type(), output_line);
     write_accessors(&value, output_line);
     write_mut_accessors(&mut value, output_line);

@@ -5,7 +5,7 @@
 //! or the list below it; `scope:CODE` makes code of the document on top; each other step is a value
 //! of its kind.
 use crate::arguments::{
-    parse_16_bytes, parse_byte, parse_bytes, parse_double_bits, parse_number, split_at_colon,
+    parse_byte, parse_bytes, parse_double_bits, parse_number, parse_sized_bytes, split_at_colon,
 };
 use crate::row_error::RowError;
 use bson::binary::Binary;
@@ -61,7 +61,9 @@ fn make_simple_value(alloc: Global, step_name: &str, step_args: &str) -> Result<
         "int64" => Ok(Bson::Int64(parse_number::<i64>(step_args)?)),
         "text" => Ok(Bson::String(String::from_str(alloc, step_args)?)),
         "date" => Ok(Bson::DateTime(DateTime::from_millis(parse_number::<i64>(step_args)?))),
-        "decimal" => Ok(Bson::Decimal128(Decimal128::from_bytes(parse_16_bytes(step_args)?))),
+        "decimal" => Ok(Bson::Decimal128(Decimal128::from_bytes(parse_sized_bytes::<16>(
+            step_args,
+        )?))),
         _ => Err(RowError::InvalidRow),
     }
 }

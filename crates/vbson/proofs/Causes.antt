@@ -1,5 +1,5 @@
--- What the status of a fault says of the bytes that have it.
-use Rattle.std.proofs.Common.{◌≡◌, ◌≤◌, inl, inr, ℕ, List, arith, subst}
+-- What the status of a fault says of a text.
+use Rattle.std.proofs.Common.{◌≡◌, ◌≤◌, inr, ℕ, List, arith, subst}
 use Rattle.serde_json.specs.Data.{Data}
 use Rattle.bson.specs.TextMeaning.{IsNotJsonText, IsTextOf}
 use Rattle.bson_tree.specs.Faults.{Fault as TreeFault}
@@ -16,9 +16,10 @@ use Rattle.bson_convert.specs.declared.error.Error.TheVariants.{CannotWrite, Not
 use Rattle.bson_run.specs.Encode.{TextHasNoBsonBytes, IsEncodeErrorBy}
 use Rattle.bson_convert.specs.declared.encode_error.NoBytes as without
 use Rattle.bson_convert.specs.declared.encode_error.NoBytes.TheVariants.{NoDocument, ZeroInKey, ZeroInRegex, TooLong}
-use Rattle.vbson.specs.Convert.{IsInvalidExtendedJson, IsInvalidShape, IsBadObjectId, IsCauseOfStatus, IsTextError, status_of_reason, status_of}
-use Rattle.vbson.specs.Convert.{status_of_encode_error}
-use Rattle.vbson.specs.Documents.{IsEncodeFailure}
+use Rattle.vbson.proofs.Preprocessed.{IsReadBy, no_value, under}
+use Rattle.vbson.specs.Convert.{IsInvalidExtendedJson, IsInvalidShape, IsBadObjectId, status_of_encode_error, status_of_reason, status_of}
+use Rattle.vbson.specs.Reading.{IsTextEncodeFailure, IsTextReadFailure}
+use Rattle.vbson.specs.declared.options.CallOptions.{CallOptions}
 
 is_bad_id : (f : TreeFault) (r : Reason) → IsReasonOfFault f r → status_of_reason r ≡ 3 → IsBadObjectId f
 is_bad_id f (BadObjectId e) h is = (h.0, h.1)
@@ -55,90 +56,72 @@ one_of_three P o (NotCanonical column) bytes h not_json value memory = absurd h
 one_of_three P o OutOfMemory bytes h not_json value memory = memory
 one_of_three P o CannotWrite bytes h not_json value memory = absurd h
 
-pub causes : (o : Options) (fault : Error) (bytes : List ℕ) → IsRejectedIn o fault bytes
-    → IsCauseOfStatus o (status_of fault) bytes
-causes o fault bytes rejected = one_of_three (λ f. IsCauseOfStatus o (status_of f) bytes) o fault bytes rejected
-    (λ h. record {
-      not_json = λ is. h;
-      bad_object_id = λ is. absurd (omega arith);
-      not_extended_json = λ is. absurd (omega arith);
-    })
-    (λ place h. record {
-      not_json = λ is. absurd (not_two place.reason is);
-      bad_object_id = λ is. of_place o IsBadObjectId place bytes h (is_bad_id _ place.reason h.2.reason is);
-      not_extended_json = λ is. of_place o IsInvalidShape place bytes h (is_bad _ place.reason h.2.reason is);
-    })
-    (record {
-      not_json = λ is. absurd (omega arith);
-      bad_object_id = λ is. absurd (omega arith);
-      not_extended_json = λ is. absurd (omega arith);
-    })
-
 pub reason_status : (r : Reason) → (2 ≤ status_of_reason r) × (status_of_reason r ≤ 5)
 reason_status (BadObjectId e) = (omega arith, omega arith)
 reason_status (WrongShape message) = (omega arith, omega arith)
 
-pub two_to_five : (o : Options) (fault : Error) (bytes : List ℕ) → IsRejectedIn o fault bytes
-    → (2 ≤ status_of fault) × (status_of fault ≤ 5)
-two_to_five o fault bytes rejected = one_of_three (λ f. (2 ≤ status_of f) × (status_of f ≤ 5)) o fault bytes rejected
-    (λ h. (omega arith, omega arith)) (λ place h. reason_status place.reason) (omega arith, omega arith)
+-- what the status of a fault says of the text in whose place the text with the fault is read
+module _ (options : CallOptions) (text : List ℕ) (o : Options) (read : List ℕ) (is_read : IsReadBy options text o read) where
+  pub rejected : (fault : Error) → IsRejectedIn o fault read → IsTextReadFailure options (status_of fault) text
+  rejected fault h = one_of_three (λ f. IsTextReadFailure options (status_of f) text) o fault read h
+      (λ no_text. record {
+        not_json = λ is. under (λ p. IsNotJsonText) options text o read is_read no_text;
+        bad_object_id = λ is. absurd (omega arith);
+        not_extended_json = λ is. absurd (omega arith);
+        possible_statuses = (omega arith, omega arith);
+      })
+      (λ place h. record {
+        not_json = λ is. absurd (not_two place.reason is);
+        bad_object_id = λ is. under (λ p. IsInvalidExtendedJson p IsBadObjectId) options text o read is_read
+            (of_place o IsBadObjectId place read h (is_bad_id _ place.reason h.2.reason is));
+        not_extended_json = λ is. inr (under (λ p. IsInvalidExtendedJson p IsInvalidShape) options text o read is_read
+            (of_place o IsInvalidShape place read h (is_bad _ place.reason h.2.reason is)));
+        possible_statuses = reason_status place.reason;
+      })
+      (record {
+        not_json = λ is. absurd (omega arith);
+        bad_object_id = λ is. absurd (omega arith);
+        not_extended_json = λ is. absurd (omega arith);
+        possible_statuses = (omega arith, omega arith);
+      })
 
--- it is neither one of a reader nor of a writer
-pub of_refused : (o : Options) (fault : Error) (bytes : List ℕ) → IsRejectedIn o fault bytes → IsTextError fault
-of_refused o fault bytes rejected = one_of_three IsTextError o fault bytes rejected (λ h. tt) (λ place h. tt) tt
+  -- a status from 10 on says nothing of what has no meaning
+  valued : (status : ℕ) → 10 ≤ status → status ≤ 13
+      → (status ≡ 10 → TextHasNoBsonBytes o.key_order o NoDocument read) → (status ≡ 11 → TextHasNoBsonBytes o.key_order o ZeroInKey read)
+      → (status ≡ 12 → TextHasNoBsonBytes o.key_order o ZeroInRegex read) → (status ≡ 13 → TextHasNoBsonBytes o.key_order o TooLong read)
+      → IsTextEncodeFailure options status text
+  valued status least most no_document key_has_zero regex_has_zero too_long =
+      let cannot = λ (why : without.NoBytes). under (λ p. TextHasNoBsonBytes p.key_order p why) options text o read is_read in
+      record {
+        not_json = λ is. absurd (omega (arith, least, is));
+        bad_object_id = λ is. absurd (omega (arith, least, is));
+        not_extended_json = λ is. absurd (omega (arith, least, is));
+        no_document = λ is. cannot NoDocument (no_document is);
+        key_has_zero = λ is. cannot ZeroInKey (key_has_zero is);
+        regex_has_zero = λ is. cannot ZeroInRegex (regex_has_zero is);
+        too_long = λ is. cannot TooLong (too_long is);
+        possible_statuses = inr (least, most);
+      }
 
--- ---- a text that gives no bytes
+  without_bytes : (why : without.NoBytes) → TextHasNoBsonBytes o.key_order o why read
+      → IsTextEncodeFailure options (status_of_encode_error why) text
+  without_bytes NoDocument h = valued 10 (omega arith) (omega arith)
+      (λ is. h) (λ is. absurd (omega (arith, is))) (λ is. absurd (omega (arith, is))) (λ is. absurd (omega (arith, is)))
+  without_bytes ZeroInKey h = valued 11 (omega arith) (omega arith)
+      (λ is. absurd (omega (arith, is))) (λ is. h) (λ is. absurd (omega (arith, is))) (λ is. absurd (omega (arith, is)))
+  without_bytes ZeroInRegex h = valued 12 (omega arith) (omega arith)
+      (λ is. absurd (omega (arith, is))) (λ is. absurd (omega (arith, is))) (λ is. h) (λ is. absurd (omega (arith, is)))
+  without_bytes TooLong h = valued 13 (omega arith) (omega arith)
+      (λ is. absurd (omega (arith, is))) (λ is. absurd (omega (arith, is))) (λ is. absurd (omega (arith, is))) (λ is. h)
 
--- a status up to 5 says nothing of what has one
-refused : (o : Options) (fault : Error) (text : List ℕ) → IsRejectedIn o fault text
-    → IsEncodeFailure o (status_of fault) text
-refused o fault text h =
-    let (least, most) = two_to_five o fault text h in
-    record {
-      cause = causes o fault text h;
-      no_document = λ is. absurd (omega (arith, most, is));
-      key_has_zero = λ is. absurd (omega (arith, most, is));
-      regex_has_zero = λ is. absurd (omega (arith, most, is));
-      too_long = λ is. absurd (omega (arith, most, is));
-      possible_statuses = inl (least, most);
-    }
+  refused : (fault : Error) → IsRejectedIn o fault read → IsTextEncodeFailure options (status_of fault) text
+  refused fault h = no_value options (status_of fault) text (rejected fault h)
 
--- a status from 10 on says nothing of what has no meaning
-valued : (o : Options) (status : ℕ) (text : List ℕ) → 10 ≤ status → status ≤ 13
-    → (status ≡ 10 → TextHasNoBsonBytes o.key_order o NoDocument text) → (status ≡ 11 → TextHasNoBsonBytes o.key_order o ZeroInKey text)
-    → (status ≡ 12 → TextHasNoBsonBytes o.key_order o ZeroInRegex text) → (status ≡ 13 → TextHasNoBsonBytes o.key_order o TooLong text)
-    → IsEncodeFailure o status text
-valued o status text least most no_document key_has_zero regex_has_zero too_long = record {
-  cause = record {
-    not_json = λ is. absurd (omega (arith, least, is));
-    bad_object_id = λ is. absurd (omega (arith, least, is));
-    not_extended_json = λ is. absurd (omega (arith, least, is));
-  };
-  no_document = no_document;
-  key_has_zero = key_has_zero;
-  regex_has_zero = regex_has_zero;
-  too_long = too_long;
-  possible_statuses = inr (least, most);
-}
-
-without_bytes : (o : Options) (why : without.NoBytes) (text : List ℕ)
-    → TextHasNoBsonBytes o.key_order o why text → IsEncodeFailure o (status_of_encode_error why) text
-without_bytes o NoDocument text h = valued o 10 text (omega arith) (omega arith)
-    (λ is. h) (λ is. absurd (omega (arith, is))) (λ is. absurd (omega (arith, is))) (λ is. absurd (omega (arith, is)))
-without_bytes o ZeroInKey text h = valued o 11 text (omega arith) (omega arith)
-    (λ is. absurd (omega (arith, is))) (λ is. h) (λ is. absurd (omega (arith, is))) (λ is. absurd (omega (arith, is)))
-without_bytes o ZeroInRegex text h = valued o 12 text (omega arith) (omega arith)
-    (λ is. absurd (omega (arith, is))) (λ is. absurd (omega (arith, is))) (λ is. h) (λ is. absurd (omega (arith, is)))
-without_bytes o TooLong text h = valued o 13 text (omega arith) (omega arith)
-    (λ is. absurd (omega (arith, is))) (λ is. absurd (omega (arith, is))) (λ is. absurd (omega (arith, is))) (λ is. h)
-
--- what the status of the fault says of the text
-pub unencoded : (o : Options) (fault : Error) (text : List ℕ) → IsEncodeErrorBy o.key_order o fault text
-    → IsEncodeFailure o (status_of fault) text
-unencoded o CannotRead text h = absurd h
-unencoded o NotJson text h = refused o NotJson text h
-unencoded o (NotExtendedJson place) text h = refused o (NotExtendedJson place) text h
-unencoded o (NoBytes why) text h = without_bytes o why text h
-unencoded o (NotCanonical column) text h = absurd h
-unencoded o OutOfMemory text h = refused o OutOfMemory text h
-unencoded o CannotWrite text h = absurd h
+  pub unencoded : (fault : Error) → IsEncodeErrorBy o.key_order o fault read → IsTextEncodeFailure options (status_of fault) text
+  unencoded CannotRead h = absurd h
+  unencoded NotJson h = refused NotJson h
+  unencoded (NotExtendedJson place) h = refused (NotExtendedJson place) h
+  unencoded (NoBytes why) h = without_bytes why h
+  unencoded (NotCanonical column) h = absurd h
+  unencoded OutOfMemory h = refused OutOfMemory h
+  unencoded CannotWrite h = absurd h

@@ -1,33 +1,23 @@
--- What the status of a document says: of its bytes, where they gave no text, and of its text, where that gave no bytes.
+-- What the status of a document says of its bytes, where they gave no text.
 use Rattle.std.proofs.Common.{◌≡◌, ◌⊎◌, inl, inr, ℕ, List, Some, true, true≢false, refl, sym, ap, subst, ◌∙◌, arith, rules}
-use Rattle.std.specs.Prelude.{IsUtf8}
-use Rattle.serde_json.specs.Data.{Data}
-use Rattle.serde_json.specs.Read.{read}
 use Rattle.bson.specs.Doubles.{Doubles}
 use Rattle.bson.specs.Doubles.TheVariants.{Special, Finite}
 use Rattle.bson.specs.Form.{Form}
 use Rattle.bson.specs.Form.TheVariants as form
 use Rattle.bson_scalar.specs.Forms.{form_in}
-use Rattle.bson.specs.OrderedTexts.{HasMeaningInOrder}
-use Rattle.bson.specs.TextMeaning.{HasTextMeaningIn}
-use Rattle.bson.specs.TextMeaning as meaning
 use Rattle.bson.specs.Texts.{IsTextInKeyOrder, IsTextInOrder}
 use Rattle.bson.specs.View.{bson_view, document_view}
 use Rattle.bson.specs.declared.bson.Bson.{the_lemmas}
 use Rattle.bson.specs.declared.bson.Bson.TheVariants.{Document as held}
 use Rattle.bson.specs.declared.document.Document.{Document}
 use Rattle.bson_model.specs.declared.options.Options.{Options}
-use Rattle.bson.specs.OrderedTrees.{read_in_order}
-use Rattle.bson.specs.MeansInOrder.{MeansInOrder}
 use Rattle.bson_bytes.specs.ReadDocuments.{IsReadAsDocumentIn}
 use Rattle.bson_codec.specs.DocumentText.{IsDocumentTextOf}
-use Rattle.bson_model.specs.Means.{MeansIn}
 use Rattle.bson_model.specs.Normal.{writable_in}
-use Rattle.bson_model.specs.Sorted.{sorted}
 use Rattle.bson_model.specs.Value.{Value, Pairs, document}
 use Rattle.bson_convert.specs.declared.mode.Mode.{Mode}
 use Rattle.bson_convert.specs.declared.mode.Mode.TheVariants.{Canonical, Relaxed, Show}
-use Rattle.vbson.specs.Documents.{Decodes, PairsHaveNoTextIn, IsOneDocument, IsDecodeFailure, depth, streaming_form, streaming_form_in_order, form_of_mode}
+use Rattle.vbson.specs.Documents.{Decodes, PairsHaveNoTextIn, IsOneDocument, IsDecodeFailure, IsTextOfDocument, depth, streaming_form, streaming_form_in_order, form_of_mode}
 use Rattle.bson_model.specs.declared.options.DuplicateKeys.{DuplicateKeys}
 use Rattle.bson_model.specs.declared.options.DuplicateKeys.TheVariants.{LastWins, Reject}
 use Rattle.bson_model.specs.declared.options.KeyOrder.{KeyOrder}
@@ -92,29 +82,30 @@ pub unread_directly : (keys : DuplicateKeys) (o : Options) (mode : Mode) (f : Fo
 unread_directly Reject o mode f status bytes given h = absurd cc
 unread_directly LastWins o mode f status bytes given h = unread LastWins o mode status bytes h
 
+-- a text in the form of the mode is the document's
+pub text_of_mode : (o : Options) (mode : Mode) (f : Form) (ps : Pairs) (text : List ℕ) → form_of_mode mode ≡ Some f
+    → IsTextInKeyOrder o.key_order o.doubles (form_in o.layout f) (document ps) text → IsTextOfDocument o mode ps text
+text_of_mode o Canonical f ps text is h =
+    let same : f ≡ form.Canonical = cc in
+    subst (λ g. IsTextInKeyOrder o.key_order o.doubles (form_in o.layout g) (document ps) text) same h
+text_of_mode o Relaxed f ps text is h =
+    let same : f ≡ form.Relaxed = cc in
+    subst (λ g. IsTextInKeyOrder o.key_order o.doubles (form_in o.layout g) (document ps) text) same h
+text_of_mode o Show f ps text is h = absurd cc
+
 -- the text that is written while the bytes are read is that of the document
 module _ (o : Options) (bytes text : List ℕ) (given : o.key_order ≡ AsGiven) (finite : o.doubles ≡ Finite) where
   under_options : (f : Form) (v : Value) → IsTextInOrder Finite f v text → IsTextInKeyOrder o.key_order o.doubles f v text
   under_options f v is =
       subst (λ k. IsTextInKeyOrder k o.doubles f v text) (sym given) (subst (λ D. IsTextInOrder D f v text) (sym finite) is)
 
-  as_form : (f g : Form) → f ≡ g → IsDocumentTextOf (form_in o.layout f) depth bytes text
-      → (pairs : Pairs) × IsReadAsDocumentIn LastWins depth bytes pairs
-      × IsTextInKeyOrder o.key_order o.doubles (form_in o.layout g) (document pairs) text
-  as_form f g same it = (
-    it.pairs,
-    it.read,
-    under_options (form_in o.layout g) (document it.pairs)
-        (subst (λ h. IsTextInOrder Finite (form_in o.layout h) (document it.pairs) text) same it.text_in_order),
-  )
-
   in_form : (mode : Mode) (f : Form) → form_of_mode mode ≡ Some f
       → IsDocumentTextOf (form_in o.layout f) depth bytes text → Decodes LastWins o mode bytes text
-  in_form Canonical f is it =
-      let (pairs, read, written) = as_form f form.Canonical (cc) it in record { pairs = pairs; read = read; written = written }
-  in_form Relaxed f is it =
-      let (pairs, read, written) = as_form f form.Relaxed (cc) it in record { pairs = pairs; read = read; written = written }
-  in_form Show f is it = absurd cc
+  in_form mode f is it = record {
+    pairs = it.pairs;
+    read = it.read;
+    written = text_of_mode o mode f it.pairs text is (under_options (form_in o.layout f) (document it.pairs) it.text_in_order);
+  }
 
 by_options : (o : Options) (order : KeyOrder) (D : Doubles) (mode : Mode) (f : Form) (bytes text : List ℕ)
     → o.key_order ≡ order → o.doubles ≡ D → streaming_form_in_order order D mode ≡ Some f
@@ -129,35 +120,8 @@ pub directly : (keys : DuplicateKeys) (o : Options) (mode : Mode) (f : Form) (by
 directly Reject o mode f bytes text given it = absurd cc
 directly LastWins o mode f bytes text given it = by_options o o.key_order o.doubles mode f bytes text refl refl given it
 
--- ---- texts
+-- ---- values
 
 -- a document as a value is seen as the pairs of the document
 pub document_seen : (d : Document) → bson_view (held d) ≡ document (document_view d)
 document_seen d = search (rules, the_lemmas)
-
--- a text means no two documents
-pub means_one : (D : Doubles) (bytes : List ℕ) (tree : Data) (ps qs : Pairs) → meaning.IsTextOf bytes tree
-    → MeansIn D tree (document ps) → HasTextMeaningIn D bytes (document qs) → ps ≡ qs
-means_one D bytes tree ps qs text means it =
-    let a : read bytes ≡ Some tree = text.tree_read in
-    let b : read bytes ≡ Some it.tree = it.text.tree_read in
-    let same : tree ≡ it.tree = cc in
-    let one : document ps ≡ document qs = it.meaning.one (document ps) (subst (λ t. MeansIn D t (document ps)) same means) in
-    cc
-
--- nor two in order
-pub means_one_in_order : (D : Doubles) (bytes : List ℕ) (ps qs : Pairs) → HasMeaningInOrder D bytes (document ps)
-    → HasMeaningInOrder D bytes (document qs) → ps ≡ qs
-means_one_in_order D bytes ps qs it also =
-    let a : read_in_order bytes ≡ Some it.tree = it.tree_read in
-    let b : read_in_order bytes ≡ Some also.tree = also.tree_read in
-    let same : it.tree ≡ also.tree = cc in
-    let one : document ps ≡ document qs =
-    also.one (document ps) (subst (λ t. MeansInOrder D t (document ps)) same it.means) in
-    cc
-
--- what means a value in order means one by default
-pub means_by_default : (D : Doubles) (bytes : List ℕ) (v : Value) → IsUtf8 bytes → HasMeaningInOrder D bytes v
-    → (tree : Data) × (w : Value) × meaning.IsTextOf bytes tree × MeansIn D tree w
-means_by_default D bytes v utf8 it =
-    (it.by_default.0, sorted v, record { utf8 = utf8; tree_read = it.by_default.1 }, it.by_default.2.means)

@@ -1,10 +1,9 @@
 -- What is read in the place of a text, and what a status says of it.
-use Rattle.std.proofs.Common.{◌≡◌, ◌≢◌, ◌≤◌, ◌⊎◌, inl, inr, ℕ, List, Option, Some, refl, sym, ap, subst, arith}
+use Rattle.std.proofs.Common.{◌≡◌, ◌≢◌, ◌≤◌, ◌⊎◌, inl, inr, ℕ, List, Option, Some, refl, sym, subst, arith}
 use Rattle.std.specs.Prelude.{String}
 use Rattle.std.specs.declared.alloc.Global.{Global}
 use Rattle.json.specs.Json.{Json}
 use Rattle.json.specs.Strict.{HasUniqueKeys}
-use Rattle.serde_json.specs.Data.{Data}
 use Rattle.serde_json.specs.Read.{read}
 use Rattle.bson_tokens.specs.DuplicateKeys.{DuplicateAt}
 use Rattle.bson_tree.specs.Place.{PathSegment}
@@ -13,23 +12,17 @@ use Rattle.bson_scalar.specs.declared.form.Doubles.{Doubles}
 use Rattle.bson_model.specs.Means.{MeansIn}
 use Rattle.bson_bytes.specs.ReadDocuments.{IsReadAsDocumentIn}
 use Rattle.bson_model.specs.Value.{Pairs, Value}
-use Rattle.bson.specs.TextMeaning.{HasTextMeaningIn, IsNotJsonText, IsTextOf}
+use Rattle.bson.specs.TextMeaning.{HasTextMeaningIn}
 use Rattle.bson_model.specs.declared.options.Options.{Options}
-use Rattle.bson_convert.specs.Convert.{IsRejectedIn}
-use Rattle.bson_convert.specs.declared.encode_error.NoBytes as without
-use Rattle.bson_convert.specs.declared.encode_error.NoBytes.TheVariants.{NoDocument, ZeroInKey, ZeroInRegex, TooLong}
 use Rattle.bson_convert.specs.declared.error.Error.{Error}
 use Rattle.bson_convert.specs.declared.error.Error.TheVariants.{CannotRead, NotJson, NotExtendedJson, NoBytes, OutOfMemory}
 use Rattle.bson_convert.specs.declared.error.Error.TheVariants.{CannotWrite, NotCanonical}
 use Rattle.bson_run.proofs.Offered.{not_taken, one_taken}
-use Rattle.bson_run.specs.Encode.{TextHasNoBsonBytes}
 use Rattle.bson_run.specs.Preprocessed.{IsPreprocessedAs, IsPreprocessingError, IsRejectedByPreprocessing, preprocessed_of}
 use Rattle.bson_run.specs.declared.task.Preprocessing.{Preprocessing}
-use Rattle.vbson.proofs.Causes.{causes, two_to_five}
-use Rattle.vbson.specs.Convert.{IsBadObjectId, IsInvalidExtendedJson, IsInvalidShape, IsReadWith}
-use Rattle.vbson.specs.Convert.{duplicate_keys_of, options_of_call, preprocessing_of, status_of}
-use Rattle.vbson.specs.Documents.{IsEncodeFailure, depth}
-use Rattle.vbson.specs.Reading.{HasRejectedKey, IsReadFailure, IsTextReadFailure, MeansUnder}
+use Rattle.vbson.specs.Convert.{IsReadWith, duplicate_keys_of, options_of_call, preprocessing_of}
+use Rattle.vbson.specs.Documents.{depth}
+use Rattle.vbson.specs.Reading.{HasRejectedKey, IsTextReadFailure, MeansUnder}
 use Rattle.vbson.specs.Reading.{IsDocumentReadFailure, IsPreprocessingFailure, IsTextEncodeFailure}
 use Rattle.vbson.specs.declared.options.CallOptions.{CallOptions}
 
@@ -92,42 +85,7 @@ meant options text o read value is means =
     of_under (λ p x. HasTextMeaningIn p.doubles x value) options text o read is
     (record { read_text = means.read_text; read_as = means.read_as; has = means.meaning })
 
--- ---- what a status says
-
-pub rejected : (o : Options) (fault : Error) (bytes : List ℕ) → IsRejectedIn o fault bytes
-    → ((tree : Data) (value : Value) → IsTextOf bytes tree → MeansIn o.doubles tree value → fault ≡ OutOfMemory)
-    → IsReadFailure o (status_of fault) bytes
-rejected o fault bytes h accepts = record {
-  cause = causes o fault bytes h;
-  accepts = λ value means. ap status_of (accepts means.tree value means.text means.meaning.means);
-  possible_statuses = two_to_five o fault bytes h;
-}
-
--- of what is read in the place of a text
-pub without_value : (options : CallOptions) (status : ℕ) (text : List ℕ) (o : Options) (read : List ℕ) → IsReadBy options text o read
-    → IsReadFailure o status read → IsTextReadFailure options status text
-without_value options status text o read is h = record {
-  not_json = λ two. under (λ p. IsNotJsonText) options text o read is (h.cause.not_json two);
-  bad_object_id = λ three. under (λ p. IsInvalidExtendedJson p IsBadObjectId) options text o read is (h.cause.bad_object_id three);
-  not_extended_json = λ four. inr (under (λ p. IsInvalidExtendedJson p IsInvalidShape) options text o read is (h.cause.not_extended_json four));
-  accepts = λ value means. h.accepts value (meant options text o read value is means);
-  possible_statuses = h.possible_statuses;
-}
-
-pub without_bytes : (options : CallOptions) (status : ℕ) (text : List ℕ) (o : Options) (read : List ℕ) → IsReadBy options text o read
-    → IsEncodeFailure o status read → IsTextEncodeFailure options status text
-without_bytes options status text o read is h =
-    let cannot = λ (why : without.NoBytes). under (λ p. TextHasNoBsonBytes p.key_order p why) options text o read is in
-    record {
-      not_json = λ two. under (λ p. IsNotJsonText) options text o read is (h.cause.not_json two);
-      bad_object_id = λ three. under (λ p. IsInvalidExtendedJson p IsBadObjectId) options text o read is (h.cause.bad_object_id three);
-      not_extended_json = λ four. inr (under (λ p. IsInvalidExtendedJson p IsInvalidShape) options text o read is (h.cause.not_extended_json four));
-      no_document = λ ten. cannot NoDocument (h.no_document ten);
-      key_has_zero = λ eleven. cannot ZeroInKey (h.key_has_zero eleven);
-      regex_has_zero = λ twelve. cannot ZeroInRegex (h.regex_has_zero twelve);
-      too_long = λ thirteen. cannot TooLong (h.too_long thirteen);
-      possible_statuses = h.possible_statuses;
-    }
+-- ---- what preprocessing rejects
 
 -- a text that preprocessing rejects is not read
 pub not_read : ((j : Json) (path : List PathSegment) → DuplicateAt j path → ¬ HasUniqueKeys j) → (preprocessing : Preprocessing)
@@ -175,25 +133,23 @@ unread options status text h =
       not_json = λ is. absurd (omega (arith, least, is));
       bad_object_id = λ is. absurd (omega (arith, least, is));
       not_extended_json = λ is. inl (h.has_rejected_key is);
-      accepts = λ value means. h.accepts means.read_text means.read_as;
       possible_statuses = (omega (arith, least), most);
     }
 
--- and no bytes
-pub unencoded_first : (options : CallOptions) (status : ℕ) (text : List ℕ) → IsPreprocessingFailure options status text
+-- and what has no value has no bytes
+pub no_value : (options : CallOptions) (status : ℕ) (text : List ℕ) → IsTextReadFailure options status text
     → IsTextEncodeFailure options status text
-unencoded_first options status text h =
-    let no_value = unread options status text h in
-    let most = no_value.possible_statuses.1 in
+no_value options status text h =
+    let most = h.possible_statuses.1 in
     record {
-      not_json = no_value.not_json;
-      bad_object_id = no_value.bad_object_id;
-      not_extended_json = no_value.not_extended_json;
+      not_json = h.not_json;
+      bad_object_id = h.bad_object_id;
+      not_extended_json = h.not_extended_json;
       no_document = λ is. absurd (omega (arith, most, is));
       key_has_zero = λ is. absurd (omega (arith, most, is));
       regex_has_zero = λ is. absurd (omega (arith, most, is));
       too_long = λ is. absurd (omega (arith, most, is));
-      possible_statuses = inl no_value.possible_statuses;
+      possible_statuses = inl h.possible_statuses;
     }
 
 -- ---- documents

@@ -9,15 +9,14 @@ use Rattle.bson_tree.specs.declared.place.Reason.TheVariants.{BadObjectId, Wrong
 use Rattle.bson.specs.Doubles.TheVariants.{Special, Finite}
 use Rattle.bson_scalar.specs.declared.form.Layout.{Layout}
 use Rattle.bson_scalar.specs.declared.form.Layout.TheVariants.{Specified, MongoDb}
-use Rattle.bson.specs.TextMeaning.{IsNotJsonText, IsTextOf}
+use Rattle.bson.specs.TextMeaning.{IsTextOf}
 use Rattle.bson_model.specs.declared.options.Options.{Options}
 use Rattle.bson_convert.specs.Convert.{IsAccepted, newline}
 use Rattle.bson_convert.specs.InOrder.{ConvertsBy, IsFixedPointBy}
 use Rattle.bson_convert.specs.declared.mode.Mode.{Mode}
 use Rattle.bson_convert.specs.declared.mode.Mode.TheVariants.{Canonical, Relaxed, Show}
 use Rattle.bson_convert.specs.declared.error.Error.{Error}
-use Rattle.bson_convert.specs.declared.error.Error.TheVariants.{CannotRead, NotJson, NotExtendedJson, NoBytes}
-use Rattle.bson_convert.specs.declared.error.Error.TheVariants.{CannotWrite, NotCanonical}
+use Rattle.bson_convert.specs.declared.error.Error.TheVariants.{NotJson, NotExtendedJson, NoBytes, NotCanonical}
 use Rattle.bson_convert.specs.declared.encode_error.NoBytes as no_bytes
 use Rattle.bson_convert.specs.declared.encode_error.NoBytes.TheVariants.{NoDocument, ZeroInKey, ZeroInRegex, TooLong}
 use Rattle.bson_run.specs.Preprocessed.{IsPreprocessedAs}
@@ -112,18 +111,6 @@ pub record IsLineUnder (options : CallOptions) (mode : Mode) (input line : List 
   pub unchanged_by_conversion : IsFixedPointBy
       (options_of_call options).key_order (options_of_call options) mode (text ++ newline)
   pub whole : line ≡ text ++ newline
-
--- the cause of each status that rejects the bytes as text
-pub record IsCauseOfStatus (options : Options) (status : ℕ) (bytes : List ℕ) : Type 0 where
-  pub not_json : status ≡ 2 → IsNotJsonText bytes
-  pub bad_object_id : status ≡ 3 → IsInvalidExtendedJson options IsBadObjectId bytes
-  pub not_extended_json : status ≡ 4 → IsInvalidExtendedJson options IsInvalidShape bytes
-
--- a text is neither read from a reader nor written to a writer
-abbrev pub IsTextError : Error → Type 0
-IsTextError CannotRead = ⊥
-IsTextError CannotWrite = ⊥
-IsTextError _ = Unit {0}
 
 abbrev pub status_of_reason : Reason → ℕ
 status_of_reason (BadObjectId object_id_error) = 3

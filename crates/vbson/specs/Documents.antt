@@ -1,5 +1,5 @@
 -- Documents by their bytes (BSON 1.1, bsonspec.org), and by their texts.
-use Rattle.std.specs.Prelude.{◌≡◌, ◌⊎◌, ◌≤◌, ℕ, List, IsUtf8, Option, Some, None, false, true}
+use Rattle.std.specs.Prelude.{◌≡◌, ◌⊎◌, ℕ, List, IsUtf8, Option, Some, None, false, true}
 use Rattle.bson.specs.Doubles.{Doubles}
 use Rattle.bson.specs.Doubles.TheVariants.{Special, Finite}
 use Rattle.bson.specs.Form.{Form}
@@ -13,11 +13,10 @@ use Rattle.bson_model.specs.Displayed.{display_text}
 use Rattle.bson_model.specs.Normal.{writable_in}
 use Rattle.bson_model.specs.Value.{Value, Pairs, document}
 use Rattle.bson.specs.TextMeaning.{HasTextMeaningInKeyOrder, TextMeansInKeyOrder}
-use Rattle.bson_run.specs.Encode.{Encodes, IsUnencodableFor, IsNoDocument, TextHasNoBsonBytes}
-use Rattle.bson_convert.specs.declared.encode_error.NoBytes.TheVariants.{NoDocument, ZeroInKey, ZeroInRegex, TooLong}
+use Rattle.bson_run.specs.Encode.{Encodes, IsUnencodableFor, IsNoDocument}
 use Rattle.bson_convert.specs.declared.mode.Mode.{Mode}
 use Rattle.bson_convert.specs.declared.mode.Mode.TheVariants.{Canonical, Relaxed, Show}
-use Rattle.vbson.specs.Convert.{IsCauseOfStatus, IsReadWith, duplicate_keys_of, mode_of_number, options_of_call}
+use Rattle.vbson.specs.Convert.{IsReadWith, duplicate_keys_of, mode_of_number, options_of_call}
 use Rattle.vbson.specs.Text.{IsOwnedText}
 use Rattle.bson_model.specs.declared.options.DuplicateKeys.{DuplicateKeys}
 use Rattle.bson_model.specs.declared.options.DuplicateKeys.TheVariants.{LastWins, Reject}
@@ -135,12 +134,3 @@ pub record IsDecodeFailure (keys : DuplicateKeys) (options : Options) (mode : Mo
   pub accepts : (pairs : Pairs) → IsReadAsDocumentIn keys depth bytes pairs
       → writable_in options.doubles (document pairs) ≡ true → status ≡ 5
   pub possible_statuses : (status ≡ 5) ⊎ ((status ≡ 7) ⊎ (status ≡ 10))
-
--- the cause of each status of a failed encoding, without preprocessing
-pub record IsEncodeFailure (options : Options) (status : ℕ) (text : List ℕ) : Type 0 where
-  pub cause : IsCauseOfStatus options status text
-  pub no_document : status ≡ 10 → TextHasNoBsonBytes options.key_order options NoDocument text
-  pub key_has_zero : status ≡ 11 → TextHasNoBsonBytes options.key_order options ZeroInKey text
-  pub regex_has_zero : status ≡ 12 → TextHasNoBsonBytes options.key_order options ZeroInRegex text
-  pub too_long : status ≡ 13 → TextHasNoBsonBytes options.key_order options TooLong text
-  pub possible_statuses : ((2 ≤ status) × (status ≤ 5)) ⊎ ((10 ≤ status) × (status ≤ 13))

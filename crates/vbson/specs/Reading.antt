@@ -5,10 +5,9 @@ use Rattle.bson_bytes.specs.ReadDocuments.{IsReadAsDocumentIn}
 use Rattle.bson_codec.specs.Canonical.{nul_in_key, nul_in_regex, too_long}
 use Rattle.bson_model.specs.Value.{Value, Pairs, document}
 use Rattle.bson_tree.specs.declared.place.Place.{Place}
-use Rattle.bson_model.specs.declared.options.Options.{Options}
 use Rattle.bson_run.specs.Preprocessed.{IsPreprocessedAs, IsRejectedByPreprocessing}
 use Rattle.bson_run.specs.declared.task.Preprocessing.{Preprocessing}
-use Rattle.vbson.specs.Convert.{IsInvalidExtendedJson, IsInvalidShape, IsBadObjectId, IsCauseOfStatus, IsReadWith, options_of_call}
+use Rattle.vbson.specs.Convert.{IsInvalidExtendedJson, IsInvalidShape, IsBadObjectId, IsReadWith, options_of_call}
 use Rattle.vbson.specs.Convert.{duplicate_keys_of, preprocessing_of}
 use Rattle.vbson.specs.Documents.{IsUnencodableText, TextIsNotDocumentUnder, depth}
 use Rattle.vbson.specs.declared.options.CallOptions.{CallOptions}
@@ -55,18 +54,11 @@ pub record IsPreprocessingFailure (options : CallOptions) (status : ℕ) (text :
   pub accepts : (read_text : List ℕ) → IsPreprocessedAs (preprocessing_of options) text read_text → status ≡ 5
   pub possible_statuses : (status ≡ 4) ⊎ (status ≡ 5)
 
--- the cause of each status that rejects bytes, without preprocessing
-pub record IsReadFailure (options : Options) (status : ℕ) (bytes : List ℕ) : Type 0 where
-  pub cause : IsCauseOfStatus options status bytes
-  pub accepts : (value : Value) → HasTextMeaningIn options.doubles bytes value → status ≡ 5
-  pub possible_statuses : (2 ≤ status) × (status ≤ 5)
-
 -- the cause of each status that rejects a text under the options
 pub record IsTextReadFailure (options : CallOptions) (status : ℕ) (text : List ℕ) : Type 0 where
   pub not_json : status ≡ 2 → IsNotJsonUnder options text
   pub bad_object_id : status ≡ 3 → HasBadObjectIdUnder options text
   pub not_extended_json : status ≡ 4 → IsInvalidUnder options text
-  pub accepts : (value : Value) → MeansUnder options text value → status ≡ 5
   pub possible_statuses : (2 ≤ status) × (status ≤ 5)
 
 -- the cause of each status of a text that is not encoded under the options

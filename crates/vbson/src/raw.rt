@@ -103,13 +103,11 @@ pub extern "C" fn vbson_raw_int32(value: &RawValue<'_>, out: &mut i32) -> u32
     let Some(scalar) = scalar_of(value) else {
         return status::UNEXPECTED_TYPE;
     };
-    match scalar.as_i32() {
-        Some(number) => {
-            *out = number;
-            status::OK
-        }
-        None => status::UNEXPECTED_TYPE,
-    }
+    let Some(number) = scalar.as_i32() else {
+        return status::UNEXPECTED_TYPE;
+    };
+    *out = number;
+    status::OK
 }
 
 /// Reads the integer of an Int64.
@@ -123,13 +121,11 @@ pub extern "C" fn vbson_raw_int64(value: &RawValue<'_>, out: &mut i64) -> u32
     let Some(scalar) = scalar_of(value) else {
         return status::UNEXPECTED_TYPE;
     };
-    match scalar.as_i64() {
-        Some(number) => {
-            *out = number;
-            status::OK
-        }
-        None => status::UNEXPECTED_TYPE,
-    }
+    let Some(number) = scalar.as_i64() else {
+        return status::UNEXPECTED_TYPE;
+    };
+    *out = number;
+    status::OK
 }
 
 /// Reads the 64 bits of a double.
@@ -143,13 +139,11 @@ pub extern "C" fn vbson_raw_double(value: &RawValue<'_>, out: &mut u64) -> u32
     let Some(scalar) = scalar_of(value) else {
         return status::UNEXPECTED_TYPE;
     };
-    match scalar.as_f64() {
-        Some(pattern) => {
-            *out = pattern;
-            status::OK
-        }
-        None => status::UNEXPECTED_TYPE,
-    }
+    let Some(pattern) = scalar.as_f64() else {
+        return status::UNEXPECTED_TYPE;
+    };
+    *out = pattern;
+    status::OK
 }
 
 /// Reads a boolean, as 0 or 1.
@@ -163,13 +157,11 @@ pub extern "C" fn vbson_raw_boolean(value: &RawValue<'_>, out: &mut u32) -> u32
     let Some(scalar) = scalar_of(value) else {
         return status::UNEXPECTED_TYPE;
     };
-    match scalar.as_bool() {
-        Some(boolean) => {
-            *out = boolean_to_u32(boolean);
-            status::OK
-        }
-        None => status::UNEXPECTED_TYPE,
-    }
+    let Some(boolean) = scalar.as_bool() else {
+        return status::UNEXPECTED_TYPE;
+    };
+    *out = boolean_to_u32(boolean);
+    status::OK
 }
 
 /// Reads the bytes of a string.
@@ -183,15 +175,13 @@ pub extern "C" fn vbson_raw_string<'a>(value: &RawValue<'a>, out: &mut Slice<'a>
     let Some(scalar) = scalar_of(value) else {
         return status::UNEXPECTED_TYPE;
     };
-    match scalar.as_str() {
-        Some(text) => {
-            *out = Slice {
-                bytes: text.as_bytes(),
-            };
-            status::OK
-        }
-        None => status::UNEXPECTED_TYPE,
-    }
+    let Some(text) = scalar.as_str() else {
+        return status::UNEXPECTED_TYPE;
+    };
+    *out = Slice {
+        bytes: text.as_bytes(),
+    };
+    status::OK
 }
 
 /// Reads the 12 bytes of an object id.
@@ -205,13 +195,11 @@ pub extern "C" fn vbson_raw_object_id(value: &RawValue<'_>, out: &mut [u8; 12]) 
     let Some(scalar) = scalar_of(value) else {
         return status::UNEXPECTED_TYPE;
     };
-    match scalar.as_object_id() {
-        Some(id) => {
-            *out = id.bytes();
-            status::OK
-        }
-        None => status::UNEXPECTED_TYPE,
-    }
+    let Some(id) = scalar.as_object_id() else {
+        return status::UNEXPECTED_TYPE;
+    };
+    *out = id.bytes();
+    status::OK
 }
 
 /// Reads a date-time, in milliseconds since 1970-01-01T00:00:00Z.
@@ -225,13 +213,11 @@ pub extern "C" fn vbson_raw_date_time(value: &RawValue<'_>, out: &mut i64) -> u3
     let Some(scalar) = scalar_of(value) else {
         return status::UNEXPECTED_TYPE;
     };
-    match scalar.as_datetime() {
-        Some(date) => {
-            *out = date.timestamp_millis();
-            status::OK
-        }
-        None => status::UNEXPECTED_TYPE,
-    }
+    let Some(date) = scalar.as_datetime() else {
+        return status::UNEXPECTED_TYPE;
+    };
+    *out = date.timestamp_millis();
+    status::OK
 }
 
 /// Reads the subtype and the bytes of binary data.
@@ -250,16 +236,14 @@ pub extern "C" fn vbson_raw_binary<'a>(
     let Some(scalar) = scalar_of(value) else {
         return status::UNEXPECTED_TYPE;
     };
-    match scalar.as_binary() {
-        Some(binary) => {
-            *subtype = u32::from(u8::from(binary.subtype));
-            *out = Slice {
-                bytes: binary.bytes,
-            };
-            status::OK
-        }
-        None => status::UNEXPECTED_TYPE,
-    }
+    let Some(binary) = scalar.as_binary() else {
+        return status::UNEXPECTED_TYPE;
+    };
+    *subtype = u32::from(u8::from(binary.subtype));
+    *out = Slice {
+        bytes: binary.bytes,
+    };
+    status::OK
 }
 
 // Returns the value of the element. It is inlined, since an element that a call passes through memory

@@ -1,11 +1,10 @@
 //! The value that options read from a text, or from the bytes of a document.
-ghost use Rattle.std.specs.Prelude.{◌≡◌, ◌⊎◌, IfOk, IfErr};
-ghost use Rattle.bson.specs.TextMeaning.{HasTextMeaningIn};
+ghost use Rattle.std.specs.Prelude.{◌≡◌, IfOk, IfErr};
 ghost use Rattle.bson.specs.View.{bson_view};
 ghost use Rattle.bson_model.specs.Value.{Value};
 ghost use Rattle.bson_run.specs.Preprocessed.{IsPreprocessedAs, preprocessed_of};
 ghost use Rattle.vbson.specs.Convert.{preprocessing_of};
-ghost use Rattle.vbson.specs.Reading.{IsDocumentUnder, IsPreprocessingFailure, IsTextReadFailure, IsReadFailure};
+ghost use Rattle.vbson.specs.Reading.{IsDocumentUnder, IsPreprocessingFailure, IsTextReadFailure};
 ghost use Rattle.vbson.specs.Reading.{IsDocumentReadFailure, MeansUnder};
 
 use crate::convert::status_of;
@@ -64,26 +63,19 @@ pub fn value_of_text(alloc: Global, options: CallOptions, text: &[u8]) -> Result
     ensures ok { IfOk result (λ value. MeansUnder options text.now (bson_view value)) }
     ensures unique_value { (value : Value) → MeansUnder options text.now value
         → IfOk result (λ read_value. value ≡ bson_view read_value) }
+    ensures accepts { (value : Value) → MeansUnder options text.now value → IfErr result (λ status. status ≡ 5) }
     ensures rejected { IfErr result (λ status. IsTextReadFailure options status text.now) }
 {
-    match preprocess(alloc, options, text) {
-        Ok(new_text) => meaning_of(alloc, options_of(options), text_to_read(&new_text, text)),
-        Err(status) => Err(status),
-    }
-}
-
-// Returns the value that bytes mean as a text, without preprocessing.
-fn meaning_of(alloc: Global, options: Options, bytes: &[u8]) -> Result<Bson, u32>
-    ensures ok { IfOk result (λ value. HasTextMeaningIn options.doubles bytes.now (bson_view value)) }
-    ensures unique_value { (value : Value) → HasTextMeaningIn options.doubles bytes.now value
-        → IfOk result (λ read_value. value ≡ bson_view read_value) }
-    ensures rejected { IfErr result (λ status. IsReadFailure options status bytes.now) }
-{
+    let new_text = match preprocess(alloc, options, text) {
+        Ok(new_text) => new_text,
+        Err(status) => return Err(status),
+    };
+    let conversion_options = options_of(options);
     let ascending_options = Options {
         key_order: KeyOrder::Ascending,
-        ..options
+        ..conversion_options
     };
-    match Bson::from_text(alloc, ascending_options, bytes) {
+    match Bson::from_text(alloc, ascending_options, text_to_read(&new_text, text)) {
         Ok(value) => Ok(value),
         Err(error) => Err(status_of(error_of(error))),
     }

@@ -1,11 +1,9 @@
 //! Decodes the BSON bytes of a document to text that is written while they are read.
-ghost use Rattle.std.specs.Prelude.{◌≡◌, ◌⊎◌, ◌++◌, List, ℕ, IfOk, IfErr, IsUtf8};
+ghost use Rattle.std.specs.Prelude.{◌≡◌, ◌⊎◌, IfOk, IfErr, IsUtf8};
 ghost use Rattle.bson_codec.specs.DocumentText.{IsDocumentTextOf};
-ghost use Rattle.bson_convert.specs.Convert.{newline};
 ghost use Rattle.bson_model.specs.declared.options.DuplicateKeys.TheVariants.{LastWins};
 ghost use Rattle.vbson.specs.Documents.{IsOneDocument, depth, streaming_form, streaming_form_in_order};
 
-use crate::decode::line_of_text;
 use crate::status;
 use bson::extjson::{Doubles, Form, KeyOrder, Options};
 use bson_codec::de::{DEPTH, DuplicateKeys, Error};
@@ -42,20 +40,19 @@ fn streaming_form_in_order(options: Options, mode: Mode) -> Option<Form>
 }
 
 /// Returns the text in the form of the document that the bytes are, with finite doubles and with keys as
-/// given, and a newline. No document is made in memory, unless some document may have a duplicate key.
+/// given. No document is made in memory, unless some document may have a duplicate key.
 ///
 /// # Errors
 ///
 /// - `NOT_A_DOCUMENT`: the bytes are not a document.
 /// - `OUT_OF_MEMORY`: an allocation failed.
 pub fn decode_streaming(alloc: Global, form: Form, bytes: &[u8]) -> Result<Vec<u8>, u32>
-    ensures ok { IfOk result (λ line. (text : List ℕ) × IsDocumentTextOf form depth bytes.now text × IsUtf8 text
-        × (line.items ≡ text ++ newline)) }
+    ensures ok { IfOk result (λ text. IsDocumentTextOf form depth bytes.now text.items × IsUtf8 text.items) }
     ensures error_status { IfErr result
         (λ status. (status ≡ 5) ⊎ ((status ≡ 10) × (IsOneDocument LastWins bytes.now → ⊥))) }
 {
     match decode_text(alloc, form, bytes, DEPTH) {
-        Ok(text) => line_of_text(text),
+        Ok(text) => Ok(text.into_bytes()),
         Err(Error::Malformed { .. }) => Err(status::NOT_A_DOCUMENT),
         Err(Error::OutOfMemory) => Err(status::OUT_OF_MEMORY),
     }

@@ -1,9 +1,7 @@
 //! Output text that the caller owns and frees.
-ghost use Rattle.std.specs.Prelude.{◌≡◌, ◌<◌, ◌-◌, ◌++◌, ℕ, List, length, take, IfOk, IfErr};
-ghost use Rattle.bson_convert.specs.Convert.{newline};
+ghost use Rattle.std.specs.Prelude.{◌≡◌, ◌<◌, ◌-◌, ◌++◌, ℕ, List, length, take, IfOk};
 ghost use Rattle.vbson.specs.Text.{IsOwnedText, nul};
 
-use crate::status;
 use std::alloc::AllocError;
 
 /// A text that the caller owns: its bytes followed by a NUL, in a block of their own that the
@@ -48,20 +46,5 @@ pub fn text_before_nul(bytes: Vec<u8>) -> Text<'static>
     Text {
         bytes: bytes.leak(),
         len,
-    }
-}
-
-/// Appends a newline to the bytes.
-///
-/// # Errors
-///
-/// - `OUT_OF_MEMORY`: an allocation failed.
-pub fn append_newline(mut bytes: Vec<u8>) -> Result<Vec<u8>, u32>
-    ensures ok { IfOk result (λ line. line.items ≡ bytes.items ++ newline) }
-    ensures error_status { IfErr result (λ status. status ≡ 5) }
-{
-    match bytes.push(b'\n') {
-        Ok(()) => Ok(bytes),
-        Err(_) => Err(status::OUT_OF_MEMORY),
     }
 }

@@ -4,10 +4,10 @@ use Rattle.vbson.specs.Comparison.{comparison_status}
 use Rattle.vbson.proofs.comparison.vbson_same_nonnull.Goals as goal
 
 pub returns-in-Err-clause-accepts : goal.returns-in-Err-clause-accepts
-returns-in-Err-clause-accepts c v w x y = inr (inr (c.in-Err.ensures.rejected.accepts v x))
+returns-in-Err-clause-accepts c v w x y = inr (inr (c.in-Err.ensures.accepts v x))
 
 pub returns-clause-accepts : goal.returns-clause-accepts
-returns-clause-accepts c v w x y = inr (inr (c.in-Err-value_of_text.ensures.rejected.accepts w y))
+returns-clause-accepts c v w x y = inr (inr (c.in-Err-value_of_text.ensures.accepts w y))
 
 pub returns-in-Ok-value_of_text-clause-accepts : goal.returns-in-Ok-value_of_text-clause-accepts
 returns-in-Ok-value_of_text-clause-accepts c v w x y =

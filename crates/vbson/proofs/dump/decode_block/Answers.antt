@@ -14,7 +14,7 @@ returns-in_ok-add_last_diagnostic-in-Err c =
     let run_end = c.in-Err.run_end in
     let gives = cut_block run block _ text _ _ all _ run_end.fault run_end.number run_end.refused run_end.start c.in-Err.ensures.fails
     c.new-text.ensures.items c.new-diagnostics.ensures.items c.in_ok-add_last_diagnostic-in-Err.ensures.0 c.in_ok-add_last_diagnostic-in-Err.ensures.1 in
-    IfSome_then c.with_newlines-in-Err.result c.with_newlines-in-Err.ensures
+    IfSome_then c.documents_of-in-Err.result c.documents_of-in-Err.ensures
     (λ output is. (
       text,
       all,

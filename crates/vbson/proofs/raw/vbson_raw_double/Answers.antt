@@ -6,10 +6,10 @@ use Rattle.vbson.proofs.raw.vbson_raw_double.Goals as goal
 pub returns-in_default-clause-typed : goal.returns-in_default-clause-typed
 returns-in_default-clause-typed c = λ d v h. typed_none double_value never_double v (c.in_default.ensures d v h) _
 
-pub returns-in-Some-as_f64-clause-typed : goal.returns-in-Some-as_f64-clause-typed
-returns-in-Some-as_f64-clause-typed c =
+pub returns-clause-typed : goal.returns-clause-typed
+returns-clause-typed c =
     λ d v h. typed_some double_value _ v (c.in-Some.ensures d v h) _ _ c.in-Some-as_f64.ensures refl
 
-pub returns-in-None-clause-typed : goal.returns-in-None-clause-typed
-returns-in-None-clause-typed c =
-    λ d v h. typed_other double_value _ v (c.in-Some.ensures d v h) c.in-None.ensures _
+pub returns-in_default-as_f64-clause-typed : goal.returns-in_default-as_f64-clause-typed
+returns-in_default-as_f64-clause-typed c =
+    λ d v h. typed_other double_value _ v (c.in-Some.ensures d v h) c.in_default-as_f64.ensures _

@@ -5,10 +5,10 @@ use Rattle.vbson.proofs.raw.vbson_raw_object_id.Goals as goal
 pub returns-in_default-clause-typed : goal.returns-in_default-clause-typed
 returns-in_default-clause-typed c = λ d v h. typed_none object_id_value never_object_id v (c.in_default.ensures d v h) _
 
-pub returns-in-Some-as_object_id-clause-typed : goal.returns-in-Some-as_object_id-clause-typed
-returns-in-Some-as_object_id-clause-typed c =
+pub returns-clause-typed : goal.returns-clause-typed
+returns-clause-typed c =
     λ d v h. typed_some object_id_value _ v (c.in-Some.ensures d v h) _ _ c.in-Some-as_object_id.ensures c.bytes.ensures.value
 
-pub returns-in-None-clause-typed : goal.returns-in-None-clause-typed
-returns-in-None-clause-typed c =
-    λ d v h. typed_other object_id_value _ v (c.in-Some.ensures d v h) c.in-None.ensures _
+pub returns-in_default-as_object_id-clause-typed : goal.returns-in_default-as_object_id-clause-typed
+returns-in_default-as_object_id-clause-typed c =
+    λ d v h. typed_other object_id_value _ v (c.in-Some.ensures d v h) c.in_default-as_object_id.ensures _
