@@ -1,6 +1,6 @@
 -- Values, pairs and keys that a sink hands to a writer one after another.
-use Rattle.std.proofs.Common.{◌≡◌, ℕ, ◌+◌, ◌-◌, ◌≤◌, Bool, true, false, cond, List, [], ◌∷◌, ◌++◌, length, map, take, drop}
-use Rattle.std.proofs.Common.{refl, sym, ap, ◌∙◌, subst, arith, append_assoc, append-nil, bytes_eq, take_all, length-drop}
+use Rattle.std.proofs.Common.{◌≡◌, ℕ, ◌+◌, ◌-◌, Bool, true, false, cond, List, [], ◌∷◌, ◌++◌, length, map, take, drop}
+use Rattle.std.proofs.Common.{refl, sym, ap, ◌∙◌, subst, arith, append_assoc, bytes_eq, take_all, length-drop}
 use Rattle.std.proofs.lemmas.Bool.{or_parts, or_from}
 use Rattle.bson_model.specs.DistinctKeys.{has_pair}
 use Rattle.bson_model.specs.Value.{Value, Pairs, no_pairs, pair, array, document}

@@ -29,6 +29,9 @@ use bson_types::timestamp::Timestamp;
 use std::alloc::{AllocError, Global};
 use std::str;
 
+// Room for the keys of most documents, so that one allocation is enough.
+const KEYS_CAPACITY: usize = 32;
+
 /// A writer of a text, in which a value has no name of its own.
 pub(crate) trait UnnamedWriter: ValueWriter {
     ghost use Rattle.std.specs.Prelude.{[], List, ℕ};
@@ -105,7 +108,7 @@ pub(crate) fn write_document<W: UnnamedWriter + Drop>(
         alloc,
         writer,
         input: bytes,
-        keys: Vec::new(alloc),
+        keys: Vec::with_capacity(alloc, KEYS_CAPACITY)?,
     };
     read_document(bytes, depth, &mut sink)?;
     Ok(sink.writer)
