@@ -98,11 +98,11 @@ const DECODE_HELP: &str =
     "usage: bson decode [canonical|relaxed|show|check|hash] [OPTION ..] [FILE ..]
        bson decode same [OPTION ..] FILE FILE
 
-Reads concatenated documents of BSON 1.1, as in a dump, and writes a line for each. Without a mode it is `relaxed`, and
-`./show` is a file with the name of a mode. It needs the memory of the largest document, which may nest 100 levels deep.
-`check` only checks the bytes. `hash` writes the SHA-256 digest of each canonical form with sorted keys. `same` compares
-the documents of two files, and reports the first difference. A rejected document is reported with its number, its offset
-in the file, and the offset of the error in it.
+Reads concatenated documents of BSON 1.1, as in a dump, and writes a line for each. Without a mode, the lines are
+relaxed. A file with the name of a mode is `./show`. A run needs the memory of the largest document, which may nest 100
+levels deep. `check` only checks the bytes. `hash` writes the SHA-256 digest of each canonical form with sorted keys.
+`same` compares the documents of two files, and reports the first difference. A rejected document is reported with its
+number, its offset in the file, and the offset of the error in it.
 
   --sort-keys             (canonical, relaxed) writes keys in ascending order at every depth
   --strict                (not show, check) rejects finite doubles other than zeros; keys are written in ascending order

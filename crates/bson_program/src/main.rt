@@ -2,11 +2,11 @@
 //! dumps, as its arguments request.
 //!
 //! The library `bson_run` converts. This crate has the arguments (`invocation`, `arguments`, `meanings`,
-//! `option_values`, `option_effects`, `allowed_options`, `request`), the files (`run`, `streams`, `output`; `texts` for JSON texts with
-//! `single_text` for each and `text_errors` for the position of an error, `dump` for BSON documents), digests of lines
-//! (`digests`), comparisons (`compare_files`, `compare_outputs`), the line of progress (`progress`), the lines on standard
-//! error (`messages`, `failure_json`, `usage_error`, `hints`,
-//! `advice`, `rejection_hint`), the help (`help_text`) and the statuses.
+//! `option_values`, `option_effects`, `allowed_options`, `request`), the files (`run`, `streams`, `output`; `texts`
+//! for JSON texts with `single_text` for each and `text_errors` for the position of an error, `dump` for BSON
+//! documents), digests of lines (`digests`), comparisons (`compare_files`, `compare_outputs`), the line of progress
+//! (`progress`), the lines on standard error (`messages`, `failure_json`, `usage_error`, `hints`, `advice`,
+//! `rejection_hint`), the help (`help_text`) and the statuses.
 #![tactic(auto)]
 
 mod advice;
