@@ -1,6 +1,7 @@
-/* Refuses the first request for memory of a call, then the second, up to the first call that meets no refusal: each
- * answers OUT_OF_MEMORY and leaves what it was handed as it was, or answers as it does with ample memory; and no block
- * is leaked. Linked with --wrap=malloc,--wrap=realloc,--wrap=free. */
+/* Refuses the first request for memory of a call, then the second, up to the first call that meets no refusal; and again
+ * with all requests after it. Each answers OUT_OF_MEMORY and leaves what it was handed as it was, or answers as it does with
+ * ample memory; and no block is leaked. (A document that is written as it is read is read as a value if one request is
+ * refused.) Linked with --wrap=malloc,--wrap=realloc,--wrap=free. */
 #include "check.h"
 
 void *__real_malloc(size_t size);
@@ -9,8 +10,10 @@ void __real_free(void *block);
 
 /* How many requests there were since `call`, which one is refused, and how many blocks there are more than then. */
 static long requests, refused, live;
+/* Whether those after it are refused too. */
+static int refuses_all;
 
-static int is_refused(void) { return ++requests == refused; }
+static int is_refused(void) { return ++requests == refused || (refuses_all && refused > 0 && requests > refused); }
 
 void *__wrap_malloc(size_t size) {
     void *block = is_refused() ? NULL : __real_malloc(size);
@@ -247,10 +250,12 @@ static void built(void) {
 int main(void) {
     for (int kind = 0; kind < KINDS; kind++) {
         long wants = 0;
-        for (int i = 0; i < TEXTS; i++) {
-            find_document(texts[i]);
-            wants += refuse_each(kind, texts[i]);
+        for (int i = 0; i < 2 * TEXTS; i++) {
+            find_document(texts[i / 2]);
+            refuses_all = i % 2;
+            wants += refuse_each(kind, texts[i / 2]);
         }
+        refuses_all = 0;
         CHECK(wants > 0);
     }
     for (int i = 0; i < TEXTS; i++) {
