@@ -96,6 +96,8 @@ def print_table(of, size, *groups):
 
 
 def main():
+    if subprocess.run(["/usr/bin/python3", "-c", "import distributed"], check=False, capture_output=True).returncode:
+        sys.exit("bench/scale.py: no module distributed (python3-distributed of Debian)")
     size = BYTES / 1e6 if BYTES else int(sys.argv[1]) if sys.argv[1:] else 1000
     with tempfile.TemporaryDirectory() as room:
         path, out = f"{room}/input", f"{room}/out"
